@@ -1,0 +1,17 @@
+pub mod Sizes
+pub mod Entry
+pub mod Refusal
+pub mod Record
+pub mod Reading
+pub mod History
+pub mod View
+pub mod Commit
+pub mod Terms
+pub mod Election
+pub mod Check
+pub mod Rows
+pub mod Answer
+pub mod Leaders
+pub mod Ledger
+pub mod Lists
+pub mod Run
