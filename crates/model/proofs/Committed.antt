@@ -7,7 +7,7 @@ use mathlib.Core.Bool.{Bool, true, false, cond, _&&_}
 use mathlib.Core.Logic.{_⊎_, inl, inr, ⊎-elim, _↔_}
 use mathlib.Core.List.{List, [], _∷_, _++_, append-nil, append-assoc, List·Memᴰ, List·Memᴰ·head, List·Memᴰ·tail, List·Memᴰ·not-nil, Memᴰ·cast, Memᴰ·append-left, Memᴰ·append-right, List·Memᴰ·append-cases, List·Memᴰ·eq-of-singleton}
 use lib.Dec.{leb, ltb}
-use lib.ListN.{length, take, length-take}
+use lib.ListN.{length, getD, take, set, length-take}
 use lib.Seq.{take-all, take-length, take-take}
 use borrow.Author.Tests.{ltb-true, ltb-false, lt-ltb, le-ltb, leb-true, leb-false, le-leb, lt-leb}
 use Rattle.model.specs.Sizes.{Bytes}
@@ -20,7 +20,8 @@ use Rattle.model.specs.Terms.{termsEffect}
 use Rattle.model.specs.Election.{electionEffect}
 use Rattle.model.specs.Check.{checkEffect}
 use Rattle.model.specs.Answer.{refusal, effect}
-use Rattle.model.specs.Run.{historyOf, Event, eventsOf}
+use Rattle.model.specs.Ledger.{Ledger, entered}
+use Rattle.model.specs.Run.{historyOf, ledgerOf, Event, eventsOf}
 use Rattle.model.proofs.Tests.{tf, either, cond-true, cond-false, and-left, and-right, and-both, and-false, same-yes, yes-same}
 use Rattle.model.proofs.Run.{by-events}
 use Rattle.model.proofs.Stored.{broughtBy}
@@ -28,18 +29,22 @@ use Rattle.model.proofs.Matching.{NoFinding, Without, none-printed, wit
 
 -- ---- statements
 
--- a committed prefix is seen by an accepted commit record that the node's front reaches at that moment
-abbrev pub seenBy : History → Record → List Prefix
-seenBy h (view n xs) = []
-seenBy h (commit n i) = cond (ltb 0 i && leb i (length (frontOf h n))) (take i (frontOf h n) ∷ []) []
-seenBy h (terms old new t) = []
-seenBy h (election l t p n) = []
-seenBy h check = []
-seenBy h (rows rs) = []
+-- a committed prefix is seen by an accepted commit record that the node's front reaches at that moment; each node's front
+-- is the ledger's, the front of its last accepted view
+abbrev pub shownBy : Prefix → ℕ → List Prefix
+shownBy p i = cond (ltb 0 i && leb i (length p)) (take i p ∷ []) []
+
+abbrev pub seenBy : Ledger → Record → List Prefix
+seenBy g (view n xs) = []
+seenBy g (commit n i) = shownBy (getD (g .fronts) n []) i
+seenBy g (terms old new t) = []
+seenBy g (election l t p n) = []
+seenBy g check = []
+seenBy g (rows rs) = []
 
 unfoldable pub seenIn : List Event → List Prefix
 seenIn [] = []
-seenIn (e ∷ es) = seenBy (e .history) (e .event) ++ seenIn es
+seenIn (e ∷ es) = seenBy (e .ledger) (e .event) ++ seenIn es
 
 abbrev pub committedSeen : List Bytes → List Prefix
 committedSeen ss = seenIn (eventsOf ss)
@@ -56,22 +61,20 @@ CommittedPrefixes = (ss : List Bytes) → NoFinding 4 (historyOf ss) ↔ Agreein
 
 -- ---- what is seen
 
-seen-append : (es : List Event) (e : Event) → seenIn (es ++ (e ∷ [])) ≡ seenIn es ++ seenBy (e .history) (e .event)
+seen-append : (es : List Event) (e : Event) → seenIn (es ++ (e ∷ [])) ≡ seenIn es ++ seenBy (e .ledger) (e .event)
 unfolding seenIn
-seen-append [] e = append-nil (seenBy (e .history) (e .event))
+seen-append [] e = append-nil (seenBy (e .ledger) (e .event))
 seen-append (x ∷ es) e =
-    ap (λ (l : List Prefix). seenBy (x .history) (x .event) ++ l) (seen-append es e)
-    ∙ sym (append-assoc (seenBy (x .history) (x .event)) (seenIn es) (seenBy (e .history) (e .event)))
+    ap (λ (l : List Prefix). seenBy (x .ledger) (x .event) ++ l) (seen-append es e)
+    ∙ sym (append-assoc (seenBy (x .ledger) (x .event)) (seenIn es) (seenBy (e .ledger) (e .event)))
 
 -- a commit record shows its prefix, or nothing
 seen-cases : (p : Prefix) (i : ℕ)
-    → (cond (ltb 0 i && leb i (length p)) (take i p ∷ []) [] ≡ through p i ∷ [])
-    ⊎ ((cond (ltb 0 i && leb i (length p)) (take i p ∷ []) [] ≡ []) × (through p i ≡ []))
+    → (shownBy p i ≡ through p i ∷ []) ⊎ ((shownBy p i ≡ []) × (through p i ≡ []))
 seen-cases p i = go (either (ltb 0 i && leb i (length p)))
   where
     go : (ltb 0 i && leb i (length p) ≡ true) ⊎ (ltb 0 i && leb i (length p) ≡ false)
-        → (cond (ltb 0 i && leb i (length p)) (take i p ∷ []) [] ≡ through p i ∷ [])
-        ⊎ ((cond (ltb 0 i && leb i (length p)) (take i p ∷ []) [] ≡ []) × (through p i ≡ []))
+        → (shownBy p i ≡ through p i ∷ []) ⊎ ((shownBy p i ≡ []) × (through p i ≡ []))
     go (inl t) =
         inl (cond-true _ (take i p ∷ []) [] t
         ∙ ap (λ (x : Prefix). x ∷ []) (sym (cond-true (leb i (length p)) (take i p) [] (and-right (ltb 0 i) (leb i (length p)) t))))
@@ -234,38 +237,60 @@ inv-hidden h n i ps e v =
     subst (λ (x : Prefix). Inv x (effect h (commit n i) .findings) ps) (sym (k .0))
     (inv-other h (commit n i) ps (differences-none n c (seen h n i) .1 a) v)
 
-keep : (h : History) (r : Record) (ps : List Prefix) → Inv (h .committed) (h .findings) ps
-    → Inv (effect h r .committed) (effect h r .findings) (ps ++ seenBy h r)
-unfolding viewEffect commitEffect termsEffect electionEffect checkEffect
-keep h (view n xs) ps v =
-    subst (Inv (h .committed) (effect h (view n xs) .findings)) (sym (append-nil ps))
-    (inv-other h (view n xs) ps (mismatches-name 4 n (h .prefixes) (begunBy (front xs)) (λ e. omega arith)) v)
-keep h (commit n i) ps v =
-    ⊎-elim
-    (λ e. subst (λ (l : List Prefix). Inv (kept (h .committed) (seen h n i)) (effect h (commit n i) .findings) (ps ++ l)) (sym e) (inv-shown h n i ps v))
-    (λ e. subst (λ (l : List Prefix). Inv (kept (h .committed) (seen h n i)) (effect h (commit n i) .findings) (ps ++ l)) (sym (e .0))
-    (subst (Inv (kept (h .committed) (seen h n i)) (effect h (commit n i) .findings)) (sym (append-nil ps)) (inv-hidden h n i ps (e .1) v)))
-    (seen-cases (frontOf h n) i)
-keep h (terms old new t) ps v =
-    subst (Inv (h .committed) (h .findings)) (sym (append-nil ps)) (inv-other h (terms old new t) ps (without-nil 4) v)
-keep h (election l t p n) ps v =
-    subst (Inv (h .committed) (h .findings)) (sym (append-nil ps)) (inv-other h (election l t p n) ps (without-nil 4) v)
-keep h check ps v =
-    subst (Inv (h .committed) (effect h check .findings)) (sym (append-nil ps))
-    (inv-other h check ps (lackings-name 4 (h .committed) (h .terms) (h .certificates) (λ e. omega arith)) v)
-keep h (rows rs) ps v = subst (Inv (h .committed) (h .findings)) (sym (append-nil ps)) v
+module _ (h : History) (g : Ledger) (same-fronts : h .fronts ≡ g .fronts) (ps : List Prefix) where
+  keep : (r : Record) → Inv (h .committed) (h .findings) ps
+      → Inv (effect h r .committed) (effect h r .findings) (ps ++ seenBy g r)
+  unfolding viewEffect commitEffect termsEffect electionEffect checkEffect
+  keep (view n xs) v =
+      subst (Inv (h .committed) (effect h (view n xs) .findings)) (sym (append-nil ps))
+      (inv-other h (view n xs) ps (mismatches-name 4 n (h .prefixes) (begunBy (front xs)) (λ e. omega arith)) v)
+  keep (commit n i) v =
+      let front-h : shownBy (getD (g .fronts) n []) i ≡ shownBy (frontOf h n) i =
+      ap (λ (l : List Prefix). shownBy (getD l n []) i) (sym same-fronts) in
+      let After : List Prefix → Type 0 = Inv (kept (h .committed) (seen h n i)) (effect h (commit n i) .findings) in
+      ⊎-elim (λ e. subst (λ (l : List Prefix). After (ps ++ l)) (sym (front-h ∙ e)) (inv-shown h n i ps v))
+      (λ e. subst (λ (l : List Prefix). After (ps ++ l)) (sym (front-h ∙ e .0))
+      (subst After (sym (append-nil ps)) (inv-hidden h n i ps (e .1) v)))
+      (seen-cases (frontOf h n) i)
+  keep (terms old new t) v =
+      subst (Inv (h .committed) (h .findings)) (sym (append-nil ps)) (inv-other h (terms old new t) ps (without-nil 4) v)
+  keep (election l t p n) v =
+      subst (Inv (h .committed) (h .findings)) (sym (append-nil ps)) (inv-other h (election l t p n) ps (without-nil 4) v)
+  keep check v =
+      subst (Inv (h .committed) (effect h check .findings)) (sym (append-nil ps))
+      (inv-other h check ps (lackings-name 4 (h .committed) (h .terms) (h .certificates) (λ e. omega arith)) v)
+  keep (rows rs) v = subst (Inv (h .committed) (h .findings)) (sym (append-nil ps)) v
 
-inv : (ss : List Bytes) → Inv (historyOf ss .committed) (historyOf ss .findings) (committedSeen ss)
+-- the fronts are the ledger's
+keep-fronts : (h : History) (g : Ledger) (r : Record) → h .fronts ≡ g .fronts → effect h r .fronts ≡ entered g r .fronts
+unfolding viewEffect commitEffect termsEffect electionEffect checkEffect
+keep-fronts h g (view n xs) e = ap (λ (l : List Prefix). set l n (front xs)) e
+keep-fronts h g (commit n i) e = e
+keep-fronts h g (terms old new t) e = e
+keep-fronts h g (election l t p n) e = e
+keep-fronts h g check e = e
+keep-fronts h g (rows rs) e = e
+
+inv : (ss : List Bytes)
+    → (historyOf ss .fronts ≡ ledgerOf ss .fronts) × Inv (historyOf ss .committed) (historyOf ss .findings) (committedSeen ss)
 inv =
-    by-events (λ h g es. Inv (h .committed) (h .findings) (seenIn es))
-    (record {
-      isSeen = λ n. absurd (n refl);
-      reaches = unfold seenIn in λ _ p m. absurd (List·Memᴰ·not-nil m);
-      clear = λ _. without-nil 4;
-    })
-    (λ h g es r _ v.
-    subst (Inv (effect h r .committed) (effect h r .findings)) (sym (seen-append es (record { history = h; ledger = g; event = r })))
-    (keep h r (seenIn es) v))
+    by-events (λ h g es. (h .fronts ≡ g .fronts) × Inv (h .committed) (h .findings) (seenIn es)) (
+      refl,
+      record {
+        isSeen = λ n. absurd (n refl);
+        reaches = unfold seenIn in λ _ p m. absurd (List·Memᴰ·not-nil m);
+        clear = λ _. without-nil 4;
+      },
+    )
+    (λ h g es r _ v. (
+      keep-fronts h g r (v .0),
+      subst (Inv (effect h r .committed) (effect h r .findings)) (sym (seen-append es (record { history = h; ledger = g; event = r })))
+          (keep h g (v .0) (seenIn es) r (v .1)),
+    ))
+
+-- the history's fronts are the ledger's
+pub fronts-alike : (ss : List Bytes) → historyOf ss .fronts ≡ ledgerOf ss .fronts
+fronts-alike ss = inv ss .0
 
 -- two beginnings of one prefix agree through the shorter
 both-begin : (c p q : Prefix) → take (length p) c ≡ p → take (length q) c ≡ q
@@ -278,6 +303,6 @@ pub committed-prefixes : CommittedPrefixes
 committed-prefixes ss = (
   λ n p q mp mq.
       let w = none-printed 4 (historyOf ss) .0 n in
-      both-begin (historyOf ss .committed) p q (inv ss .reaches w p mp) (inv ss .reaches w q mq),
-  λ a. none-printed 4 (historyOf ss) .1 (inv ss .clear a),
+      both-begin (historyOf ss .committed) p q (inv ss .1 .reaches w p mp) (inv ss .1 .reaches w q mq),
+  λ a. none-printed 4 (historyOf ss) .1 (inv ss .1 .clear a),
 )

@@ -1,4 +1,5 @@
--- Document 01, "Marked checks": P1 to P12 as one table, and one test over the whole table, by computation.
+-- Document 01, "Marked checks": P1 to P12 as one table, and one test over the whole table, by computation. One more case is
+-- for the mistake near at hand that none of the twelve would show.
 -- A case has the records in bytes, and what document 01 says of the answers and of the history after them.
 -- Assumes nothing.
 use Prim.Native.Nat.{ℕ, _+_}
@@ -293,9 +294,27 @@ P12-late =
           };
     }
 
+-- "letting a mismatch replace the committed prefix": node 1's longer prefix differs at 1, so LG-04 at 1 and nothing else
+mismatch-not-kept : Case
+mismatch-not-kept =
+    record {
+      records = (0x10 ∷ 0x00 ∷ 0x10 ∷ 0x04 ∷ 0x00 ∷ 0x00 ∷ 0x00 ∷ 0x04 ∷ 0x00 ∷ []) ∷ (0x20 ∷ 0x00 ∷ 0x10 ∷ []) ∷ (0x10 ∷ 0x40 ∷ 0x20 ∷ 0x04 ∷ 0x00 ∷ 0x00 ∷ 0x00 ∷ 0x08 ∷ 0x00 ∷ 0x08 ∷ 0x00 ∷ 0x00 ∷ 0x00 ∷ 0x08 ∷ 0x00 ∷ []) ∷ (0x20 ∷ 0x40 ∷ 0x20 ∷ []) ∷ [];
+      expected =
+          record {
+            answers = (0 ∷ 0 ∷ 0 ∷ []) ∷ (0 ∷ 0 ∷ 0 ∷ []) ∷ (0 ∷ 0 ∷ 0 ∷ []) ∷ (0 ∷ 0 ∷ 0 ∷ []) ∷ [];
+            fronts = (0 ∷ 1 ∷ []) ∷ (1 ∷ 2 ∷ []) ∷ [];
+            terms = [];
+            findings = (4 ∷ 1 ∷ 1 ∷ 0 ∷ []) ∷ [];
+            leaders = [];
+            unseen = [];
+            unknown = 1 ∷ [];
+            committed = 1 ∷ 0 ∷ [];
+          };
+    }
+
 unfoldable pub cases : List Case
-unfolding P1 P2 P3 P4 P5 P6 P7 P8 P9 P10 P11 P12 P12-late
-cases = P1 ∷ P2 ∷ P3 ∷ P4 ∷ P5 ∷ P6 ∷ P7 ∷ P8 ∷ P9 ∷ P10 ∷ P11 ∷ P12 ∷ P12-late ∷ []
+unfolding P1 P2 P3 P4 P5 P6 P7 P8 P9 P10 P11 P12 P12-late mismatch-not-kept
+cases = P1 ∷ P2 ∷ P3 ∷ P4 ∷ P5 ∷ P6 ∷ P7 ∷ P8 ∷ P9 ∷ P10 ∷ P11 ∷ P12 ∷ P12-late ∷ mismatch-not-kept ∷ []
 
 -- each case's records lead to what is expected of it
 pub marked-checks : map (λ c. sheetOf (c .records)) cases ≡ map (λ c. c .expected) cases

@@ -48,6 +48,14 @@ Matching fronts =
 abbrev pub LogMatching : Type 0
 LogMatching = (ss : List Bytes) → NoFinding 3 (historyOf ss) ↔ Matching (acceptedFronts ss)
 
+-- The walk goes on along the view's own front: a view brings LG-03 for each of its prefixes that differs from the one
+-- remembered for its index and term, and no other.
+abbrev pub EachEntryJudged : Type 0
+EachEntryJudged =
+    (ps : List Prefix) (n : ℕ) (p : Prefix) (f : Finding)
+    → List·Memᴰ f (mismatches ps n (begunBy p))
+    ↔ ((i : ℕ) × (0 < i) × (i ≤ length p) × List·Memᴰ f (mismatch ps n (take i p)))
+
 -- ---- the printed findings are the findings
 
 insert-mem : (f : Finding) (fs : List Finding) (g : Finding) → List·Memᴰ g (insert f fs) ↔ ((g ≡ f) ⊎ List·Memᴰ g fs)
@@ -306,4 +314,26 @@ pub log-matching : LogMatching
 log-matching ss = (
   λ n. unique-matching ss .0 (inv ss .0 (none-printed 3 (historyOf ss) .0 n)),
   λ f. none-printed 3 (historyOf ss) .1 (inv ss .1 (unique-matching ss .1 f)),
+)
+
+mismatches-mem : (ps : List Prefix) (n : ℕ) (qs : List Prefix) (f : Finding)
+    → List·Memᴰ f (mismatches ps n qs) ↔ ((q : Prefix) × List·Memᴰ q qs × List·Memᴰ f (mismatch ps n q))
+unfolding mismatches
+mismatches-mem ps n [] f = (λ m. absurd (List·Memᴰ·not-nil m), λ x. absurd (List·Memᴰ·not-nil (x .1)))
+mismatches-mem ps n (y ∷ qs) f = (
+  λ m. ⊎-elim (λ k. (y, List·Memᴰ·head refl, k))
+      (λ k. let r = mismatches-mem ps n qs f .0 k in (r .0, List·Memᴰ·tail (r .1), r .2))
+      (List·Memᴰ·append-cases (mismatch ps n y) m),
+  λ x. ⊎-elim (λ e. Memᴰ·append-left (mismatches ps n qs) (subst (λ (q : Prefix). List·Memᴰ f (mismatch ps n q)) e (x .2)))
+      (λ k. Memᴰ·append-right (mismatch ps n y) (mismatches-mem ps n qs f .1 (x .0, k, x .2)))
+      (List·Memᴰ·cases-cons (x .1)),
+)
+
+pub each-entry-judged : EachEntryJudged
+each-entry-judged ps n p f = (
+  λ m.
+      let r = mismatches-mem ps n (begunBy p) f .0 m in
+      let b = begun-prefix p (r .0) .0 (r .1) in
+      (b .0, b .1, b .2, subst (λ (q : Prefix). List·Memᴰ f (mismatch ps n q)) (b .3) (r .2)),
+  λ x. mismatches-mem ps n (begunBy p) f .1 (take (x .0) p, begun-prefix p (take (x .0) p) .1 (x .0, x .1, x .2, refl), x .3),
 )
