@@ -6,3 +6,4 @@ pub mod Matching
 pub mod Committed
 pub mod Bridge
 pub mod Marked
+pub mod Leaders
