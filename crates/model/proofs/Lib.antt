@@ -7,3 +7,13 @@ pub mod Committed
 pub mod Bridge
 pub mod Marked
 pub mod Leaders
+pub mod CompletenessInvariant
+pub mod CompletenessView
+pub mod CompletenessCommit
+pub mod CompletenessTerms
+pub mod CompletenessElection
+pub mod CompletenessCheck
+pub mod Last
+pub mod CompletenessLedger
+pub mod CompletenessKnown
+pub mod Completeness
