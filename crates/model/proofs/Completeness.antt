@@ -52,8 +52,18 @@ LeaderCompleteness =
 abbrev leader : ℕ → ℕ → Leader
 leader t l = record { term = t; leader = l }
 
+-- a check
 checked : Bytes
 checked = 0x50 ∷ []
+
+-- the premises of the theorem but the last, for a list and then a check
+CheckedAfter : List Bytes → Type 0
+CheckedAfter ss = (read checked ≡ readable check) × (isAccepted (answer (historyOf ss) checked) ≡ true)
+
+-- for a list and then a check: the leader lists of the history and of the ledger
+LeadersAfter : List Bytes → List Leader → List Leader → Type 0
+LeadersAfter ss l m =
+    (leaderList (historyOf (ss ++ (checked ∷ []))) ≡ l) × (ledgerLeaders (ledgerOf (ss ++ (checked ∷ []))) ≡ m)
 
 -- P12 with its late term: node 0 shows one entry and commits it; its commit term is 5; node 1 is elected in term 4 with a
 -- log of no entries; check; its commit term is 3
@@ -68,47 +78,54 @@ late =
     ∷ (0x30 ∷ 0x00 ∷ 0x01 ∷ 0x00 ∷ 0x00 ∷ 0x00 ∷ 0x03 ∷ [])
     ∷ []
 
--- Its premises hold, and its list is not empty.
-late-premises :
-    (read checked ≡ readable check)
-    × (isAccepted (answer (historyOf late) checked) ≡ true)
-    × KnownAtChecks (late ++ (checked ∷ []))
-unfolding late checked read answer historyFrom knownAll eventsFrom
-late-premises = (refl, refl, known-all (eventsOf (late ++ (checked ∷ []))) refl)
+-- All premises hold, and the list is not empty.
+late-checked : CheckedAfter late
+unfolding CheckedAfter late checked read answer historyFrom
+late-checked = (refl, refl)
 
-late-leaders : leaderList (historyOf (late ++ (checked ∷ []))) ≡ leader 4 1 ∷ []
-unfolding late checked historyFrom leaderList
-late-leaders = refl
+late-known : KnownAtChecks (late ++ (checked ∷ []))
+unfolding late checked knownAll eventsFrom
+late-known = known-all (eventsOf (late ++ (checked ∷ []))) refl
 
--- node 1 shows one entry and commits it; its commit term is not told; node 2 is elected in term 4 with no log; check
-unknownTerm : List Bytes
-unfolding checked
-unknownTerm =
+late-leaders : LeadersAfter late (leader 4 1 ∷ []) (leader 4 1 ∷ [])
+unfolding LeadersAfter late checked historyFrom ledgerFrom leaderList ledgerLeaders
+late-leaders = (refl, refl)
+
+-- node 1 shows one entry and commits it; its commit term is recorded as zero; node 2 is elected in term 4 with no log
+zeroTerm : List Bytes
+zeroTerm =
     (0x10 ∷ 0x40 ∷ 0x10 ∷ 0x04 ∷ 0x00 ∷ 0x00 ∷ 0x00 ∷ 0x04 ∷ 0x00 ∷ [])
     ∷ (0x20 ∷ 0x40 ∷ 0x10 ∷ [])
     ∷ (0x30 ∷ 0x00 ∷ 0x01 ∷ 0x00 ∷ 0x00 ∷ 0x00 ∷ 0x00 ∷ [])
     ∷ (0x40 ∷ 0x80 ∷ 0x00 ∷ 0x00 ∷ 0x01 ∷ 0x00 ∷ 0x00 ∷ [])
-    ∷ checked
     ∷ []
 
--- The premise is needed: a recorded zero is below every nonzero term for the history, and no term for the ledger.
-unknown-differs : (leaderList (historyOf unknownTerm) ≡ leader 4 2 ∷ []) × (ledgerLeaders (ledgerOf unknownTerm) ≡ [])
-unfolding unknownTerm checked historyFrom ledgerFrom leaderList ledgerLeaders
-unknown-differs = (refl, refl)
+-- The last premise is needed: a recorded zero is below every nonzero term for the history, and no term for the ledger.
+zero-checked : CheckedAfter zeroTerm
+unfolding CheckedAfter zeroTerm checked read answer historyFrom
+zero-checked = (refl, refl)
 
--- the same; then its commit term is 9; check
+zero-differs : LeadersAfter zeroTerm (leader 4 2 ∷ []) []
+unfolding LeadersAfter zeroTerm checked historyFrom ledgerFrom leaderList ledgerLeaders
+zero-differs = (refl, refl)
+
+-- the same and a check; then its commit term is 9
 toldLater : List Bytes
-unfolding unknownTerm checked
-toldLater = unknownTerm ++ ((0x30 ∷ 0x00 ∷ 0x01 ∷ 0x00 ∷ 0x00 ∷ 0x00 ∷ 0x09 ∷ []) ∷ checked ∷ [])
+unfolding zeroTerm checked
+toldLater = zeroTerm ++ (checked ∷ (0x30 ∷ 0x00 ∷ 0x01 ∷ 0x00 ∷ 0x00 ∷ 0x00 ∷ 0x09 ∷ []) ∷ [])
 
--- It is needed at every check: here the last one has all commit terms, and the history keeps a leader that the ledger does
--- not have.
+-- It is needed at every check: at the last one each committed entry has its commit term, and the history keeps a leader
+-- that the ledger does not have.
+later-checked : CheckedAfter toldLater
+unfolding CheckedAfter toldLater zeroTerm checked read answer historyFrom
+later-checked = (refl, refl)
+
 later-known : Known (ledgerOf toldLater)
-unfolding toldLater unknownTerm checked ledgerFrom knownTo
+unfolding toldLater zeroTerm checked ledgerFrom knownTo
 later-known i p l = known-to (ledgerOf toldLater) 1 i refl p l
 
-later-differs : (leaderList (historyOf toldLater) ≡ leader 4 2 ∷ []) × (ledgerLeaders (ledgerOf toldLater) ≡ [])
-unfolding toldLater unknownTerm checked historyFrom ledgerFrom leaderList ledgerLeaders
+later-differs : LeadersAfter toldLater (leader 4 2 ∷ []) []
+unfolding LeadersAfter toldLater zeroTerm checked historyFrom ledgerFrom leaderList ledgerLeaders
 later-differs = (refl, refl)
 
 -- ---- the invariant after every list
@@ -122,6 +139,7 @@ keeps h g (election l t p n) k v = keeps-election h g l t p n v
 keeps h g check k v = keeps-check h g (k refl) v
 keeps h g (rows rs) k v = v
 
+-- the premise, of the events so far
 KnownIn : List Event → Type 0
 KnownIn es = (e : Event) → List·Memᴰ e es → e .event ≡ check → Known (e .ledger)
 

@@ -4,7 +4,7 @@
 use Prim.Native.Nat.{ℕ, zero, suc, _+_, _<_, _≤_, max}
 use native.Mathlib.Omega.{arith}
 use mathlib.Core.Path.{_≡_, refl, sym, _∙_, ap, subst}
-use mathlib.Core.Bool.{true, false, cond, not, _&&_}
+use mathlib.Core.Bool.{true, false, not, _&&_}
 use mathlib.Core.Logic.{⊎-elim}
 use mathlib.Core.List.{List, [], _∷_, map, List·Memᴰ, List·Memᴰ·head, List·Memᴰ·tail, List·Memᴰ·not-nil, List·Memᴰ·cases-cons, List·Memᴰ·eq-of-singleton, Memᴰ·append-left, Memᴰ·append-right, List·Memᴰ·append-cases, Memᴰ·of-map}
 use mathlib.Core.Option.{Option, none, some}
@@ -14,96 +14,68 @@ use lib.Seq.{take-take, take-at}
 use borrow.Author.Tests.{leb-true, ltb-true, ltb-false, eqb-true, eqb-false, lt-ltb, le-leb, not-true}
 use Rattle.model.specs.Entry.{Prefix}
 use Rattle.model.specs.Record.{check}
-use Rattle.model.specs.History.{Finding, Certificate, History, sameFinding, noted}
+use Rattle.model.specs.History.{Finding, Certificate, History, noted}
 use Rattle.model.specs.Check.{lastBelow, relevant, lacks, lacking, moved, lackings, checkFindings, checkEffect}
 use Rattle.model.specs.Answer.{effect}
-use Rattle.model.specs.Leaders.{Leader}
 use Rattle.model.specs.Ledger.{Elected, Ledger, entered, earlier}
 use Rattle.model.proofs.Tests.{either, cond-cases, cond-true, and-left, and-right, and-both, begins-no, no-begins}
-use Rattle.model.proofs.Members.{all-new}
 use Rattle.model.proofs.Leaders.{Named, pairOf}
-use Rattle.model.proofs.CompletenessInvariant.{electedOf, known, leads, BlamedAt, Sound, Owes, Complete, MarksWithin, SameTerms, SameElections, Invariant, lacks-without, named-noted, sound-noted, same-elections}
+use Rattle.model.proofs.CompletenessInvariant.{electedOf, known, leads, EachKnown, BlamedAt, Sound, Owes, Complete, MarksWithin, SameTerms, SameElections, Invariant, lacks-without, named-noted, named-new, sound-noted, same-elections}
 
 -- ---- the relevant index
 
--- a place of the recorded terms, from index k on, that counts
-pub record Counts (mark end t k : ℕ) (xs : List ℕ) (j : ℕ) : Type 0 where
-  pub after-mark : mark < k + j
-  pub before-end : k + j ≤ end
-  pub early : getD xs j 0 < t
-
--- the last place that counts, at index r
-pub record LastAt (mark end t k : ℕ) (xs : List ℕ) (r : ℕ) : Type 0 where
+-- index r is that of a place of the recorded terms, which start at index k, within the end and with a term below t
+pub record LastAt (end t k : ℕ) (xs : List ℕ) (r : ℕ) : Type 0 where
   pub place : ℕ
   pub index : r ≡ k + place
-  pub counts : Counts mark end t k xs place
+  pub within : r ≤ end
+  pub early : getD xs place 0 < t
 
 module _ (mark end t : ℕ) where
-  counts-here : (k x : ℕ) (xs : List ℕ) → ltb mark k && leb k end && ltb x t ≡ true → LastAt mark end t k (x ∷ xs) k
+  counts-here : (k x : ℕ) (xs : List ℕ) → ltb mark k && leb k end && ltb x t ≡ true → LastAt end t k (x ∷ xs) k
   counts-here k x xs e =
-      let a : ltb mark k && leb k end ≡ true = and-left _ _ e in
-      let m : mark < k = ltb-true _ _ (and-left (ltb mark k) _ a) in
-      let n : k ≤ end = leb-true _ _ (and-right (ltb mark k) _ a) in
       record {
         place = 0;
         index = omega arith;
-        counts =
-            record {
-              after-mark = omega arith;
-              before-end = omega arith;
-              early = ltb-true _ _ (and-right (ltb mark k && leb k end) _ e);
-            };
+        within = leb-true _ _ (and-right (ltb mark k) _ (and-left _ _ e));
+        early = ltb-true _ _ (and-right (ltb mark k && leb k end) _ e);
       }
 
-  counts-later : (k x : ℕ) (xs : List ℕ) (r : ℕ) → LastAt mark end t (k + 1) xs r → LastAt mark end t k (x ∷ xs) r
+  counts-later : (k x : ℕ) (xs : List ℕ) (r : ℕ) → LastAt end t (k + 1) xs r → LastAt end t k (x ∷ xs) r
   counts-later k x xs r w =
-      let c : Counts mark end t (k + 1) xs (w .place) = w .counts in
       let i : r ≡ k + 1 + w .place = w .index in
-      let m : mark < k + 1 + w .place = c .after-mark in
-      let n : k + 1 + w .place ≤ end = c .before-end in
-      record {
-        place = suc (w .place);
-        index = omega arith;
-        counts = record { after-mark = omega arith; before-end = omega arith; early = c .early };
-      }
+      record { place = suc (w .place); index = omega arith; within = w .within; early = w .early }
 
-  last-counts : (k : ℕ) (xs : List ℕ) → 0 < lastBelow mark end t k xs → LastAt mark end t k xs (lastBelow mark end t k xs)
+  last-counts : (k : ℕ) (xs : List ℕ) → 0 < lastBelow mark end t k xs → LastAt end t k xs (lastBelow mark end t k xs)
   unfolding lastBelow
   last-counts k [] = λ p. absurd (omega arith)
   last-counts k (x ∷ xs) =
-      cond-cases (λ (r : ℕ). 0 < r → LastAt mark end t k (x ∷ xs) r) (eqb (lastBelow mark end t (k + 1) xs) 0)
-      (cond (ltb mark k && leb k end && ltb x t) k 0) (lastBelow mark end t (k + 1) xs)
-      (λ _. cond-cases (λ (r : ℕ). 0 < r → LastAt mark end t k (x ∷ xs) r) (ltb mark k && leb k end && ltb x t) k 0
+      cond-cases (λ (r : ℕ). 0 < r → LastAt end t k (x ∷ xs) r) (eqb (lastBelow mark end t (k + 1) xs) 0) _ _
+      (λ _. cond-cases (λ (r : ℕ). 0 < r → LastAt end t k (x ∷ xs) r) _ _ _
       (λ e _. counts-here k x xs e) (λ _ p. absurd (omega arith)))
       (λ _ p. counts-later k x xs (lastBelow mark end t (k + 1) xs) (last-counts (k + 1) xs p))
 
-  -- none that counts is past it
-  last-reaches : (k : ℕ) (xs : List ℕ) (j : ℕ) → j < length xs → Counts mark end t k xs j → k + j ≤ lastBelow mark end t k xs
+  -- a place after the mark and within the end, with a term below t, is not past it
+  last-reaches : (k : ℕ) (xs : List ℕ) (j : ℕ) → j < length xs → mark < k + j → k + j ≤ end → getD xs j 0 < t
+      → k + j ≤ lastBelow mark end t k xs
   unfolding lastBelow
-  last-reaches k [] j h c = absurd (omega arith)
-  last-reaches k (x ∷ xs) zero h c =
-      let m : mark < k + 0 = c .after-mark in
-      let n : k + 0 ≤ end = c .before-end in
-      let e : ltb mark k && leb k end && ltb x t ≡ true =
-      and-both _ _ (and-both _ _ (lt-ltb mark k (omega arith)) (le-leb k end (omega arith))) (lt-ltb x t (c .early)) in
-      cond-cases (λ (r : ℕ). k + 0 ≤ r) (eqb (lastBelow mark end t (k + 1) xs) 0)
-      (cond (ltb mark k && leb k end && ltb x t) k 0) (lastBelow mark end t (k + 1) xs)
-      (λ _. omega (arith, cond-true (ltb mark k && leb k end && ltb x t) k 0 e))
-      (λ n. let w : LastAt mark end t (k + 1) xs (lastBelow mark end t (k + 1) xs) = last-counts (k + 1) xs (positive _ n) in
+  last-reaches k [] j h m n e = absurd (omega arith)
+  last-reaches k (x ∷ xs) zero h m n e =
+      let c : ltb mark k && leb k end && ltb x t ≡ true =
+      and-both _ _ (and-both _ _ (lt-ltb mark k (omega arith)) (le-leb k end (omega arith))) (lt-ltb x t e) in
+      cond-cases (λ (r : ℕ). k + 0 ≤ r) _ _ _
+      (λ _. omega (arith, cond-true _ k 0 c))
+      (λ f. let w : LastAt end t (k + 1) xs (lastBelow mark end t (k + 1) xs) = last-counts (k + 1) xs (positive _ f) in
       omega (arith, w .index))
     where
       positive : (r : ℕ) → eqb r 0 ≡ false → 0 < r
       positive zero f = absurd (eqb-false 0 0 f refl)
       positive (suc r) f = omega arith
-  last-reaches k (x ∷ xs) (suc j) h c =
-      let m : mark < k + suc j = c .after-mark in
-      let n : k + suc j ≤ end = c .before-end in
+  last-reaches k (x ∷ xs) (suc j) h m n e =
       let w : k + 1 + j ≤ lastBelow mark end t (k + 1) xs =
-      last-reaches (k + 1) xs j (omega arith)
-      (record { after-mark = omega arith; before-end = omega arith; early = c .early }) in
-      cond-cases (λ (r : ℕ). k + suc j ≤ r) (eqb (lastBelow mark end t (k + 1) xs) 0)
-      (cond (ltb mark k && leb k end && ltb x t) k 0) (lastBelow mark end t (k + 1) xs)
-      (λ e. absurd (let z : lastBelow mark end t (k + 1) xs ≡ 0 = eqb-true _ _ e in omega arith))
+      last-reaches (k + 1) xs j (omega arith) (omega arith) (omega arith) e in
+      cond-cases (λ (r : ℕ). k + suc j ≤ r) _ _ _
+      (λ f. absurd (let z : lastBelow mark end t (k + 1) xs ≡ 0 = eqb-true _ _ f in omega arith))
       (λ _. omega arith)
 
 -- ---- "lacks the entries through i" only grows with i
@@ -145,12 +117,11 @@ module _ (p : Prefix) (ts : List ℕ) where
   lacking-found : (c : Certificate) (f : Finding) → List·Memᴰ f (lacking p ts c) → Found p ts (c ∷ []) f
   unfolding lacking
   lacking-found c f =
-      cond-cases (λ (z : List Finding). List·Memᴰ f z → Found p ts (c ∷ []) f)
-      (ltb 0 (relevant p ts c) && lacks (c .log) (take (relevant p ts c) p)) (lg05At c (relevant p ts c) ∷ []) []
+      cond-cases (λ (z : List Finding). List·Memᴰ f z → Found p ts (c ∷ []) f) _ _ _
       (λ e m. record {
         certificate = c;
         among = List·Memᴰ·head refl;
-        exists = ltb-true _ _ (and-left (ltb 0 (relevant p ts c)) _ e);
+        exists = ltb-true _ _ (and-left _ _ e);
         lacked = and-right (ltb 0 (relevant p ts c)) _ e;
         finding = List·Memᴰ·eq-of-singleton m;
       })
@@ -180,8 +151,7 @@ module _ (p : Prefix) (ts : List ℕ) where
   unfolding lacking
   found-lacking c r l =
       subst (λ (z : List Finding). List·Memᴰ (lg05At c (relevant p ts c)) z)
-      (sym (cond-true (ltb 0 (relevant p ts c) && lacks (c .log) (take (relevant p ts c) p)) (lg05At c (relevant p ts c) ∷ []) []
-      (and-both _ _ (lt-ltb _ _ r) l)))
+      (sym (cond-true _ _ _ (and-both _ _ (lt-ltb _ _ r) l)))
       (List·Memᴰ·head refl)
 
   found-lackings : (cs : List Certificate) (c : Certificate) → List·Memᴰ c cs → 0 < relevant p ts c
@@ -197,18 +167,15 @@ module _ (p : Prefix) (ts : List ℕ) where
 
   -- ---- the relevant index of a certificate
 
-  relevant-last : (c : Certificate) → 0 < relevant p ts c → LastAt (c .mark) (length p) (c .term) 1 ts (relevant p ts c)
+  relevant-last : (c : Certificate) → 0 < relevant p ts c → LastAt (length p) (c .term) 1 ts (relevant p ts c)
   unfolding relevant
-  relevant-last c r = last-counts (c .mark) (length p) (c .term) 1 ts r
+  relevant-last c r = last-counts _ (length p) (c .term) 1 ts r
 
   -- what is owed past the mark is at or before the relevant index
   relevant-reaches : (c : Certificate) (i : ℕ) → c .mark ≤ i → i < length p → Owes p ts c i → suc i ≤ relevant p ts c
   unfolding relevant
   relevant-reaches c i m l o =
-      let w : 1 + i ≤ lastBelow (c .mark) (length p) (c .term) 1 ts =
-      last-reaches (c .mark) (length p) (c .term) 1 ts i (inside ts i (o .nonzero))
-      (record { after-mark = omega arith; before-end = omega arith; early = o .early }) in
-      omega arith
+      omega (arith, last-reaches (c .mark) (length p) (c .term) 1 ts i (inside ts i (o .nonzero)) (omega arith) (omega arith) (o .early))
     where
       inside : (xs : List ℕ) (j : ℕ) → 0 < getD xs j 0 → j < length xs
       inside xs j n =
@@ -216,7 +183,7 @@ module _ (p : Prefix) (ts : List ℕ) where
           (λ e. absurd (let z : getD xs j 0 ≡ 0 = List·getD-eq-default xs 0 (ltb-false j (length xs) e) in omega arith))
           (either (ltb j (length xs)))
 
--- ---- sound: each committed entry has its commit term
+-- ---- the mark
 
 pub moved-same : (p : Prefix) (c : Certificate) → electedOf (moved p c) ≡ electedOf c
 unfolding moved
@@ -226,23 +193,24 @@ pub moved-mark : (p : Prefix) (c : Certificate) → moved p c .mark ≡ max (c .
 unfolding moved
 moved-mark p c = refl
 
+-- ---- sound: each committed entry has its commit term
+
+-- a recorded term that the ledger has is not zero, so "below" says the same on both sides
 known-early : (x s : ℕ) (o : Option ℕ) → o ≡ known x → (o ≡ none → ⊥) → x < s → earlier s o ≡ true
 known-early zero s o e n h = absurd (n e)
 known-early (suc x) s o e n h = rw e (lt-ltb (suc x) s h)
 
-module _ (p : Prefix) (ts : List ℕ) (us : ℕ → Option ℕ) (terms : SameTerms ts us)
-    (each : (i : ℕ) → 0 < i → i ≤ length p → us i ≡ none → ⊥) where
+module _ (p : Prefix) (ts : List ℕ) (us : ℕ → Option ℕ) (terms : SameTerms ts us) (each : EachKnown p us) where
   blamed-relevant : (c : Certificate) (r : ℕ) → lacks (c .log) (take r p) ≡ true
-      → (w : LastAt (c .mark) (length p) (c .term) 1 ts r) → BlamedAt p us (electedOf c) (w .place)
+      → (w : LastAt (length p) (c .term) 1 ts r) → BlamedAt p us (electedOf c) (w .place)
   blamed-relevant c r l w =
-      let k : Counts (c .mark) (length p) (c .term) 1 ts (w .place) = w .counts in
-      let n : 1 + w .place ≤ length p = k .before-end in
+      let n : r ≤ length p = w .within in
       let x : r ≡ suc (w .place) = omega (arith, w .index) in
       record {
         within = omega arith;
         early =
             known-early (getD ts (w .place) 0) (c .term) (us (suc (w .place))) (terms (w .place))
-            (each (suc (w .place)) (omega arith) (omega arith)) (k .early);
+            (each (suc (w .place)) (omega arith) (omega arith)) (w .early);
         lacking =
             sym (lacks-without (c .log) (take (suc (w .place)) p))
             ∙ subst (λ (m : ℕ). lacks (c .log) (take m p) ≡ true) x l;
@@ -252,7 +220,7 @@ module _ (p : Prefix) (ts : List ℕ) (us : ℕ → Option ℕ) (terms : SameTer
   sound-lackings cs es s f m e =
       let w : Found p ts cs f = lackings-found p ts cs f m in
       let c = w .certificate in
-      let a : LastAt (c .mark) (length p) (c .term) 1 ts (relevant p ts c) = relevant-last p ts c (w .exists) in
+      let a : LastAt (length p) (c .term) 1 ts (relevant p ts c) = relevant-last p ts c (w .exists) in
       record {
         election = electedOf c;
         among = s .recorded c (w .among);
@@ -275,16 +243,6 @@ module _ (p : Prefix) (ts : List ℕ) where
             found-lackings p ts cs c m (omega arith) (lacks-more (c .log) p (suc i) (relevant p ts c) r (o .lacking));
         lg05 = refl;
         pair = refl;
-      }
-
-  named-new : (fs gs : List Finding) (a : Leader) → Named gs a → Named (noted fs gs) a
-  unfolding noted
-  named-new fs gs a n =
-      record {
-        finding = n .finding;
-        among = all-new sameFinding fs gs (n .finding) (n .among);
-        lg05 = n .lg05;
-        pair = n .pair;
       }
 
   complete-one : (fs : List Finding) (cs : List Certificate) → MarksWithin p cs → Complete fs p ts cs → (c : Certificate)
@@ -321,7 +279,7 @@ marks-reach p cs d m =
     let e : moved p (a .0) .mark ≡ d .mark = ap (λ (x : Certificate). x .mark) (a .2) in
     omega (arith, moved-mark p (a .0))
 
-sound-check : (h : History) (g : Ledger) → ((i : ℕ) → 0 < i → i ≤ length (g .committed) → g .terms i ≡ none → ⊥) → Invariant h g
+sound-check : (h : History) (g : Ledger) → EachKnown (g .committed) (g .terms) → Invariant h g
     → Sound (checkFindings h) (h .committed) (g .terms) (g .elections)
 unfolding checkFindings
 sound-check h g each v =
@@ -337,7 +295,7 @@ complete-after h g v =
     complete-check (h .committed) (h .terms) (h .findings) (h .certificates) (v .marks) (v .complete)
 
 -- the only record that asks something of the ledger: each committed entry has its commit term
-pub keeps-check : (h : History) (g : Ledger) → ((i : ℕ) → 0 < i → i ≤ length (g .committed) → g .terms i ≡ none → ⊥)
+pub keeps-check : (h : History) (g : Ledger) → EachKnown (g .committed) (g .terms)
     → Invariant h g → Invariant (effect h check) (entered g check)
 unfolding checkEffect
 keeps-check h g each v =

@@ -1,12 +1,12 @@
 -- Demand 3, an accepted commit: both sides keep the same committed entries, which only ever get longer, and what it finds is
 -- LG-04.
 -- Assumes nothing.
-use Prim.Native.Nat.{ℕ, suc, _<_, _≤_, min}
+use Prim.Native.Nat.{ℕ, suc, _<_, _≤_}
 use native.Mathlib.Omega.{arith}
 use mathlib.Core.Path.{_≡_, refl, sym, _∙_, ap}
 use mathlib.Core.Bool.{Bool, true, false, cond, _&&_}
 use mathlib.Core.Logic.{⊎-elim}
-use mathlib.Core.List.{List, [], _∷_, List·Memᴰ, List·Memᴰ·not-nil, List·Memᴰ·eq-of-singleton}
+use mathlib.Core.List.{List, [], List·Memᴰ, List·Memᴰ·not-nil, List·Memᴰ·eq-of-singleton}
 use mathlib.Core.Option.{Option}
 use lib.Dec.{leb, ltb}
 use lib.ListN.{length, getD, take, length-take}
@@ -23,7 +23,7 @@ use Rattle.model.proofs.CompletenessInvariant.{BlamedAt, Justified, Sou
 
 -- ---- the same committed entries
 
--- the two tests, of a prefix q of at most i entries
+-- the history's test and the ledger's, of a prefix q of at most i entries
 module _ (c q : Prefix) (i n : ℕ) (short : length q ≤ i) (reached : leb i n ≡ true) where
   forth : replaces c q ≡ true → ltb 0 i && leb i n && ltb (length c) (length q) && begins q c ≡ true
   unfolding replaces
@@ -32,13 +32,12 @@ module _ (c q : Prefix) (i n : ℕ) (short : length q ≤ i) (reached : leb i n 
       let a : agree c q ≡ begins q c = agree-short c q (omega arith) in
       and-both _ _
       (and-both _ _ (and-both _ _ (lt-ltb 0 i (omega arith)) reached) (lt-ltb _ _ l))
-      (sym a ∙ and-left (agree c q) _ e)
+      (sym a ∙ and-left _ _ e)
 
   back : ltb 0 i && leb i n && ltb (length c) (length q) && begins q c ≡ true → replaces c q ≡ true
   unfolding replaces
   back e =
-      let t : ltb (length c) (length q) ≡ true =
-      and-right (ltb 0 i && leb i n) _ (and-left (ltb 0 i && leb i n && ltb (length c) (length q)) _ e) in
+      let t : ltb (length c) (length q) ≡ true = and-right (ltb 0 i && leb i n) _ (and-left _ _ e) in
       let l : length c < length q = ltb-true _ _ t in
       let a : agree c q ≡ begins q c = agree-short c q (omega arith) in
       and-both _ _ (a ∙ and-right (ltb 0 i && leb i n && ltb (length c) (length q)) _ e) t
@@ -47,16 +46,15 @@ module _ (c q : Prefix) (i n : ℕ) (short : length q ≤ i) (reached : leb i n 
 none-seen : (c : Prefix) → cond (replaces c []) [] c ≡ c
 unfolding replaces
 none-seen c =
-    cond-cases (λ (z : Prefix). z ≡ c) (replaces c []) [] c
+    cond-cases (λ (z : Prefix). z ≡ c) _ _ _
     (λ t. absurd (let l : length c < 0 = ltb-true _ _ (and-right (agree c []) _ t) in omega arith)) (λ _. refl)
 
 not-reached : (p : Prefix) (i : ℕ) (c : Prefix) → leb i (length p) ≡ false → extended p i c ≡ c
 unfolding extended
 not-reached p i c e =
     cond-cases (λ (z : Prefix). z ≡ c)
-    (ltb 0 i && leb i (length p) && ltb (length c) (length (take i p)) && begins (take i p) c) (take i p) c
-    (λ t. absurd (tf (sym (and-right (ltb 0 i) _
-    (and-left (ltb 0 i && leb i (length p)) _ (and-left (ltb 0 i && leb i (length p) && ltb (length c) (length (take i p))) _ t))) ∙ e)))
+    (ltb 0 i && leb i (length p) && ltb (length c) (length (take i p)) && begins (take i p) c) _ _
+    (λ t. absurd (tf (sym (and-right (ltb 0 i) _ (and-left _ _ (and-left _ _ t))) ∙ e)))
     (λ _. refl)
 
 reached : (p : Prefix) (i : ℕ) (c : Prefix) → leb i (length p) ≡ true
@@ -71,22 +69,24 @@ reached p i c e =
 pub same-committed : (p : Prefix) (i : ℕ) (c : Prefix) → cond (replaces c (through p i)) (through p i) c ≡ extended p i c
 same-committed p i c =
     ⊎-elim
-    (λ e. rw (cond-true (leb i (length p)) (take i p) [] e) (reached p i c e))
-    (λ e. rw (cond-false (leb i (length p)) (take i p) [] e) (none-seen c ∙ sym (not-reached p i c e)))
+    (λ e. rw (cond-true (leb i (length p)) _ _ e) (reached p i c e))
+    (λ e. rw (cond-false (leb i (length p)) _ _ e) (none-seen c ∙ sym (not-reached p i c e)))
     (either (leb i (length p)))
 
 -- ---- committed entries only ever get longer
 
+-- q begins with the entries of p
 pub record Extends (p q : Prefix) : Type 0 where
   pub longer : length p ≤ length q
   pub first : (i : ℕ) → i ≤ length p → take i q ≡ take i p
 
+-- this is where a mismatch must not be kept
 replaced-extends : (c q : Prefix) → replaces c q ≡ true → Extends c q
 unfolding replaces
 replaced-extends c q e =
     let l : length c < length q = ltb-true _ _ (and-right (agree c q) _ e) in
     let b : take (length c) q ≡ c =
-    begins-yes q c (sym (agree-short c q (omega arith)) ∙ and-left (agree c q) _ e) in
+    begins-yes q c (sym (agree-short c q (omega arith)) ∙ and-left _ _ e) in
     record {
       longer = omega arith;
       first = λ i s. sym (take-take i (length c) q s) ∙ ap (take i) b;
@@ -94,7 +94,7 @@ replaced-extends c q e =
 
 pub kept-extends : (c q : Prefix) → Extends c (cond (replaces c q) q c)
 kept-extends c q =
-    cond-cases (Extends c) (replaces c q) q c (replaced-extends c q)
+    cond-cases (Extends c) _ _ _ (replaced-extends c q)
     (λ _. record { longer = omega arith; first = λ i s. refl })
 
 module _ (p q : Prefix) (x : Extends p q) where
@@ -130,8 +130,7 @@ module _ (p q : Prefix) (x : Extends p q) where
 pub differences-lg04 : (n : ℕ) (c p : Prefix) (f : Finding) → List·Memᴰ f (differences n c p) → f .name ≡ 4
 unfolding differences
 differences-lg04 n c p f =
-    cond-cases (λ (z : List Finding). List·Memᴰ f z → f .name ≡ 4) (agree c p) []
-    (record { name = 4; node = n; index = min (length c) (length p); term = 0 } ∷ [])
+    cond-cases (λ (z : List Finding). List·Memᴰ f z → f .name ≡ 4) (agree c p) _ _
     (λ _ m. absurd (List·Memᴰ·not-nil m))
     (λ _ m. ap (λ (x : Finding). x .name) (List·Memᴰ·eq-of-singleton m))
 

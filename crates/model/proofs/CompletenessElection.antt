@@ -24,8 +24,7 @@ pub order-cases : (c : Certificate) (ds : List Certificate) (x : Certificate) �
 unfolding inOrder
 order-cases c [] x = λ m. inl (List·Memᴰ·eq-of-singleton m)
 order-cases c (d ∷ ds) x =
-    cond-cases (λ (z : List Certificate). List·Memᴰ x z → (x ≡ c) ⊎ List·Memᴰ x (d ∷ ds)) (ltb (c .term) (d .term)) (c ∷ d ∷ ds)
-    (d ∷ inOrder c ds)
+    cond-cases (λ (z : List Certificate). List·Memᴰ x z → (x ≡ c) ⊎ List·Memᴰ x (d ∷ ds)) (ltb (c .term) (d .term)) _ _
     (λ _ m. List·Memᴰ·cases-cons m)
     (λ _ m. ⊎-elim (λ e. inr (List·Memᴰ·head e)) (λ k. ⊎-elim (λ e. inl e) (λ j. inr (List·Memᴰ·tail j)) (order-cases c ds x k))
     (List·Memᴰ·cases-cons m))
@@ -34,14 +33,14 @@ pub order-new : (c : Certificate) (ds : List Certificate) → List·Memᴰ c (in
 unfolding inOrder
 order-new c [] = List·Memᴰ·head refl
 order-new c (d ∷ ds) =
-    cond-cases (λ (z : List Certificate). List·Memᴰ c z) (ltb (c .term) (d .term)) (c ∷ d ∷ ds) (d ∷ inOrder c ds)
+    cond-cases (λ (z : List Certificate). List·Memᴰ c z) (ltb (c .term) (d .term)) _ _
     (λ _. List·Memᴰ·head refl) (λ _. List·Memᴰ·tail (order-new c ds))
 
 pub order-old : (c : Certificate) (ds : List Certificate) (x : Certificate) → List·Memᴰ x ds → List·Memᴰ x (inOrder c ds)
 unfolding inOrder
 order-old c [] x m = absurd (List·Memᴰ·not-nil m)
 order-old c (d ∷ ds) x m =
-    cond-cases (λ (z : List Certificate). List·Memᴰ x z) (ltb (c .term) (d .term)) (c ∷ d ∷ ds) (d ∷ inOrder c ds)
+    cond-cases (λ (z : List Certificate). List·Memᴰ x z) (ltb (c .term) (d .term)) _ _
     (λ _. List·Memᴰ·tail m)
     (λ _. ⊎-elim (λ e. List·Memᴰ·head e) (λ k. List·Memᴰ·tail (order-old c ds x k)) (List·Memᴰ·cases-cons m))
 

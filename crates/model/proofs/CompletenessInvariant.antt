@@ -3,7 +3,6 @@
 -- that the ledger blames, and every certificate that owes an entry within its mark is named by an LG-05.
 -- Assumes nothing.
 use Prim.Native.Nat.{ℕ, zero, suc, _<_, _≤_}
-use native.Mathlib.Omega.{arith}
 use mathlib.Core.Path.{_≡_, refl, sym, _∙_, ap}
 use mathlib.Core.Bool.{true}
 use mathlib.Core.Logic.{⊎-elim}
@@ -15,7 +14,7 @@ use Rattle.model.specs.History.{Finding, Certificate, History, fresh, sa
 use Rattle.model.specs.Check.{lacks}
 use Rattle.model.specs.Leaders.{Leader}
 use Rattle.model.specs.Ledger.{Elected, Ledger, empty, earlier, without}
-use Rattle.model.proofs.Members.{all-old, all-cases}
+use Rattle.model.proofs.Members.{all-old, all-new, all-cases}
 use Rattle.model.proofs.Leaders.{Named, pairOf}
 
 -- ---- the two sides' words for one thing
@@ -32,6 +31,10 @@ known (suc t) = some (suc t)
 -- the (term, leader) of an election
 abbrev pub leads : Elected → Leader
 leads e = record { term = e .term; leader = e .leader }
+
+-- each of the committed entries p has a commit term
+abbrev pub EachKnown : Prefix → (ℕ → Option ℕ) → Type 0
+EachKnown p ts = (i : ℕ) → 0 < i → i ≤ length p → ts i ≡ none → ⊥
 
 -- ---- what the invariant says
 
@@ -112,16 +115,7 @@ pub lacks-without : (o : Option Prefix) (p : Prefix) → lacks o p ≡ without o
 lacks-without none p = refl
 lacks-without (some q) p = refl
 
--- a known term is the recorded one
-pub known-some : (x u : ℕ) → known x ≡ some u → (x ≡ u) × (0 < x)
-known-some zero u e = absurd (let z : _≡_ {A = ℕ} 0 1 = cc in omega arith)
-known-some (suc x) u e = (cc, omega arith)
-
 -- ---- more findings
-
--- some more findings, none of them an LG-05
-abbrev pub NoLG05 : List Finding → Type 0
-NoLG05 gs = (f : Finding) → List·Memᴰ f gs → f .name ≡ 5 → ⊥
 
 pub named-noted : (fs gs : List Finding) (a : Leader) → Named fs a → Named (noted fs gs) a
 unfolding noted
@@ -133,10 +127,24 @@ named-noted fs gs a n =
       pair = n .pair;
     }
 
+pub named-new : (fs gs : List Finding) (a : Leader) → Named gs a → Named (noted fs gs) a
+unfolding noted
+named-new fs gs a n =
+    record {
+      finding = n .finding;
+      among = all-new sameFinding fs gs (n .finding) (n .among);
+      lg05 = n .lg05;
+      pair = n .pair;
+    }
+
 pub sound-noted : (fs gs : List Finding) (p : Prefix) (ts : ℕ → Option ℕ) (es : List Elected) → Sound fs p ts es
     → Sound gs p ts es → Sound (noted fs gs) p ts es
 unfolding noted
 sound-noted fs gs p ts es s t f m e = ⊎-elim (λ k. s f k e) (λ k. t f k e) (all-cases sameFinding fs gs f m)
+
+-- none of them is an LG-05
+abbrev pub NoLG05 : List Finding → Type 0
+NoLG05 gs = (f : Finding) → List·Memᴰ f gs → f .name ≡ 5 → ⊥
 
 pub sound-others : (gs : List Finding) (p : Prefix) (ts : ℕ → Option ℕ) (es : List Elected) → NoLG05 gs → Sound gs p ts es
 sound-others gs p ts es n f m e = absurd (n f m e)

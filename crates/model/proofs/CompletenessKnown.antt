@@ -14,6 +14,9 @@ use Rattle.model.specs.Record.{Record, view, commit, terms, election, ch
 use Rattle.model.specs.Ledger.{Ledger}
 use Rattle.model.specs.Run.{Event}
 use Rattle.model.proofs.Tests.{tf, either, and-left, and-right, or-cases}
+use Rattle.model.proofs.CompletenessInvariant.{EachKnown}
+
+-- ---- the tests
 
 isKnown : Option ℕ → Bool
 isKnown none = false
@@ -39,6 +42,8 @@ unfolding isCheck knownTo
 knownAll [] = true
 knownAll (e ∷ es) = (not (isCheck (e .event)) || knownTo (e .ledger) (length (e .ledger .committed))) && knownAll es
 
+-- ---- what they tell
+
 pub known-to : (g : Ledger) (n i : ℕ) → knownTo g n ≡ true → 0 < i → i ≤ n → g .terms i ≡ none → ⊥
 unfolding knownTo isKnown
 known-to g zero i t p l e = omega arith
@@ -46,27 +51,26 @@ known-to g (suc n) i t p l e =
     ⊎-elim
     (λ q. known-to g n i (and-right (isKnown (g .terms (suc n))) _ t) p (leb-true i n q) e)
     (λ q. let s : i ≡ suc n = omega (arith, leb-false i n q) in
-    tf (sym (and-left (isKnown (g .terms (suc n))) _ t) ∙ ap (λ (m : ℕ). isKnown (g .terms m)) (sym s) ∙ ap isKnown e))
+    tf (sym (and-left _ _ t) ∙ ap (λ (m : ℕ). isKnown (g .terms m)) (sym s) ∙ ap isKnown e))
     (either (leb i n))
 
 known-event : (r : Record) (g : Ledger) → not (isCheck r) || knownTo g (length (g .committed)) ≡ true → r ≡ check
-    → (i : ℕ) → 0 < i → i ≤ length (g .committed) → g .terms i ≡ none → ⊥
+    → EachKnown (g .committed) (g .terms)
 unfolding isCheck
 known-event r g t e =
     ⊎-elim (λ q. absurd (tf (sym q ∙ ap (λ (x : Record). not (isCheck x)) e)))
     (λ q i p l. known-to g (length (g .committed)) i q p l)
-    (or-cases (not (isCheck r)) _ t)
+    (or-cases _ _ t)
 
--- the test tells the premise
 pub known-all : (es : List Event) → knownAll es ≡ true → (e : Event) → List·Memᴰ e es → e .event ≡ check
-    → (i : ℕ) → 0 < i → i ≤ length (e .ledger .committed) → e .ledger .terms i ≡ none → ⊥
+    → EachKnown (e .ledger .committed) (e .ledger .terms)
 unfolding knownAll
 known-all [] t e m c = absurd (List·Memᴰ·not-nil m)
 known-all (x ∷ es) t e m c =
     ⊎-elim
     (λ q. known-event (e .event) (e .ledger)
     (subst (λ (y : Event). not (isCheck (y .event)) || knownTo (y .ledger) (length (y .ledger .committed)) ≡ true) (sym q)
-    (and-left (not (isCheck (x .event)) || knownTo (x .ledger) (length (x .ledger .committed))) _ t))
+    (and-left _ _ t))
     c)
     (λ k. known-all es (and-right (not (isCheck (x .event)) || knownTo (x .ledger) (length (x .ledger .committed))) _ t) e k c)
     (List·Memᴰ·cases-cons m)

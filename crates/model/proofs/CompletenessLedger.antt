@@ -37,12 +37,12 @@ module _ (g : Ledger) (e : Elected) where
         at =
             record {
               within = l;
-              early = and-left (earlier (e .term) (g .terms (suc i))) _ t;
+              early = and-left _ _ t;
               lacking = and-right (earlier (e .term) (g .terms (suc i))) _ t;
             };
       })
       (λ t. blamed-place i (omega arith) t)
-      (or-cases (earlier (e .term) (g .terms (suc i)) && without (e .log) (take (suc i) (g .committed))) (blamed g e i) b)
+      (or-cases _ _ b)
 
   place-blamed : (n i : ℕ) → i < n → BlamedAt (g .committed) (g .terms) e i → blamed g e n ≡ true
   unfolding blamed
@@ -50,10 +50,10 @@ module _ (g : Ledger) (e : Elected) where
   place-blamed (suc n) i l b =
       let here = earlier (e .term) (g .terms (suc n)) && without (e .log) (take (suc n) (g .committed)) in
       ⊎-elim
-      (λ t. or-right here (blamed g e n) (place-blamed n i (ltb-true i n t) b))
+      (λ t. or-right here _ (place-blamed n i (ltb-true i n t) b))
       (λ t. let q : i ≡ n = omega (arith, ltb-false i n t) in
       let c : BlamedAt (g .committed) (g .terms) e n = subst (BlamedAt (g .committed) (g .terms) e) q b in
-      or-left here (blamed g e n) (and-both _ _ (c .early) (c .lacking)))
+      or-left _ _ (and-both _ _ (c .early) (c .lacking)))
       (either (ltb i n))
 
 -- a member of the ledger's list is an election that it blames
@@ -67,7 +67,7 @@ module _ (g : Ledger) where
   blame-cases : (e : Elected) (a : Leader) → List·Memᴰ a (blame g e) → Blames g (e ∷ []) a
   unfolding blame
   blame-cases e a =
-      cond-cases (λ (z : List Leader). List·Memᴰ a z → Blames g (e ∷ []) a) (blamed g e (length (g .committed))) (leads e ∷ []) []
+      cond-cases (λ (z : List Leader). List·Memᴰ a z → Blames g (e ∷ []) a) _ _ _
       (λ t m. record {
         election = e;
         among = List·Memᴰ·head refl;
@@ -92,7 +92,7 @@ module _ (g : Ledger) where
   unfolding blame
   blame-one e i b =
       subst (λ (z : List Leader). List·Memᴰ (leads e) z)
-      (sym (cond-true (blamed g e (length (g .committed))) (leads e ∷ []) [] (place-blamed g e (length (g .committed)) i (b .within) b)))
+      (sym (cond-true _ _ _ (place-blamed g e (length (g .committed)) i (b .within) b)))
       (List·Memᴰ·head refl)
 
   pub blame-all : (es : List Elected) (e : Elected) (i : ℕ) → List·Memᴰ e es → BlamedAt (g .committed) (g .terms) e i

@@ -15,7 +15,7 @@ use Rattle.model.specs.Entry.{Prefix}
 use Rattle.model.specs.Record.{terms}
 use Rattle.model.specs.History.{Finding, Certificate, History}
 use Rattle.model.specs.Check.{lacks}
-use Rattle.model.specs.Terms.{lengthened, changes, replacedFrom, recorded, firstFrom, firstChanged, withMark, lowered, termsEffect}
+use Rattle.model.specs.Terms.{lengthened, changes, replacedFrom, recorded, firstFrom, firstChanged, lowered, termsEffect}
 use Rattle.model.specs.Answer.{effect}
 use Rattle.model.specs.Ledger.{Elected, Ledger, entered, open′, setTerms, earlier}
 use Rattle.model.proofs.Tests.{tf, either, cond-cases, cond-true, cond-false, and-left, and-right, and-both, and-false}
@@ -44,19 +44,17 @@ unfolding lengthened
 lengthened-reaches new ts = simp (length-append, length-replicate) (omega arith)
 
 module _ (old new t : ℕ) where
-  -- a place that changes
-  pub record Changed (i x : ℕ) : Type 0 where
-    pub after-old : old < i
+  -- what is known of a place that changes
+  pub record Changed (i : ℕ) : Type 0 where
     pub within-new : i ≤ new
     pub nonzero : 0 < t
 
-  changes-yes : (i x : ℕ) → changes old new t i x ≡ true → Changed i x
+  changes-yes : (i x : ℕ) → changes old new t i x ≡ true → Changed i
   unfolding changes
   changes-yes i x e =
       let a : ltb old i && leb i new && ltb 0 t ≡ true = and-left _ _ e in
       let b : ltb old i && leb i new ≡ true = and-left _ _ a in
       record {
-        after-old = ltb-true _ _ (and-left (ltb old i) _ b);
         within-new = leb-true _ _ (and-right (ltb old i) _ b);
         nonzero = ltb-true _ _ (and-right (ltb old i && leb i new) _ a);
       }
@@ -82,7 +80,7 @@ module _ (old new t : ℕ) where
   unchanged-past : (i : ℕ) (l : List ℕ) → new ≤ length l → length l ≤ i
       → cond (changes old new t (1 + i) (getD l i 0)) t (getD l i 0) ≡ 0
   unchanged-past i l r h =
-      cond-cases (λ (z : ℕ). z ≡ 0) (changes old new t (1 + i) (getD l i 0)) t (getD l i 0)
+      cond-cases (λ (z : ℕ). z ≡ 0) _ _ _
       (λ e. absurd (let w : 1 + i ≤ new = changes-yes (1 + i) (getD l i 0) e .within-new in omega arith))
       (λ _. List·getD-eq-default l 0 h)
 
@@ -110,11 +108,11 @@ module _ (old new t : ℕ) where
   unfolding firstFrom
   first-from k i [] p h e = absurd (omega arith)
   first-from k zero (x ∷ l) p h e =
-      cond-cases (λ (z : ℕ). (0 < z) × (z ≤ k + 0)) (changes old new t k x) k (firstFrom old new t (k + 1) l)
+      cond-cases (λ (z : ℕ). (0 < z) × (z ≤ k + 0)) _ _ _
       (λ _. omega arith)
       (λ n. absurd (let q : k + 0 ≡ k = omega arith in tf (sym e ∙ ap (λ (m : ℕ). changes old new t m x) q ∙ n)))
   first-from k (suc i) (x ∷ l) p h e =
-      cond-cases (λ (z : ℕ). (0 < z) × (z ≤ k + suc i)) (changes old new t k x) k (firstFrom old new t (k + 1) l)
+      cond-cases (λ (z : ℕ). (0 < z) × (z ≤ k + suc i)) (changes old new t k x) _ _
       (λ _. omega arith)
       (λ _. let q : k + suc i ≡ k + 1 + i = omega arith in
       let r : (0 < firstFrom old new t (k + 1) l) × (firstFrom old new t (k + 1) l ≤ k + 1 + i) =
@@ -183,7 +181,7 @@ module _ (old new t : ℕ) where
 
   still-early : (us : ℕ → Option ℕ) (s i : ℕ) → earlier s (us i) ≡ true → earlier s (setTerms old new t us i) ≡ true
   still-early us s i e =
-      cond-cases (λ (o : Option ℕ). earlier s o ≡ true) (ltb 0 t && ltb old i && leb i new && open′ t (us i)) (some t) (us i)
+      cond-cases (λ (o : Option ℕ). earlier s o ≡ true) _ _ _
       (λ p. sooner s (us i) (and-right (ltb 0 t && ltb old i && leb i new) _ p) e) (λ _. e)
 
   sound-terms : (fs : List Finding) (p : Prefix) (us : ℕ → Option ℕ) (es : List Elected) → Sound fs p us es
@@ -207,17 +205,10 @@ module _ (old new t : ℕ) where
   -- ---- marks
 
   module _ (first : ℕ) (c : Certificate) where
-    pub lowered-same : electedOf (lowered t first c) ≡ electedOf c
-    unfolding lowered
-    lowered-same =
-        cond-cases (λ (d : Certificate). electedOf d ≡ electedOf c) (ltb 0 first && ltb t (c .term) && leb first (c .mark))
-        (withMark c (first - 1)) c (λ _. refl) (λ _. refl)
-
     pub lowered-mark : lowered t first c .mark ≤ c .mark
     unfolding lowered
     lowered-mark =
-        cond-cases (λ (d : Certificate). d .mark ≤ c .mark) (ltb 0 first && ltb t (c .term) && leb first (c .mark))
-        (withMark c (first - 1)) c
+        cond-cases (λ (d : Certificate). d .mark ≤ c .mark) _ _ _
         (λ e. let l : first ≤ c .mark = leb-true _ _ (and-right (ltb 0 first && ltb t (c .term)) _ e) in omega arith)
         (λ _. omega arith)
 
@@ -225,14 +216,20 @@ module _ (old new t : ℕ) where
     pub lowered-below : 0 < first → t < c .term → lowered t first c .mark < first
     unfolding lowered
     lowered-below p l =
-        cond-cases (λ (d : Certificate). d .mark < first) (ltb 0 first && ltb t (c .term) && leb first (c .mark))
-        (withMark c (first - 1)) c
+        cond-cases (λ (d : Certificate). d .mark < first) _ _ _
         (λ _. omega arith)
-        (λ e. leb-false _ _ (other (and-false (ltb 0 first && ltb t (c .term)) _ e)))
+        (λ e. leb-false _ _ (other (and-false _ _ e)))
       where
         other : (ltb 0 first && ltb t (c .term) ≡ false) ⊎ (leb first (c .mark) ≡ false) → leb first (c .mark) ≡ false
         other (inl n) = absurd (tf (sym (and-both (ltb 0 first) _ (lt-ltb _ _ p) (lt-ltb _ _ l)) ∙ n))
         other (inr n) = n
+
+    -- only the mark changes
+    pub lowered-same : electedOf (lowered t first c) ≡ electedOf c
+    unfolding lowered
+    lowered-same =
+        cond-cases (λ (d : Certificate). electedOf d ≡ electedOf c) (ltb 0 first && ltb t (c .term) && leb first (c .mark))
+        _ _ (λ _. refl) (λ _. refl)
 
   -- ---- what is owed within the mark was owed before
 
@@ -247,7 +244,7 @@ module _ (old new t : ℕ) where
 
     not-changed : changes old new t (suc i) (getD ts i 0) ≡ true → ⊥
     not-changed e =
-        let r : getD (recorded old new t ts) i 0 ≡ t = recorded-at ts i ∙ cond-true _ t (getD ts i 0) e in
+        let r : getD (recorded old new t ts) i 0 ≡ t = recorded-at ts i ∙ cond-true _ _ _ e in
         let s : getD (recorded old new t ts) i 0 < lowered t (firstChanged old new t ts) c .term = o .early in
         let f : (0 < firstChanged old new t ts) × (firstChanged old new t ts ≤ suc i) = first-changed ts i e in
         let g : t < c .term = omega (arith, same-term) in
@@ -258,7 +255,7 @@ module _ (old new t : ℕ) where
     owed-before : Owes p ts c i
     owed-before =
         ⊎-elim (λ e. absurd (not-changed e))
-        (λ e. let r : getD (recorded old new t ts) i 0 ≡ getD ts i 0 = recorded-at ts i ∙ cond-false _ t (getD ts i 0) e in
+        (λ e. let r : getD (recorded old new t ts) i 0 ≡ getD ts i 0 = recorded-at ts i ∙ cond-false _ _ _ e in
         let n : 0 < getD (recorded old new t ts) i 0 = o .nonzero in
         let s : getD (recorded old new t ts) i 0 < lowered t (firstChanged old new t ts) c .term = o .early in
         record {

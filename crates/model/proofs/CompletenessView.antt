@@ -19,8 +19,7 @@ use Rattle.model.proofs.CompletenessInvariant.{Sound, Complete, Invaria
 unlike-lg03 : (n : ℕ) (q : Prefix) (o : Option Prefix) (f : Finding) → List·Memᴰ f (unlike n q o) → f .name ≡ 3
 unlike-lg03 n q none f = λ m. absurd (List·Memᴰ·not-nil m)
 unlike-lg03 n q (some p) f =
-    cond-cases (λ (z : List Finding). List·Memᴰ f z → f .name ≡ 3) (same p q) []
-    (record { name = 3; node = n; index = length q; term = lastTerm q } ∷ [])
+    cond-cases (λ (z : List Finding). List·Memᴰ f z → f .name ≡ 3) (same p q) _ _
     (λ _ m. absurd (List·Memᴰ·not-nil m))
     (λ _ m. ap (λ (x : Finding). x .name) (List·Memᴰ·eq-of-singleton m))
 

@@ -3,7 +3,7 @@
 use Prim.Native.Nat.{_<_, _≤_}
 use native.Mathlib.Omega.{arith}
 use mathlib.Core.Path.{_≡_, refl, sym, _∙_, ap}
-use mathlib.Core.Bool.{true, false, cond, _&&_}
+use mathlib.Core.Bool.{true, false, _&&_}
 use mathlib.Core.Logic.{_⊎_, inl, inr, ⊎-elim}
 use mathlib.Core.List.{List, [], _∷_, List·Memᴰ, List·Memᴰ·head, List·Memᴰ·tail, List·Memᴰ·not-nil, List·Memᴰ·cases-cons, Memᴰ·cast, Memᴰ·append-left, Memᴰ·append-right, List·Memᴰ·append-cases, List·Memᴰ·eq-of-singleton}
 use lib.Dec.{ltb, eqb}
@@ -63,8 +63,8 @@ SettledByMembers = (l m : List Leader) → Ascending l → Ascending m → Withi
 pub below-before : (a b : Leader) → below a b ≡ true → Before a b
 below-before a b e =
     ⊎-elim (λ t. inl (ltb-true _ _ t))
-    (λ t. inr (eqb-true _ _ (and-left (eqb (a .term) (b .term)) _ t), ltb-true _ _ (and-right (eqb (a .term) (b .term)) _ t)))
-    (or-cases (ltb (a .term) (b .term)) _ e)
+    (λ t. inr (eqb-true _ _ (and-left _ _ t), ltb-true _ _ (and-right (eqb (a .term) (b .term)) _ t)))
+    (or-cases _ _ e)
 
 before-self : (a b : Leader) → a ≡ b → Before a b → ⊥
 before-self a b e (inl p) = let q : a .term ≡ b .term = ap (λ (x : Leader). x .term) e in omega arith
@@ -85,8 +85,8 @@ before-trans a b c (inr p) (inr q) =
 -- neither below the other: the same
 neither : (a b : Leader) → below a b ≡ false → below b a ≡ false → a ≡ b
 neither a b e f =
-    let p : b .term ≤ a .term = ltb-false _ _ (or-false-left (ltb (a .term) (b .term)) _ e) in
-    let q : a .term ≤ b .term = ltb-false _ _ (or-false-left (ltb (b .term) (a .term)) _ f) in
+    let p : b .term ≤ a .term = ltb-false _ _ (or-false-left _ _ e) in
+    let q : a .term ≤ b .term = ltb-false _ _ (or-false-left _ _ f) in
     let t : a .term ≡ b .term = omega arith in
     let r : b .leader ≤ a .leader = unless t (or-false-right (ltb (a .term) (b .term)) _ e) in
     let s : a .leader ≤ b .leader = unless (sym t) (or-false-right (ltb (b .term) (a .term)) _ f) in
@@ -95,7 +95,7 @@ neither a b e f =
   where
     unless : {x y : Leader} → x .term ≡ y .term → eqb (x .term) (y .term) && ltb (x .leader) (y .leader) ≡ false → y .leader ≤ x .leader
     unless {x} {y} t z =
-        ⊎-elim (λ n. absurd (eqb-false _ _ n t)) (λ n. ltb-false _ _ n) (and-false (eqb (x .term) (y .term)) _ z)
+        ⊎-elim (λ n. absurd (eqb-false _ _ n t)) (λ n. ltb-false _ _ n) (and-false _ _ z)
 
 -- ---- one more in its place
 
@@ -103,10 +103,9 @@ pub placed-cases : (a x : Leader) (l : List Leader) → List·Memᴰ x (placed a
 unfolding placed
 placed-cases a x [] = λ m. inl (List·Memᴰ·eq-of-singleton m)
 placed-cases a x (b ∷ l) =
-    cond-cases (λ (z : List Leader). List·Memᴰ x z → (x ≡ a) ⊎ List·Memᴰ x (b ∷ l)) (below a b) (a ∷ b ∷ l)
-    (cond (below b a) (b ∷ placed a l) (b ∷ l))
+    cond-cases (λ (z : List Leader). List·Memᴰ x z → (x ≡ a) ⊎ List·Memᴰ x (b ∷ l)) (below a b) _ _
     (λ _ m. List·Memᴰ·cases-cons m)
-    (λ _. cond-cases (λ (z : List Leader). List·Memᴰ x z → (x ≡ a) ⊎ List·Memᴰ x (b ∷ l)) (below b a) (b ∷ placed a l) (b ∷ l)
+    (λ _. cond-cases (λ (z : List Leader). List·Memᴰ x z → (x ≡ a) ⊎ List·Memᴰ x (b ∷ l)) (below b a) _ _
     (λ _ m. ⊎-elim (λ e. inr (List·Memᴰ·head e)) (λ k. ⊎-elim (λ e. inl e) (λ j. inr (List·Memᴰ·tail j)) (placed-cases a x l k))
     (List·Memᴰ·cases-cons m))
     (λ _ m. inr m))
@@ -115,18 +114,18 @@ pub placed-new : (a : Leader) (l : List Leader) → List·Memᴰ a (placed a l)
 unfolding placed
 placed-new a [] = List·Memᴰ·head refl
 placed-new a (b ∷ l) =
-    cond-cases (λ (z : List Leader). List·Memᴰ a z) (below a b) (a ∷ b ∷ l) (cond (below b a) (b ∷ placed a l) (b ∷ l))
+    cond-cases (λ (z : List Leader). List·Memᴰ a z) _ _ _
     (λ _. List·Memᴰ·head refl)
-    (λ e. cond-cases (λ (z : List Leader). List·Memᴰ a z) (below b a) (b ∷ placed a l) (b ∷ l)
+    (λ e. cond-cases (λ (z : List Leader). List·Memᴰ a z) _ _ _
     (λ _. List·Memᴰ·tail (placed-new a l)) (λ f. List·Memᴰ·head (neither a b e f)))
 
 pub placed-old : (a x : Leader) (l : List Leader) → List·Memᴰ x l → List·Memᴰ x (placed a l)
 unfolding placed
 placed-old a x [] m = absurd (List·Memᴰ·not-nil m)
 placed-old a x (b ∷ l) m =
-    cond-cases (λ (z : List Leader). List·Memᴰ x z) (below a b) (a ∷ b ∷ l) (cond (below b a) (b ∷ placed a l) (b ∷ l))
+    cond-cases (λ (z : List Leader). List·Memᴰ x z) (below a b) _ _
     (λ _. List·Memᴰ·tail m)
-    (λ _. cond-cases (λ (z : List Leader). List·Memᴰ x z) (below b a) (b ∷ placed a l) (b ∷ l)
+    (λ _. cond-cases (λ (z : List Leader). List·Memᴰ x z) (below b a) _ _
     (λ _. ⊎-elim (λ e. List·Memᴰ·head e) (λ k. List·Memᴰ·tail (placed-old a x l k)) (List·Memᴰ·cases-cons m))
     (λ _. m))
 
@@ -134,9 +133,9 @@ placed-ascending : (a : Leader) (l : List Leader) → Ascending l → Ascending 
 unfolding placed
 placed-ascending a [] u = (λ b m. absurd (List·Memᴰ·not-nil m), tt)
 placed-ascending a (b ∷ l) u =
-    cond-cases Ascending (below a b) (a ∷ b ∷ l) (cond (below b a) (b ∷ placed a l) (b ∷ l))
+    cond-cases Ascending (below a b) _ _
     (λ e. (λ x m. first e x (List·Memᴰ·cases-cons m), u))
-    (λ _. cond-cases Ascending (below b a) (b ∷ placed a l) (b ∷ l)
+    (λ _. cond-cases Ascending (below b a) _ _
     (λ e. (λ x m. later e x (placed-cases a x l m), placed-ascending a l (u .1)))
     (λ _. u))
   where
@@ -225,7 +224,7 @@ leader-of f a =
 
 of-leader : (f : Finding) (a : Leader) → f .name ≡ 5 → a ≡ pairOf f → List·Memᴰ a (leaderOf f)
 of-leader f a e p =
-    cond-cases (λ (z : List Leader). List·Memᴰ a z) (eqb (f .name) 5) (pairOf f ∷ []) []
+    cond-cases (λ (z : List Leader). List·Memᴰ a z) _ _ _
     (λ _. List·Memᴰ·head p) (λ t. absurd (eqb-false _ _ t e))
 
 pub leaders-of : (fs : List Finding) (a : Leader) → List·Memᴰ a (leadersOf fs) → Named fs a
