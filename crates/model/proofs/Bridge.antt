@@ -20,6 +20,7 @@ use Rattle.model.proofs.Run.{refused-untouched}
 use Rattle.model.proofs.Stored.{acceptedFronts}
 use Rattle.model.proofs.Matching.{Matching, log-matching}
 use Rattle.model.proofs.Committed.{Agreeing, committedSeen, committed-prefixes}
+use Rattle.model.proofs.Completeness.{KnownAtChecks, leader-completeness}
 
 -- ---- statements
 
@@ -80,6 +81,14 @@ module _ (M : Machine) where
   abbrev pub MachineCommitted : Type 0
   MachineCommitted = (ss : List Bytes) → PrintsNone 4 ss ↔ Agreeing (committedSeen ss)
 
+  -- Demand 3 of the machine: its leader list is that of the ledger it told.
+  abbrev pub MachineCompleteness : Type 0
+  MachineCompleteness =
+      (ss : List Bytes) (s : Bytes)
+      → read s ≡ readable check → isAccepted (M .answers (stateOf ss) s) ≡ true
+      → KnownAtChecks (ss ++ (s ∷ []))
+      → M .leaders (stateOf (ss ++ (s ∷ []))) ≡ ledgerLeaders (toldOf (ss ++ (s ∷ [])))
+
   -- ---- proofs
 
   states : (ss : List Bytes) (m : M .State) (h : History) → M .Stands m h → M .Stands (stateFrom m ss) (historyFrom h ss)
@@ -121,3 +130,10 @@ module _ (M : Machine) where
 
   pub machine-committed : MachineCommitted
   machine-committed ss = (λ n. committed-prefixes ss .0 (prints 4 ss .0 n), λ x. prints 4 ss .1 (committed-prefixes ss .1 x))
+
+  pub machine-completeness : MachineCompleteness
+  machine-completeness ss s c a k =
+      let after = stands-always (ss ++ (s ∷ [])) in
+      M .leadersAlike (stateOf (ss ++ (s ∷ []))) (historyOf (ss ++ (s ∷ []))) (after .0)
+      ∙ leader-completeness ss s c (sym (ap isAccepted (M .alike (stateOf ss) (historyOf ss) (stands-always ss .0) s)) ∙ a) k
+      ∙ ap ledgerLeaders (sym (after .2))

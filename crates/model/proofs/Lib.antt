@@ -1,11 +1,10 @@
 pub mod Tests
 pub mod Members
 pub mod Run
+pub mod Last
 pub mod Stored
 pub mod Matching
 pub mod Committed
-pub mod Bridge
-pub mod Marked
 pub mod Leaders
 pub mod CompletenessInvariant
 pub mod CompletenessView
@@ -13,7 +12,8 @@ pub mod CompletenessCommit
 pub mod CompletenessTerms
 pub mod CompletenessElection
 pub mod CompletenessCheck
-pub mod Last
 pub mod CompletenessLedger
 pub mod CompletenessKnown
 pub mod Completeness
+pub mod Bridge
+pub mod Marked
