@@ -1,0 +1,5 @@
+pub mod Widths
+pub mod Readers
+pub mod Given
+pub mod Listed
+pub mod Walks

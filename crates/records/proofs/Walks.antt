@@ -1,0 +1,38 @@
+-- Laws for the loops of callers: the entries of a readable view and the rows, one after the other.
+-- Assumes nothing.
+use Prim.Native.Nat.{ℕ, zero, suc, _+_, _-_, _*_, _^_, _≤_, _<_}
+use mathlib.Core.Path.{_≡_, refl, ap, sym, _∙_}
+use mathlib.Core.List.{List, [], _∷_}
+use native.Mathlib.Omega.{arith}
+use lib.ListN.{length}
+use Rattle.model.specs.Sizes.{Bytes}
+use Rattle.model.specs.Record.{Shown, Row}
+use Rattle.model.specs.Reading.{fieldAt, Part, got, fault, many, shown, row}
+use Rattle.records.specs.Answers.{keyed, ended}
+use Rattle.records.specs.Places.{indexOf, nodeOf, shownAt, nextAt, entriesAt, indexAt, lengthAt, rowAt, afterRow, rowsAt, Walk, RowWalk}
+use Rattle.records.proofs.Given.{shown-is, row-is}
+use Rattle.records.proofs.Listed.{Stands, keyed-is, walk-read, walk-item, walk-next}
+
+-- ---- entries
+
+entry-stands : (s : Bytes) (least k : ℕ) (x : Shown) (j : ℕ) → shown least s k ≡ got x j → Stands shownAt nextAt 304 s k x j
+entry-stands s least k x j e =
+    let h = shown-is s least k e in
+    record { value = h .value; end = h .next; within = omega (arith, h .short) }
+
+-- ---- rows
+
+row-stands : (s : Bytes) (least k : ℕ) (x : Row) (j : ℕ) → row least s k ≡ got x j → Stands rowAt afterRow 122 s k x j
+row-stands s least k x j e =
+    let h = row-is s least k e in
+    record { value = h .value; end = h .next; within = omega arith }
+
+-- ---- for the scanning loops
+
+-- an entry's index is small, and the entry has at most 304 bits
+pub entry-near : (s : Bytes) (least k i j : ℕ) → keyed indexOf (shown least s k) ≡ got i j → (i ≤ 256) × (j ≤ k + 304)
+entry-near s least k i j e =
+    let q = keyed-is indexOf (shown least s k) e in
+    let h = shown-is s least k (q .part) in
+    let v = ap indexOf (h .value) in
+    (omega (arith, h .within, v, q .same), omega (arith, h .next, h .short))

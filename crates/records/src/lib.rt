@@ -1,0 +1,5 @@
+// The record reader: what a clinic server's record says, or the first fault from the left. Document 01, "Record bits"
+// and "Refused records", decides. Nothing is asked of the bytes.
+pub mod bits; // bits.rt: the number in some bits, and a field that may be missing
+pub mod fields; // fields.rt: each field of a record, with its faults
+pub mod scan; // scan.rt: the entries of a view and the rows, looked at for faults
