@@ -17,7 +17,7 @@ use Rattle.records.specs.declared.bits.Number.{Number}
 use Rattle.records.specs.declared.bits.Fault.{Fault}
 use Rattle.records.specs.declared.scan.Item.{Item}
 use Rattle.records.specs.Answers.{refusalOf, numberPart, scanPart}
-use Rattle.records.specs.Places.{indexOf, nodeOf, indexAt, termAt, lengthAt, contentAt, nextAt, shownAt, configurationAt, rowAt, afterRow, afterConfiguration, floorConfigurationPlace, actualConfigurationPlace}
+use Rattle.records.specs.Places.{indexOf, nodeOf, indexAt, termAt, lengthAt, contentAt, nextAt, shownAt, configurationAt, rowAt, afterRow}
 
 -- ---- chains
 
@@ -177,8 +177,8 @@ shown-is s least k e =
     let g₄ = went s (content (g₃ .value) s (g₃ .place)) _ (g₃ .rest) in
     let c = content-is s (g₃ .place) (g₃ .value) (g₄ .first) in
     let p₁ = i .limited .field .next in
-    let p₂ : g₂ .place ≡ k + 10 + 32 = t .next ∙ ap (λ (a : ℕ). a + 32) p₁ in
-    let p₃ : g₃ .place ≡ k + 10 + 32 + 6 = n .field .next ∙ ap (λ (a : ℕ). a + 6) p₂ in
+    let p₂ : g₂ .place ≡ k + 42 = omega (arith, t .next, p₁) in
+    let p₃ : g₃ .place ≡ k + 48 = omega (arith, n .field .next, p₂) in
     let v₁ = i .limited .field .value in
     let v₂ : g₂ .value ≡ termAt s k = t .value ∙ ap (λ (a : ℕ). fieldAt s a 32) p₁ in
     let v₃ : g₃ .value ≡ lengthAt s k = n .field .value ∙ ap (λ (a : ℕ). fieldAt s a 6) p₂ in
@@ -199,8 +199,8 @@ shown-is s least k e =
 
 pub record Configured (s : Bytes) (k : ℕ) (x : Configuration) (j : ℕ) : Type 0 where
   pub value : x ≡ configurationAt s k
-  pub next : j ≡ afterConfiguration k
-  pub whole : afterConfiguration k ≤ 8 * length s
+  pub next : j ≡ k + 43
+  pub whole : k + 43 ≤ 8 * length s
 
 pub configuration-is : (s : Bytes) (k : ℕ) {x : Configuration} {j : ℕ} → configuration s k ≡ got x j → Configured s k x j
 unfolding configuration
@@ -212,8 +212,8 @@ configuration-is s k e =
     let g₃ = went s (governed (g₁ .value) 32 (2 ^ 32 - 1) s (g₂ .place)) _ (g₂ .rest) in
     let d = governed-is s (g₂ .place) (g₁ .value) 32 (2 ^ 32 - 1) (g₃ .first) in
     let p₁ = p .next in
-    let p₂ : g₂ .place ≡ k + 1 + 10 = i .next ∙ ap (λ (a : ℕ). a + 10) p₁ in
-    let p₃ : g₃ .place ≡ k + 1 + 10 + 32 = d .next ∙ ap (λ (a : ℕ). a + 32) p₂ in
+    let p₂ : g₂ .place ≡ k + 11 = omega (arith, i .next, p₁) in
+    let p₃ : g₃ .place ≡ k + 43 = omega (arith, d .next, p₂) in
     let v₁ = p .value in
     let v₂ = i .value ∙ ap (λ (a : ℕ). fieldAt s a 10) p₁ in
     let v₃ = d .value ∙ ap (λ (a : ℕ). fieldAt s a 32) p₂ in
@@ -247,11 +247,11 @@ row-is s least k e =
     let g₆ = went s (configuration s (g₅ .place)) _ (g₅ .rest) in
     let ac = configuration-is s (g₅ .place) (g₆ .first) in
     let p₁ = n .field .next in
-    let p₂ : g₂ .place ≡ k + 6 + 10 = f .next ∙ ap (λ (a : ℕ). a + 10) p₁ in
-    let p₃ : g₃ .place ≡ k + 6 + 10 + 10 = c .next ∙ ap (λ (a : ℕ). a + 10) p₂ in
-    let p₄ : g₄ .place ≡ floorConfigurationPlace k = l .next ∙ ap (λ (a : ℕ). a + 10) p₃ in
-    let p₅ : g₅ .place ≡ actualConfigurationPlace k = fc .next ∙ ap afterConfiguration p₄ in
-    let p₆ : g₆ .place ≡ afterRow s k = ac .next ∙ ap afterConfiguration p₅ in
+    let p₂ : g₂ .place ≡ k + 16 = omega (arith, f .next, p₁) in
+    let p₃ : g₃ .place ≡ k + 26 = omega (arith, c .next, p₂) in
+    let p₄ : g₄ .place ≡ k + 36 = omega (arith, l .next, p₃) in
+    let p₅ : g₅ .place ≡ k + 79 = omega (arith, fc .next, p₄) in
+    let p₆ : g₆ .place ≡ afterRow s k = omega (arith, ac .next, p₅) in
     let v₁ = n .field .value in
     let v₂ = f .value ∙ ap (λ (a : ℕ). fieldAt s a 10) p₁ in
     let v₃ = c .value ∙ ap (λ (a : ℕ). fieldAt s a 10) p₂ in

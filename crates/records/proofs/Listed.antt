@@ -9,7 +9,9 @@ use lib.ListN.{length}
 use Rattle.model.specs.Sizes.{Bytes}
 use Rattle.model.specs.Refusal.{Refusal}
 use Rattle.model.specs.Reading.{Part, got, fault, Reader, onward, return, many}
-use Rattle.records.specs.Answers.{keyed, ended}
+use Rattle.records.specs.declared.bits.Fault.{Fault}
+use Rattle.records.specs.declared.scan.Done.{Done}
+use Rattle.records.specs.Answers.{refusalOf, keyed, ended, donePart}
 use Rattle.records.specs.Places.{itemsAt, endAt, Listed}
 use Rattle.records.proofs.Given.{fault≢got, got-same, went}
 
@@ -28,6 +30,13 @@ keyed-is key (fault r) e = absurd (fault≢got e)
 pub keyed-fault : {A : Type 0} (key : A → ℕ) (p : Part A) {r : Refusal} → keyed key p ≡ fault r → p ≡ fault r
 keyed-fault key (got x k) e = absurd (fault≢got (sym e))
 keyed-fault key (fault q) e = ap fault (cc)
+
+-- a part of an item that was scanned
+pub done-is : {A : Type 0} (p : Part A) {r : Done} {k : ℕ} → ended p ≡ donePart r k → r ≡ Done.Whole → Keyed (λ x. 0) p 0 k
+done-is p {k = k} e q = keyed-is (λ x. 0) p (e ∙ ap (λ (r : Done). donePart r k) q)
+
+pub done-not : {A : Type 0} (p : Part A) {r : Done} (k : ℕ) {f : Fault} → ended p ≡ donePart r k → r ≡ Done.Not f → p ≡ fault (refusalOf f)
+done-not p k e q = keyed-fault (λ x. 0) p (e ∙ ap (λ (r : Done). donePart r k) q)
 
 -- the end of a list does not depend on its first item
 ended-cons : {A : Type 0} (s : Bytes) (x : A) (p : Part (List A)) → ended (onward s p (λ xs. return (x ∷ xs))) ≡ ended p

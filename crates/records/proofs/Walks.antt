@@ -10,6 +10,7 @@ use Rattle.model.specs.Record.{Shown, Row}
 use Rattle.model.specs.Reading.{fieldAt, Part, got, fault, many, shown, row}
 use Rattle.records.specs.Answers.{keyed, ended}
 use Rattle.records.specs.Places.{indexOf, nodeOf, shownAt, nextAt, entriesAt, indexAt, lengthAt, rowAt, afterRow, rowsAt, Walk, RowWalk}
+use Rattle.records.proofs.Widths.{field-lt}
 use Rattle.records.proofs.Given.{shown-is, row-is}
 use Rattle.records.proofs.Listed.{Stands, keyed-is, walk-read, walk-item, walk-next}
 
@@ -36,3 +37,11 @@ entry-near s least k i j e =
     let h = shown-is s least k (q .part) in
     let v = ap indexOf (h .value) in
     (omega (arith, h .within, v, q .same), omega (arith, h .next, h .short))
+
+-- a row's node is below 64, and the row has 122 bits
+pub row-near : (s : Bytes) (least k i j : ℕ) → keyed nodeOf (row least s k) ≡ got i j → (i ≤ 256) × (j ≤ k + 122)
+row-near s least k i j e =
+    let q = keyed-is nodeOf (row least s k) e in
+    let h = row-is s least k (q .part) in
+    let v = ap nodeOf (h .value) in
+    (omega (arith, field-lt s k 6, v, q .same), omega (arith, h .next))

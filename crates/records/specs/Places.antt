@@ -38,14 +38,14 @@ abbrev pub termAt : Bytes → ℕ → ℕ
 termAt s k = fieldAt s (k + 10) 32
 
 abbrev pub lengthAt : Bytes → ℕ → ℕ
-lengthAt s k = fieldAt s (k + 10 + 32) 6
+lengthAt s k = fieldAt s (k + 42) 6
 
 abbrev pub contentAt : Bytes → ℕ → List ℕ
-contentAt s k = bytesAt s (k + 10 + 32 + 6) (lengthAt s k)
+contentAt s k = bytesAt s (k + 48) (lengthAt s k)
 
 -- the bit after the entry
 abbrev pub nextAt : Bytes → ℕ → ℕ
-nextAt s k = k + 10 + 32 + 6 + 8 * lengthAt s k
+nextAt s k = k + 48 + 8 * lengthAt s k
 
 abbrev pub shownAt : Bytes → ℕ → Shown
 shownAt s k = record { index = indexAt s k; entry = record { term = termAt s k; content = contentAt s k } }
@@ -58,31 +58,21 @@ entriesAt s k n = itemsAt shownAt nextAt s k n
 
 abbrev pub configurationAt : Bytes → ℕ → Configuration
 configurationAt s k =
-    record { present = eqb (fieldAt s k 1) 1; index = fieldAt s (k + 1) 10; identity = fieldAt s (k + 1 + 10) 32 }
+    record { present = eqb (fieldAt s k 1) 1; index = fieldAt s (k + 1) 10; identity = fieldAt s (k + 11) 32 }
 
--- the bit after a configuration
-abbrev pub afterConfiguration : ℕ → ℕ
-afterConfiguration k = k + 1 + 10 + 32
-
--- the bits of a row's two configurations, and the bit after the row
-abbrev pub floorConfigurationPlace : ℕ → ℕ
-floorConfigurationPlace k = k + 6 + 10 + 10 + 10
-
-abbrev pub actualConfigurationPlace : ℕ → ℕ
-actualConfigurationPlace k = afterConfiguration (floorConfigurationPlace k)
-
+-- the bit after a row
 abbrev pub afterRow : Bytes → ℕ → ℕ
-afterRow s k = afterConfiguration (actualConfigurationPlace k)
+afterRow s k = k + 122
 
 abbrev pub rowAt : Bytes → ℕ → Row
 rowAt s k =
     record {
       node = fieldAt s k 6;
       floor = fieldAt s (k + 6) 10;
-      commit = fieldAt s (k + 6 + 10) 10;
-      last = fieldAt s (k + 6 + 10 + 10) 10;
-      floorConfiguration = configurationAt s (floorConfigurationPlace k);
-      actualConfiguration = configurationAt s (actualConfigurationPlace k);
+      commit = fieldAt s (k + 16) 10;
+      last = fieldAt s (k + 26) 10;
+      floorConfiguration = configurationAt s (k + 36);
+      actualConfiguration = configurationAt s (k + 79);
     }
 
 -- n rows from bit k on

@@ -88,8 +88,8 @@ pub fn scan_entries(s: &[u8], first: usize, count: usize) -> End
 
 // A configuration: present, index, identity.
 fn scan_configuration(s: &[u8], at: usize) -> Done
-    requires { ⌜ at ≤ 4294967296 ⌝ }
-    ensures { λ r. ⌜ ended (reading.configuration (now (s .entry)) at) ≡ donePart r (at + 1 + 10 + 32) ⌝ }
+    requires { ⌜ at ≤ 8589934592 ⌝ }
+    ensures { λ r. ⌜ ended (reading.configuration (now (s .entry)) at) ≡ donePart r (at + 43) ⌝ }
 {
     let p = match yes_no(s, at) {
         Flag::Says(p) => p,
@@ -105,4 +105,64 @@ fn scan_configuration(s: &[u8], at: usize) -> Done
         Number::Is(_) => Done::Whole,
         Number::Not(f) => Done::Not(f),
     }
+}
+
+// A row: node, floor, commit, last index, floor configuration, actual configuration.
+fn scan_row(s: &[u8], at: usize, least: u64) -> Item
+    requires { ⌜ at ≤ 4294967296 ⌝ }
+    ensures { λ r. ⌜ keyed nodeOf (reading.row least (now (s .entry)) at) ≡ scanPart r ⌝ }
+{
+    let n = match row_node(s, at, least) {
+        Number::Is(n) => n,
+        Number::Not(f) => return Item::Not(f),
+    };
+    let a = at + 6;
+    match index(s, a) {
+        Number::Is(_) => {}
+        Number::Not(f) => return Item::Not(f),
+    }
+    let b = a + 10;
+    match index(s, b) {
+        Number::Is(_) => {}
+        Number::Not(f) => return Item::Not(f),
+    }
+    let c = b + 10;
+    match index(s, c) {
+        Number::Is(_) => {}
+        Number::Not(f) => return Item::Not(f),
+    }
+    let d = c + 10;
+    match scan_configuration(s, d) {
+        Done::Whole => {}
+        Done::Not(f) => return Item::Not(f),
+    }
+    let e = d + 43;
+    match scan_configuration(s, e) {
+        Done::Whole => Item::On {
+            key: n,
+            next: e + 43,
+        },
+        Done::Not(f) => Item::Not(f),
+    }
+}
+
+// The rows.
+pub fn scan_rows(s: &[u8], first: usize, count: usize) -> End
+    requires { ⌜ first + 122 * count ≤ 4294967296 ⌝ }
+    ensures { λ r. ⌜ ended (reading.many reading.row nodeOf 0 count (now (s .entry)) first) ≡ endPart r ⌝ }
+{
+    let mut at = first;
+    let mut least: u64 = 0;
+    let mut left = count;
+    while 0 < left {
+        match scan_row(s, at, least) {
+            Item::On { key, next } => {
+                least = key + 1;
+                at = next;
+            }
+            Item::Not(f) => return End::Not(f),
+        }
+        left -= 1;
+    }
+    End::At(at)
 }

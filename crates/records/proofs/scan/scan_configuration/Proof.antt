@@ -5,7 +5,7 @@ use mathlib.Core.Logic.{⊎-elim}
 use native.Mathlib.Omega.{arith}
 use lib.ListN.{length, getD, set, length-set}
 use borrow.Author.Needs.{needs}
-use Rattle.model.specs.Reading.{configuration}
+use Rattle.model.specs.Reading.{got, configuration}
 use Rattle.records.proofs.scan.scan_configuration.Statement.{statement}
 use Rattle.records.proofs.scan.scan_configuration.Tie as tie
 use Rattle.records.proofs.scan.scan_configuration.Reads as reads
@@ -69,7 +69,7 @@ enum-known-f-3 c = search needs
 -- src/scan.rt:88:1
 returns-3 : tie.Need-returns-3
 unfolding configuration
-returns-3 c = rw (c .before .before .before .before .before .before .before .before .before .yes-no .ensures, c .before .before .before .before .before .before .before .p .given .1, c .before .before .before .before .before .governed .ensures, c .before .before .before .enum-told .given .1, c .before .before .governed2 .ensures, c .enum-told2 .given .1)
+returns-3 c = rw (c .before .before .before .before .before .before .before .before .before .yes-no .ensures, c .before .before .before .before .before .before .before .p .given .1, c .before .before .before .before .before .governed .ensures, c .before .before .before .enum-told .given .1, c .before .before .governed2 .ensures, c .enum-told2 .given .1) (ap (got 0) (omega arith))
 
 -- src/scan.rt:88:1
 returns-4 : tie.Need-returns-4
