@@ -13,6 +13,7 @@ use Rattle.model.specs.Sizes.{Bytes}
 use Rattle.model.specs.Refusal.{Refusal, bitsMissing, outOfLimit, notAbove}
 use Rattle.model.specs.Record.{Shown, Configuration, Row}
 use Rattle.model.specs.Reading.{fieldAt, bytesAt, Part, got, fault, Reader, onward, require, return, field, limited, governed, yesNo, content, entryIndex, rowNode, shown, configuration, row, many}
+use Rattle.records.proofs.Widths.{field-lt}
 use Rattle.records.specs.declared.bits.Number.{Number}
 use Rattle.records.specs.declared.bits.Fault.{Fault}
 use Rattle.records.specs.declared.scan.Item.{Item}
@@ -77,6 +78,9 @@ module _ (s : Bytes) (k : ℕ) where
   field-is w e =
       let q = required (leb (k + w) (8 * length s)) bitsMissing (fieldAt s k w) (k + w) e in
       record { whole = leb-true _ _ (q .test); value = sym (q .same); next = sym (q .next) }
+
+  pub field-below : (w : ℕ) {v j : ℕ} → field w s k ≡ got v j → v < 2 ^ w
+  field-below w e = rw (field-is w e .value) (field-lt s k w)
 
   pub limited-is : (w m : ℕ) {v j : ℕ} → limited w m s k ≡ got v j → Limited s k w m v j
   unfolding limited

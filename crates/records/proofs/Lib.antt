@@ -3,3 +3,4 @@ pub mod Readers
 pub mod Given
 pub mod Listed
 pub mod Walks
+pub mod Heads

@@ -11,7 +11,8 @@ use Rattle.model.specs.Refusal.{Refusal}
 use Rattle.model.specs.Reading.{Part, got, fault, Reader, onward, return, many}
 use Rattle.records.specs.declared.bits.Fault.{Fault}
 use Rattle.records.specs.declared.scan.Done.{Done}
-use Rattle.records.specs.Answers.{refusalOf, keyed, ended, donePart}
+use Rattle.records.specs.declared.scan.End.{End}
+use Rattle.records.specs.Answers.{refusalOf, keyed, ended, endPart, donePart}
 use Rattle.records.specs.Places.{itemsAt, endAt, Listed}
 use Rattle.records.proofs.Given.{fault≢got, got-same, went}
 
@@ -37,6 +38,9 @@ done-is p {k = k} e q = keyed-is (λ x. 0) p (e ∙ ap (λ (r : Done). donePart 
 
 pub done-not : {A : Type 0} (p : Part A) {r : Done} (k : ℕ) {f : Fault} → ended p ≡ donePart r k → r ≡ Done.Not f → p ≡ fault (refusalOf f)
 done-not p k e q = keyed-fault (λ x. 0) p (e ∙ ap (λ (r : Done). donePart r k) q)
+
+pub end-not : {A : Type 0} (p : Part A) {r : End} {f : Fault} → ended p ≡ endPart r → r ≡ End.Not f → p ≡ fault (refusalOf f)
+end-not p e q = keyed-fault (λ x. 0) p (e ∙ ap endPart q)
 
 -- the end of a list does not depend on its first item
 ended-cons : {A : Type 0} (s : Bytes) (x : A) (p : Part (List A)) → ended (onward s p (λ xs. return (x ∷ xs))) ≡ ended p

@@ -8,11 +8,12 @@ use lib.ListN.{length}
 use Rattle.model.specs.Sizes.{Bytes}
 use Rattle.model.specs.Record.{Shown, Row}
 use Rattle.model.specs.Reading.{fieldAt, Part, got, fault, many, shown, row}
-use Rattle.records.specs.Answers.{keyed, ended}
+use Rattle.records.specs.declared.scan.End.{End}
+use Rattle.records.specs.Answers.{keyed, ended, endPart}
 use Rattle.records.specs.Places.{indexOf, nodeOf, shownAt, nextAt, entriesAt, indexAt, lengthAt, rowAt, afterRow, rowsAt, Walk, RowWalk}
 use Rattle.records.proofs.Widths.{field-lt}
 use Rattle.records.proofs.Given.{shown-is, row-is}
-use Rattle.records.proofs.Listed.{Stands, keyed-is, walk-read, walk-item, walk-next}
+use Rattle.records.proofs.Listed.{Stands, keyed-is, many-is, walk-read, walk-item, walk-next}
 
 -- ---- entries
 
@@ -45,3 +46,17 @@ row-near s least k i j e =
     let h = row-is s least k (q .part) in
     let v = ap nodeOf (h .value) in
     (omega (arith, field-lt s k 6, v, q .same), omega (arith, h .next))
+
+-- entries that were scanned are those in the bytes
+pub entries-scanned : (s : Bytes) (k n : ℕ) {r : End} {e : ℕ} → ended (many shown indexOf 0 n s k) ≡ endPart r → r ≡ End.At e → many shown indexOf 0 n s k ≡ got (entriesAt s k n) e
+entries-scanned s k n {e = e} p q =
+    let d = keyed-is (λ x. 0) (many shown indexOf 0 n s k) (p ∙ ap endPart q) in
+    let m = many-is shown indexOf shownAt nextAt 304 s (entry-stands s) 0 k n (d .part) in
+    d .part ∙ ap (λ (es : List Shown). got es e) (m .values)
+
+-- rows that were scanned are those in the bytes
+pub rows-scanned : (s : Bytes) (k n : ℕ) {r : End} {e : ℕ} → ended (many row nodeOf 0 n s k) ≡ endPart r → r ≡ End.At e → many row nodeOf 0 n s k ≡ got (rowsAt s k n) e
+rows-scanned s k n {e = e} p q =
+    let d = keyed-is (λ x. 0) (many row nodeOf 0 n s k) (p ∙ ap endPart q) in
+    let m = many-is row nodeOf rowAt afterRow 122 s (row-stands s) 0 k n (d .part) in
+    d .part ∙ ap (λ (rs : List Row). got rs e) (m .values)

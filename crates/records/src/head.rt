@@ -1,7 +1,7 @@
 // A whole record, read: its kind with its plain fields, or the first fault from the left. Nothing is asked of the bytes.
 ghost use mathlib.Core.Path.{_≡_};
 ghost use Rattle.model.specs.Reading as reading;
-ghost use Rattle.records.specs.Heads.{readingOf, Told};
+ghost use Rattle.records.specs.Heads.{readingOf, finished, Told};
 use crate::bits::Fault;
 use crate::bits::Number;
 use crate::bits::field;
@@ -40,7 +40,7 @@ pub enum Head {
         leader: NodeId,
         term: Term,
         present: bool,
-        length: LogIndex,
+        length: usize,
     },
     // The completeness check.
     Check,
@@ -52,17 +52,15 @@ pub enum Head {
     Unreadable(Fault),
 }
 
-// The head where the fields that end before bit `at` fill the record.
-fn finished(s: &[u8], at: usize, head: Head) -> Head {
+// The head, where the fields that end before bit `at` fill the record.
+fn finish(s: &[u8], at: usize, head: Head) -> Head
+    ensures { λ r. ⌜ r ≡ finished (now (s .entry)) at head ⌝ }
+{
     if filled(s, at) {
         head
     } else {
         Head::Unreadable(Fault::Filling)
     }
-}
-
-fn node(s: &[u8], at: usize) -> Number {
-    field(s, at, 6)
 }
 
 // 1 view: node, count, entries.
@@ -77,16 +75,131 @@ fn read_view(s: &[u8]) -> Head
         Number::Is(c) => c,
         Number::Not(f) => return Head::Unreadable(f),
     };
-    let end = match scan_entries(s, 20, c as usize) {
-        End::At(end) => end,
-        End::Not(f) => return Head::Unreadable(f),
+    let count = c as usize;
+    match scan_entries(s, 20, count) {
+        End::At(end) => finish(
+            s,
+            end,
+            Head::View {
+                node: NodeId(n as u8),
+                count,
+            },
+        ),
+        End::Not(f) => Head::Unreadable(f),
+    }
+}
+
+// 2 commit: node, commit index.
+fn read_commit(s: &[u8]) -> Head
+    ensures { λ r. ⌜ reading.finish (now (s .entry)) (reading.commitFields (now (s .entry)) 4) ≡ readingOf (now (s .entry)) r ⌝ }
+{
+    let n = match field(s, 4, 6) {
+        Number::Is(n) => n,
+        Number::Not(f) => return Head::Unreadable(f),
     };
-    if filled(s, end) {
-        Head::View {
+    let i = match index(s, 10) {
+        Number::Is(i) => i,
+        Number::Not(f) => return Head::Unreadable(f),
+    };
+    finish(
+        s,
+        20,
+        Head::Commit {
             node: NodeId(n as u8),
-            count: c as usize,
-        }
-    } else {
-        Head::Unreadable(Fault::Filling)
+            index: LogIndex(i as usize),
+        },
+    )
+}
+
+// 3 commit terms: old, new, term.
+fn read_terms(s: &[u8]) -> Head
+    ensures { λ r. ⌜ reading.finish (now (s .entry)) (reading.termsFields (now (s .entry)) 4) ≡ readingOf (now (s .entry)) r ⌝ }
+{
+    let o = match index(s, 4) {
+        Number::Is(o) => o,
+        Number::Not(f) => return Head::Unreadable(f),
+    };
+    let n = match index(s, 14) {
+        Number::Is(n) => n,
+        Number::Not(f) => return Head::Unreadable(f),
+    };
+    let t = match field(s, 24, 32) {
+        Number::Is(t) => t,
+        Number::Not(f) => return Head::Unreadable(f),
+    };
+    finish(
+        s,
+        56,
+        Head::Terms {
+            old: LogIndex(o as usize),
+            new: LogIndex(n as usize),
+            term: Term(t as u32),
+        },
+    )
+}
+
+// 4 election: leader, term, log present, length.
+fn read_election(s: &[u8]) -> Head
+    ensures { λ r. ⌜ reading.finish (now (s .entry)) (reading.electionFields (now (s .entry)) 4) ≡ readingOf (now (s .entry)) r ⌝ }
+{
+    let l = match field(s, 4, 6) {
+        Number::Is(l) => l,
+        Number::Not(f) => return Head::Unreadable(f),
+    };
+    let t = match field(s, 10, 32) {
+        Number::Is(t) => t,
+        Number::Not(f) => return Head::Unreadable(f),
+    };
+    let p = match yes_no(s, 42) {
+        Flag::Says(p) => p,
+        Flag::Not(f) => return Head::Unreadable(f),
+    };
+    let n = match governed(s, 43, p, 10, 256) {
+        Number::Is(n) => n,
+        Number::Not(f) => return Head::Unreadable(f),
+    };
+    finish(
+        s,
+        53,
+        Head::Election {
+            leader: NodeId(l as u8),
+            term: Term(t as u32),
+            present: p,
+            length: n as usize,
+        },
+    )
+}
+
+// 6 rows: count, rows.
+fn read_rows(s: &[u8]) -> Head
+    ensures { λ r. ⌜ reading.finish (now (s .entry)) (reading.rowsFields (now (s .entry)) 4) ≡ readingOf (now (s .entry)) r ⌝ }
+{
+    let c = match index(s, 4) {
+        Number::Is(c) => c,
+        Number::Not(f) => return Head::Unreadable(f),
+    };
+    let count = c as usize;
+    match scan_rows(s, 14, count) {
+        End::At(end) => finish(s, end, Head::Rows { count }),
+        End::Not(f) => Head::Unreadable(f),
+    }
+}
+
+// Any bytes: every record starts with a kind of 4 bits.
+pub fn read(s: &[u8]) -> Head
+    ensures { λ r. ⌜ Told (now (s .entry)) r ⌝ }
+{
+    let kind = match field(s, 0, 4) {
+        Number::Is(kind) => kind,
+        Number::Not(f) => return Head::Unreadable(f),
+    };
+    match kind {
+        1 => read_view(s),
+        2 => read_commit(s),
+        3 => read_terms(s),
+        4 => read_election(s),
+        5 => finish(s, 4, Head::Check),
+        6 => read_rows(s),
+        _ => Head::Unreadable(Fault::UnknownKind),
     }
 }
