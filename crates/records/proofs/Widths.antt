@@ -2,14 +2,15 @@
 -- Assumes nothing.
 use Prim.Native.Nat.{ℕ, zero, suc, _+_, _-_, _*_, _/_, _%_, _^_, _≤_, _<_}
 use mathlib.Core.Path.{_≡_, refl, ap, sym, _∙_, subst}
-use mathlib.Core.List.{List}
+use mathlib.Core.List.{List, [], _∷_, _++_, append-assoc}
 use native.Mathlib.Omega.{arith}
-use native.Mathlib.Nat.{add-zero, pow-suc, add-suc, mod-one, mod-eq-of-lt, mod-lt, one-mul, mul-one, lt-of-lt-of-le}
+use native.Mathlib.Nat.{add-zero, zero-add, div-one, div-eq-of-lt, mul-add-div-right, pow-suc, add-suc, mod-one, mod-eq-of-lt, mod-lt, one-mul, mul-one, lt-of-lt-of-le}
 use native.Mathlib.Numerals.{add-one}
-use lib.Pow.{pow-pos, pow-lt, pow-mono, shl-exact, shr-shr, mod-pow-add}
-use lib.ListN.{length, getD}
+use lib.Pow.{high, low, pow-add, shr-lt, shr-mod, pow-pos, pow-lt, pow-mono, shl-exact, shr-shr, mod-pow-add}
+use lib.ListN.{length, getD, set, replicate}
+use lib.Seq.{set-at}
 use Rattle.model.specs.Sizes.{Bytes}
-use Rattle.model.specs.Reading.{bitAt, fieldAt}
+use Rattle.model.specs.Reading.{bitAt, fieldAt, bytesAt}
 
 -- a number of w bits
 pub field-lt : (s : Bytes) (k w : ℕ) → fieldAt s k w < 2 ^ w
@@ -67,3 +68,71 @@ turn s k p n v e l h w =
     let z : (1 * 2 ^ n) % 2 ^ 64 ≡ 2 ^ n = one-shl n (omega arith) in
     let y : (v * 2 ^ n) % 2 ^ 64 ≡ v * 2 ^ n = shl-exact i n 64 (rw e (field-lt s k i)) (omega arith) in
     rw (y, z, e, q, r, t) (sym (more s k i n (omega arith)))
+
+-- ---- content bytes, through a window of two
+
+-- the m low bits of x and the o high bits of y
+window-splits : (x y m o : ℕ) → m + o ≡ 8 → y < 256 → (x * 256 + y) / 2 ^ m % 256 ≡ (x % 2 ^ m) * 2 ^ o + y / 2 ^ m
+window-splits x y m o e h =
+    let p : 2 ^ (m + o) ≡ 256 = ap (λ (z : ℕ). 2 ^ z) e in
+    let q : x * 256 ≡ x * 2 ^ o * 2 ^ m = omega (arith, ap (λ (z : ℕ). x * z) (sym p ∙ pow-add 2 m o)) in
+    let l : y < 2 ^ (o + m) = lt-of-lt-of-le h (pow-mono {i = 8} (omega arith)) in
+    let r : y / 2 ^ m < 2 ^ o = shr-lt o m l in
+    rw (q, mul-add-div-right (pow-pos m) (x * 2 ^ o) y, ← p, mod-pow-add (x * 2 ^ o + y / 2 ^ m) m o, high x o r, low x o r)
+
+-- the bits from bit k to the end of its byte
+bits-first : (s : Bytes) (k m : ℕ) → k % 8 + m ≡ 8 → fieldAt s k m ≡ getD s (k / 8) 0 % 2 ^ m
+bits-first s k m h =
+    let z : 8 - k % 8 - m ≡ 0 = omega arith in
+    let e = rw (zero-add m, add-zero k, z) at (more s k 0 m (omega arith)) in
+    e ∙ rw (← field-none s k 0 refl, div-one (getD s (k / 8) 0)) (omega arith)
+
+-- o bits of the next byte
+bits-then : (s : Bytes) (k m o : ℕ) → k % 8 ≡ o → m + o ≡ 8 → getD s ((k + 7) / 8) 0 < 256
+    → fieldAt s k 8 ≡ fieldAt s k m * 2 ^ o + getD s ((k + 7) / 8) 0 / 2 ^ m
+bits-then s k m zero e f h =
+    let g : m ≡ 8 = omega arith in
+    rw (g, div-eq-of-lt h) (omega arith)
+bits-then s k m (suc o) e f h =
+    let z : (k + m) % 8 ≡ 0 = omega arith in
+    let q : (k + m) / 8 ≡ (k + 7) / 8 = omega arith in
+    let r : 8 - 0 - suc o ≡ m = omega arith in
+    let l : getD s ((k + 7) / 8) 0 < 2 ^ (suc o + m) = lt-of-lt-of-le h (pow-mono {i = 8} (omega arith)) in
+    let n = rw (f, z, q, r, shr-mod (suc o) m l) at (more s k m (suc o) (omega arith)) in
+    n
+
+-- eight bits from bit k on
+window : (s : Bytes) (k : ℕ) → getD s ((k + 7) / 8) 0 < 256
+    → (getD s (k / 8) 0 * 256 + getD s ((k + 7) / 8) 0) / 2 ^ (8 - k % 8) % 256 ≡ fieldAt s k 8
+window s k h =
+    let m : ℕ = 8 - k % 8 in
+    window-splits _ _ m (k % 8) (omega arith) h
+    ∙ sym (bits-then s k m (k % 8) refl (omega arith) h ∙ ap (λ (v : ℕ). v * 2 ^ (k % 8) + getD s ((k + 7) / 8) 0 / 2 ^ m) (bits-first s k m (omega arith)))
+
+-- the byte i of the content at bit k
+pub window-at : (s : Bytes) (k i : ℕ) → getD s ((k + 7) / 8 + i) 0 < 256
+    → (getD s (k / 8 + i) 0 * 256 + getD s ((k + 7) / 8 + i) 0) / 2 ^ (8 - k % 8) % 256 ≡ fieldAt s (k + 8 * i) 8
+window-at s k i h =
+    let p : k / 8 + i ≡ (k + 8 * i) / 8 = omega arith in
+    let q : (k + 7) / 8 + i ≡ (k + 8 * i + 7) / 8 = omega arith in
+    let r : k % 8 ≡ (k + 8 * i) % 8 = omega arith in
+    rw (p, q, r) (window s (k + 8 * i) (rw q at h))
+
+bytes-snoc : (s : Bytes) (k i : ℕ) → bytesAt s k (suc i) ≡ bytesAt s k i ++ (fieldAt s (k + 8 * i) 8 ∷ [])
+unfolding bytesAt
+bytes-snoc s k zero = ap (λ (a : ℕ). fieldAt s a 8 ∷ []) (omega arith)
+bytes-snoc s k (suc i) =
+    let e : k + 8 + 8 * i ≡ k + 8 * suc i = omega arith in
+    ap (λ (l : List ℕ). fieldAt s k 8 ∷ l) (bytes-snoc s (k + 8) i ∙ ap (λ (a : ℕ). bytesAt s (k + 8) i ++ (fieldAt s a 8 ∷ [])) e)
+
+pub bytes-length : (s : Bytes) (k n : ℕ) → length (bytesAt s k n) ≡ n
+unfolding bytesAt
+bytes-length s k zero = refl
+bytes-length s k (suc n) = ap suc (bytes-length s (k + 8) n)
+
+-- one byte more in a padded array
+pub padded-more : (s : Bytes) (k i v : ℕ) → i < 32 → v ≡ fieldAt s (k + 8 * i) 8
+    → set (bytesAt s k i ++ replicate (32 - i) 0) i v ≡ bytesAt s k (i + 1) ++ replicate (32 - (i + 1)) 0
+padded-more s k i v h e =
+    let n : 32 - i ≡ suc (32 - (i + 1)) = omega arith in
+    rw (n, add-one i, bytes-snoc s k i, append-assoc, ← e) (set-at (bytesAt s k i) 0 (replicate (32 - suc i) 0) v i (bytes-length s k i))

@@ -1,0 +1,30 @@
+-- The entries and rows that a walk gives, as the code's values.
+-- Assumes nothing.
+use Prim.Native.Nat.{ℕ, _+_, _-_, _*_, _^_, _≤_}
+use mathlib.Core.List.{List, [], _∷_, _++_}
+use lib.ListN.{length, replicate}
+use Rattle.model.specs.Sizes.{Bytes}
+use Rattle.model.specs.Reading.{fieldAt, bytesAt}
+use Rattle.records.specs.declared.walk.ShownEntry.{ShownEntry}
+use Rattle.records.specs.Places.{indexAt, termAt, lengthAt, contentAt, nextAt}
+
+-- n bytes, and zeros up to 32
+abbrev pub padded : List ℕ → ℕ → List ℕ
+padded bs n = bs ++ replicate (32 - n) 0
+
+-- the entry at bit k
+abbrev pub shownEntry : Bytes → ℕ → ShownEntry
+shownEntry s k =
+    record {
+      index = record { 0 = indexAt s k };
+      term = record { 0 = termAt s k };
+      length = lengthAt s k;
+      content = padded (contentAt s k) (lengthAt s k);
+      next = nextAt s k;
+    }
+
+-- an entry stands at bit k: what a walk knows of each of its entries
+pub record Here (s : Bytes) (k : ℕ) : Type 0 where
+  pub near : k ≤ 2 ^ 32
+  pub short : lengthAt s k ≤ 32
+  pub whole : nextAt s k ≤ 8 * length s
