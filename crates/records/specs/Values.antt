@@ -2,11 +2,14 @@
 -- Assumes nothing.
 use Prim.Native.Nat.{ℕ, _+_, _-_, _*_, _^_, _≤_}
 use mathlib.Core.List.{List, [], _∷_, _++_}
+use lib.Dec.{eqb}
 use lib.ListN.{length, replicate}
 use Rattle.model.specs.Sizes.{Bytes}
 use Rattle.model.specs.Reading.{fieldAt, bytesAt}
 use Rattle.records.specs.declared.walk.ShownEntry.{ShownEntry}
-use Rattle.records.specs.Places.{indexAt, termAt, lengthAt, contentAt, nextAt}
+use Rattle.records.specs.declared.walk.Configuration.{Configuration}
+use Rattle.records.specs.declared.walk.Row.{Row}
+use Rattle.records.specs.Places.{indexAt, termAt, lengthAt, contentAt, nextAt, afterRow}
 
 -- n bytes, and zeros up to 32
 abbrev pub padded : List ℕ → ℕ → List ℕ
@@ -28,3 +31,29 @@ pub record Here (s : Bytes) (k : ℕ) : Type 0 where
   pub near : k ≤ 2 ^ 32
   pub short : lengthAt s k ≤ 32
   pub whole : nextAt s k ≤ 8 * length s
+
+abbrev pub configurationValue : Bytes → ℕ → Configuration
+configurationValue s k =
+    record {
+      present = eqb (fieldAt s k 1) 1;
+      index = record { 0 = fieldAt s (k + 1) 10 };
+      identity = fieldAt s (k + 11) 32;
+    }
+
+-- the row at bit k
+abbrev pub rowValue : Bytes → ℕ → Row
+rowValue s k =
+    record {
+      node = record { 0 = fieldAt s k 6 };
+      floor = record { 0 = fieldAt s (k + 6) 10 };
+      commit = record { 0 = fieldAt s (k + 16) 10 };
+      last = record { 0 = fieldAt s (k + 26) 10 };
+      «floor_configuration» = configurationValue s (k + 36);
+      «actual_configuration» = configurationValue s (k + 79);
+      next = afterRow s k;
+    }
+
+-- a row stands at bit k
+pub record RowHere (s : Bytes) (k : ℕ) : Type 0 where
+  pub near : k ≤ 2 ^ 32
+  pub whole : afterRow s k ≤ 8 * length s

@@ -5,8 +5,7 @@ ghost use Prim.Native.Nat.{ℕ, _+_, _*_, _≤_};
 ghost use lib.ListN.{length};
 ghost use Rattle.model.specs.Reading as reading;
 ghost use Rattle.records.specs.Places as places;
-ghost use Rattle.records.specs.Values.{padded, shownEntry, Here};
-
+ghost use Rattle.records.specs.Values.{padded, shownEntry, configurationValue, rowValue, Here, RowHere};
 use crate::bits::bits_at;
 use units::LogIndex;
 use units::NodeId;
@@ -26,6 +25,31 @@ pub struct ShownEntry {
     pub length: usize,
     pub content: [u8; 32],
     pub next: usize,
+}
+
+// A row's configuration; where it is absent, its index and identity are zero.
+pub struct Configuration {
+    pub present: bool,
+    pub index: LogIndex,
+    pub identity: u32,
+}
+
+// A row, with the bit after it.
+pub struct Row {
+    pub node: NodeId,
+    pub floor: LogIndex,
+    pub commit: LogIndex,
+    pub last: LogIndex,
+    pub floor_configuration: Configuration,
+    pub actual_configuration: Configuration,
+    pub next: usize,
+}
+
+// The front of a view: how many entries it has. And the index of the view's last entry, past a gap too; zero where there
+// is none.
+pub struct Front {
+    pub length: usize,
+    pub last: LogIndex,
 }
 
 fn wide(x: u8) -> u16
@@ -51,4 +75,75 @@ fn content_at(s: &[u8], at: usize, n: usize) -> [u8; 32]
         i += 1;
     }
     out
+}
+
+// The index of the entry at bit `at`.
+pub fn index_at(s: &[u8], at: usize) -> LogIndex
+    requires { ⌜ Here (now s) at ⌝ }
+    ensures { λ r. ⌜ r .0 ≡ places.indexAt (now (s .entry)) at ⌝ }
+{
+    LogIndex(bits_at(s, at, 10) as usize)
+}
+
+// The bit after the entry at bit `at`.
+pub fn next_at(s: &[u8], at: usize) -> usize
+    requires { ⌜ Here (now s) at ⌝ }
+    ensures { λ r. ⌜ r ≡ places.nextAt (now (s .entry)) at ⌝ }
+{
+    at + 48 + 8 * bits_at(s, at + 42, 6) as usize
+}
+
+// The entry at bit `at`.
+pub fn entry_at(s: &[u8], at: usize) -> ShownEntry
+    requires { ⌜ Here (now s) at ⌝ }
+    ensures { λ r. ⌜ r ≡ shownEntry (now (s .entry)) at ⌝ }
+{
+    let i = bits_at(s, at, 10);
+    let t = bits_at(s, at + 10, 32);
+    let n = bits_at(s, at + 42, 6) as usize;
+    let content = content_at(s, at + 48, n);
+    ShownEntry {
+        index: LogIndex(i as usize),
+        term: Term(t as u32),
+        length: n,
+        content,
+        next: at + 48 + 8 * n,
+    }
+}
+
+// The configuration at bit `at`.
+fn configuration_at(s: &[u8], at: usize) -> Configuration
+    requires { ⌜ (at ≤ 8589934592) × (at + 43 ≤ 8 * length (now s)) ⌝ }
+    ensures { λ r. ⌜ r ≡ configurationValue (now (s .entry)) at ⌝ }
+{
+    let p = bits_at(s, at, 1);
+    let i = bits_at(s, at + 1, 10);
+    let d = bits_at(s, at + 11, 32);
+    Configuration {
+        present: p == 1,
+        index: LogIndex(i as usize),
+        identity: d as u32,
+    }
+}
+
+// The row at bit `at`.
+pub fn row_at(s: &[u8], at: usize) -> Row
+    requires { ⌜ RowHere (now s) at ⌝ }
+    ensures { λ r. ⌜ r ≡ rowValue (now (s .entry)) at ⌝ }
+{
+    let n = bits_at(s, at, 6);
+    let f = bits_at(s, at + 6, 10);
+    let c = bits_at(s, at + 16, 10);
+    let l = bits_at(s, at + 26, 10);
+    let floor = configuration_at(s, at + 36);
+    let actual = configuration_at(s, at + 79);
+    Row {
+        node: NodeId(n as u8),
+        floor: LogIndex(f as usize),
+        commit: LogIndex(c as usize),
+        last: LogIndex(l as usize),
+        floor_configuration: floor,
+        actual_configuration: actual,
+        next: at + 122,
+    }
 }
