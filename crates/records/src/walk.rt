@@ -5,7 +5,8 @@ ghost use Prim.Native.Nat.{ℕ, _+_, _*_, _≤_};
 ghost use lib.ListN.{length};
 ghost use Rattle.model.specs.Reading as reading;
 ghost use Rattle.records.specs.Places as places;
-ghost use Rattle.records.specs.Values.{padded, shownEntry, configurationValue, rowValue, Here, RowHere};
+ghost use Rattle.model.specs.Record as model;
+ghost use Rattle.records.specs.Values.{padded, frontValue, shownEntry, configurationValue, rowValue, Here, RowHere};
 use crate::bits::bits_at;
 use units::LogIndex;
 use units::NodeId;
@@ -145,5 +146,54 @@ pub fn row_at(s: &[u8], at: usize) -> Row
         floor_configuration: floor,
         actual_configuration: actual,
         next: at + 122,
+    }
+}
+
+// How many entries the front of a view has: it ends at the first gap.
+fn front_length(s: &[u8], count: usize) -> usize
+    requires { ⌜ places.Walk (now s) places.firstEntry count ⌝ }
+    ensures { λ r. ⌜ r ≡ length (model.front (places.entriesAt (now (s .entry)) places.firstEntry count)) ⌝ }
+{
+    let mut at = FIRST_ENTRY;
+    let mut left = count;
+    let mut n = 0;
+    while 0 < left {
+        let i = index_at(s, at).0;
+        if i != n + 1 {
+            return n;
+        }
+        n += 1;
+        at = next_at(s, at);
+        left -= 1;
+    }
+    n
+}
+
+// The index of a view's last entry.
+fn last_index(s: &[u8], count: usize) -> usize
+    requires { ⌜ places.Walk (now s) places.firstEntry count ⌝ }
+    ensures { λ r. ⌜ r ≡ model.lastIndex (places.entriesAt (now (s .entry)) places.firstEntry count) ⌝ }
+{
+    let mut at = FIRST_ENTRY;
+    let mut left = count;
+    let mut last = 0;
+    while 0 < left {
+        last = index_at(s, at).0;
+        at = next_at(s, at);
+        left -= 1;
+    }
+    last
+}
+
+// The front of a view of `count` entries, and its last index.
+pub fn front_of(s: &[u8], count: usize) -> Front
+    requires { ⌜ places.Walk (now s) places.firstEntry count ⌝ }
+    ensures { λ r. ⌜ r ≡ frontValue (places.entriesAt (now (s .entry)) places.firstEntry count) ⌝ }
+{
+    let n = front_length(s, count);
+    let last = last_index(s, count);
+    Front {
+        length: n,
+        last: LogIndex(last),
     }
 }
