@@ -4,3 +4,4 @@ pub mod Given
 pub mod Listed
 pub mod Walks
 pub mod Heads
+pub mod Readable

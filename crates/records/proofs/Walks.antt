@@ -20,14 +20,14 @@ use Rattle.records.proofs.Listed.{Stands, keyed-is, many-is, walk-read,
 
 -- ---- entries
 
-entry-stands : (s : Bytes) (least k : ℕ) (x : Shown) (j : ℕ) → shown least s k ≡ got x j → Stands shownAt nextAt 304 s k x j
+pub entry-stands : (s : Bytes) (least k : ℕ) (x : Shown) (j : ℕ) → shown least s k ≡ got x j → Stands shownAt nextAt 304 s k x j
 entry-stands s least k x j e =
     let h = shown-is s least k e in
     record { value = h .value; end = h .next; within = omega (arith, h .short) }
 
 -- ---- rows
 
-row-stands : (s : Bytes) (least k : ℕ) (x : Row) (j : ℕ) → row least s k ≡ got x j → Stands rowAt afterRow 122 s k x j
+pub row-stands : (s : Bytes) (least k : ℕ) (x : Row) (j : ℕ) → row least s k ≡ got x j → Stands rowAt afterRow 122 s k x j
 row-stands s least k x j e =
     let h = row-is s least k e in
     record { value = h .value; end = h .next; within = omega arith }
