@@ -4,7 +4,8 @@ ghost use Prim.Native.Nat.{ℕ, _+_, _*_, _≤_};
 ghost use lib.ListN.{length};
 ghost use lib.Dec.{leb};
 ghost use Rattle.model.specs.Reading as reading;
-ghost use Rattle.records.specs.Answers.{numberPart};
+ghost use Rattle.model.specs.Refusal as refusal;
+ghost use Rattle.records.specs.Answers.{refusalOf, numberPart};
 
 // Why a record is unreadable.
 pub enum Fault {
@@ -18,6 +19,19 @@ pub enum Fault {
     OutOfLimit,
     // An entry index or a row's node is not above the one before it.
     NotAbove,
+}
+
+// Document 01's number of a fault.
+pub fn fault_number(f: Fault) -> u8
+    ensures { λ r. ⌜ r ≡ refusal.number (refusalOf f) ⌝ }
+{
+    match f {
+        Fault::UnknownKind => 1,
+        Fault::BitsMissing => 2,
+        Fault::Filling => 3,
+        Fault::OutOfLimit => 4,
+        Fault::NotAbove => 5,
+    }
 }
 
 // A field: its number, or its first fault.
