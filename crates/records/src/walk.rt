@@ -54,7 +54,7 @@ pub struct Front {
 }
 
 fn wide(x: u8) -> u16
-    ensures { λ r. ⌜ r ≡ x ⌝ }
+    ensures { λ r. ⌜ (r ≡ x) × (r ≤ 255) ⌝ }
 {
     x as u16
 }

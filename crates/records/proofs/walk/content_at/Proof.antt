@@ -52,7 +52,7 @@ wide-requires c κs = search needs
 
 -- src/walk.rt:49:22
 mul-window : tie.Need-mul-window Inv-loop μ-loop
-mul-window c = omega (arith, c .wide .ensures, c .before .shared-slice-known2 .given (c .before .before .before .before .before .args .at / 8 + c .before .before .before .loop .i))
+mul-window c = omega arith
 
 -- src/walk.rt:49:56
 add-wide-2 : tie.Need-add-wide-2 Inv-loop μ-loop
@@ -68,7 +68,7 @@ wide-requires-2 c κs = search needs
 
 -- src/walk.rt:49:22
 add-window : tie.Need-add-window Inv-loop μ-loop
-add-window c = omega (arith, c .before .before .wide .ensures, c .before .before .before .shared-slice-known2 .given (c .before .before .before .before .before .before .before .args .at / 8 + c .before .before .before .before .before .loop .i), c .wide2 .ensures, low-byte c)
+add-window c = omega arith
 
 -- src/walk.rt:50:30
 cast-out : tie.Need-cast-out Inv-loop μ-loop
@@ -96,7 +96,7 @@ loop-less c = search needs
 
 -- src/walk.rt:48:5
 loop-again : tie.Need-loop-again Inv-loop μ-loop
-loop-again c = (omega arith, rw (c .before .before .before .before .before .loop .inv .1) (padded-more _ _ _ _ (omega arith) (rw (c .before .before .wide .ensures, c .wide2 .ensures) (window-at _ _ _ (low-byte c)))))
+loop-again c = (omega arith, rw (c .before .before .before .before .before .loop .inv .1) (padded-more _ _ _ _ (omega arith) (rw (c .before .before .wide .ensures .0, c .wide2 .ensures .0) (window-at _ _ _ (low-byte c)))))
 
 -- src/walk.rt:39:1
 returns : tie.Need-returns Inv-loop μ-loop
