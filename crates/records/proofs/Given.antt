@@ -96,6 +96,11 @@ module _ (s : Bytes) (k : ℕ) where
   unfolding governed
   governed-is p w m e = limited-is w (cond p m 0) e .field
 
+  pub governed-within : (p : Bool) (w m : ℕ) {v j : ℕ} → governed p w m s k ≡ got v j → v ≤ m
+  unfolding governed
+  governed-within true w m e = limited-is w m e .within
+  governed-within false w m e = omega (arith, limited-is w 0 e .within)
+
   -- a yes/no
   pub record Flagged (p : Bool) (j : ℕ) : Type 0 where
     pub whole : k + 1 ≤ 8 * length s

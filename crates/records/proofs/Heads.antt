@@ -1,4 +1,4 @@
--- Laws of the whole record: its last test, and that an answer which stands for what the model reads is the model's.
+-- Laws of the whole record: its last test, and the way back from an answer to the model's.
 -- Assumes nothing.
 use Prim.Native.Nat.{ℕ, zero, suc, _+_, _-_, _*_, _^_, _≤_, _<_}
 use mathlib.Core.Path.{_≡_, refl, ap, sym, _∙_}
@@ -6,12 +6,12 @@ use mathlib.Core.Bool.{Bool, true, false, cond}
 use Rattle.model.specs.Sizes.{Bytes}
 use Rattle.model.specs.Refusal.{Refusal, filling}
 use Rattle.model.specs.Record.{Record}
-use Rattle.model.specs.Reading.{Reading, readable, unreadable, Part, got, fault, filled, finish, read}
+use Rattle.model.specs.Reading.{Reading, readable, unreadable, Part, got, fault, filled, finish}
 use Rattle.records.specs.declared.bits.Fault.{Fault}
 use Rattle.records.specs.declared.head.Head.{Head}
 use Rattle.records.specs.Answers.{refusalOf}
 use Rattle.records.specs.Places.{shownAt, nextAt, rowAt, afterRow, firstEntry, firstRow}
-use Rattle.records.specs.Heads.{readingOf, finished, headOf, faultOf, Told}
+use Rattle.records.specs.Heads.{readingOf, finished, headOf, faultOf}
 use Rattle.records.proofs.Listed.{items-length}
 
 -- the last test of a record is the code's
@@ -29,7 +29,8 @@ fault-back Fault.Filling = refl
 fault-back Fault.OutOfLimit = refl
 fault-back Fault.NotAbove = refl
 
-head-back : (s : Bytes) (r : Head) → r ≡ headOf (readingOf s r)
+-- an answer that stands for what the model reads is the model's
+pub head-back : (s : Bytes) (r : Head) → r ≡ headOf (readingOf s r)
 head-back s (Head.View n c) = ap (Head.View n) (sym (items-length shownAt nextAt s firstEntry c))
 head-back s (Head.Commit n i) = refl
 head-back s (Head.Terms o n t) = refl
@@ -37,7 +38,3 @@ head-back s (Head.Election l t p n) = refl
 head-back s Head.Check = refl
 head-back s (Head.Rows c) = ap Head.Rows (sym (items-length rowAt afterRow s firstRow c))
 head-back s (Head.Unreadable f) = ap Head.Unreadable (fault-back f)
-
--- an answer that stands for what the model reads
-pub told : (s : Bytes) (r : Head) → read s ≡ readingOf s r → Told s r
-told s r e = record { head = head-back s r ∙ ap headOf (sym e); reading = e }

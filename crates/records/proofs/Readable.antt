@@ -1,5 +1,5 @@
--- From a record that the model reads to the walk over its entries or rows: these are the ones in the bytes, in order, and
--- each of them is readable.
+-- From a record that the model reads to what `read` tells of it: the limits of its fields, and the walk over its entries or
+-- rows, which are the ones in the bytes, in order, each readable.
 -- Assumes nothing.
 use Prim.Native.Nat.{ℕ, zero, suc, _+_, _-_, _*_, _^_, _≤_, _<_}
 use mathlib.Core.Path.{_≡_, refl, ap, sym, _∙_}
@@ -16,10 +16,12 @@ use Rattle.model.specs.Record.{Shown, Row, Record, view, commit, terms, electio
 use Rattle.model.specs.Reading.{fieldAt, Reading, readable, unreadable, Part, got, fault, Reader, onward, return, field, limited, governed, yesNo, many, shown, row, viewFields, commitFields, termsFields, electionFields, rowsFields, fieldsOf, filled, finish, recordFields, read}
 use Rattle.units.specs.declared.NodeId.{NodeId}
 use Rattle.records.specs.declared.head.Head.{Head}
-use Rattle.records.specs.Heads.{readingOf, Told}
+use Rattle.records.specs.Heads.{readingOf, headOf, Within, Told}
 use Rattle.records.specs.Places.{indexOf, nodeOf, shownAt, nextAt, entriesAt, rowAt, afterRow, rowsAt, Walk, RowWalk, firstEntry, firstRow}
-use Rattle.records.proofs.Given.{fault≢got, got-same, went, field-is, limited-is}
+use Rattle.records.proofs.Widths.{field-lt}
+use Rattle.records.proofs.Given.{fault≢got, got-same, went, field-is, field-below, limited-is, governed-within}
 use Rattle.records.proofs.Listed.{many-is, walk-read}
+use Rattle.records.proofs.Heads.{head-back}
 use Rattle.records.proofs.Walks.{entry-stands, row-stands, entries-length, rows-length}
 
 -- the kind of a record
@@ -183,7 +185,58 @@ rows-read s rs e =
     rowsOf : {xs ys : List Row} → _≡_ {A = Record} (rows xs) (rows ys) → xs ≡ ys
     rowsOf q = cc
 
--- the same from what `read` told
+-- ---- the limits of each kind's fields, and what `read` tells
+
+limits : (s : Bytes) (r : Head) → read s ≡ readingOf s r → Within r
+unfolding fieldsOf commitFields termsFields electionFields
+limits s (Head.View n c) e =
+    let v = view-read s (n .0) (entriesAt s firstEntry c) e in
+    (omega (arith, v .node, field-lt s 4 6), omega (arith, v .count, entries-length s firstEntry c))
+limits s (Head.Commit n i) e =
+    let w = whole s (commit (n .0) (i .0)) e in
+    let g₁ = went s (field 6 s 4) _ (w .fields) in
+    let g₂ = went s (limited 10 256 s (g₁ .place)) _ (g₁ .rest) in
+    let r = commit-same (got-same (g₂ .rest) .0) in
+    (omega (arith, r .0, field-below s 4 6 (g₁ .first)), omega (arith, r .1, limited-is s (g₁ .place) 10 256 (g₂ .first) .within))
+  where
+    commit-same : {a b x y : ℕ} → _≡_ {A = Record} (commit a x) (commit b y) → (a ≡ b) × (x ≡ y)
+    commit-same q = (cc, cc)
+limits s (Head.Terms o n t) e =
+    let w = whole s (terms (o .0) (n .0) (t .0)) e in
+    let g₁ = went s (limited 10 256 s 4) _ (w .fields) in
+    let g₂ = went s (limited 10 256 s (g₁ .place)) _ (g₁ .rest) in
+    let g₃ = went s (field 32 s (g₂ .place)) _ (g₂ .rest) in
+    let r = terms-same (got-same (g₃ .rest) .0) in (
+      omega (arith, r .0, limited-is s 4 10 256 (g₁ .first) .within),
+      omega (arith, r .1, limited-is s (g₁ .place) 10 256 (g₂ .first) .within),
+      omega (arith, r .2, field-below s (g₂ .place) 32 (g₃ .first)),
+    )
+  where
+    terms-same : {a b x y u v : ℕ} → _≡_ {A = Record} (terms a x u) (terms b y v) → (a ≡ b) × (x ≡ y) × (u ≡ v)
+    terms-same q = (cc, cc, cc)
+limits s (Head.Election l t p n) e =
+    let w = whole s (election (l .0) (t .0) p n) e in
+    let g₁ = went s (field 6 s 4) _ (w .fields) in
+    let g₂ = went s (field 32 s (g₁ .place)) _ (g₁ .rest) in
+    let g₃ = went s (yesNo s (g₂ .place)) _ (g₂ .rest) in
+    let g₄ = went s (governed (g₃ .value) 10 256 s (g₃ .place)) _ (g₃ .rest) in
+    let r = election-same (got-same (g₄ .rest) .0) in (
+      omega (arith, r .0, field-below s 4 6 (g₁ .first)),
+      omega (arith, r .1, field-below s (g₁ .place) 32 (g₂ .first)),
+      omega (arith, r .2, governed-within s (g₃ .place) (g₃ .value) 10 256 (g₄ .first)),
+    )
+  where
+    election-same : {a b x y u v : ℕ} {p q : Bool} → _≡_ {A = Record} (election a x p u) (election b y q v) → (a ≡ b) × (x ≡ y) × (u ≡ v)
+    election-same q = (cc, cc, cc)
+limits s Head.Check e = tt
+limits s (Head.Rows c) e = omega (arith, rows-read s (rowsAt s firstRow c) e .count, rows-length s firstRow c)
+limits s (Head.Unreadable f) e = tt
+
+-- an answer that stands for what the model reads
+pub told : (s : Bytes) (r : Head) → read s ≡ readingOf s r → Told s r
+told s r e = record { head = head-back s r ∙ ap headOf (sym e); reading = e; within = limits s r e }
+
+-- the walk over a view's entries, and over the rows, from what `read` told
 
 pub view-walk : (s : Bytes) (r : Head) (n : NodeId) (c : ℕ) → Told s r → r ≡ Head.View n c → Walk s firstEntry c
 view-walk s r n c t e =

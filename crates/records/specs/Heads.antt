@@ -1,6 +1,6 @@
 -- What the reader answers of a whole record, in the model's words, and the model's reading as such an answer.
 -- Assumes nothing.
-use Prim.Native.Nat.{ℕ}
+use Prim.Native.Nat.{ℕ, _^_, _≤_, _<_}
 use mathlib.Core.Path.{_≡_}
 use mathlib.Core.Bool.{cond}
 use lib.ListN.{length}
@@ -51,7 +51,19 @@ headOf (readable check) = Head.Check
 headOf (readable (rows rs)) = Head.Rows (length rs)
 headOf (unreadable r) = Head.Unreadable (faultOf r)
 
--- what `read` promises of its answer r to any bytes: it is the model's, and it stands for just what the model reads
+-- the fields of an answer are within document 01's limits
+abbrev pub Within : Head → Type 0
+Within (Head.View n c) = (n .0 < 64) × (c ≤ 256)
+Within (Head.Commit n i) = (n .0 < 64) × (i .0 ≤ 256)
+Within (Head.Terms o n t) = (o .0 ≤ 256) × (n .0 ≤ 256) × (t .0 < 2 ^ 32)
+Within (Head.Election l t p n) = (l .0 < 64) × (t .0 < 2 ^ 32) × (n ≤ 256)
+Within Head.Check = Unit {0}
+Within (Head.Rows c) = c ≤ 256
+Within (Head.Unreadable f) = Unit {0}
+
+-- what `read` promises of its answer r to any bytes: it is the model's, it stands for just what the model reads, and its
+-- fields are within their limits
 pub record Told (s : Bytes) (r : Head) : Type 0 where
   pub head : r ≡ headOf (read s)
   pub reading : read s ≡ readingOf s r
+  pub within : Within r

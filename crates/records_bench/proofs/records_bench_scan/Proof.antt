@@ -11,21 +11,82 @@ use Rattle.records_bench.proofs.records_bench_scan.Reads as reads
 use Rattle.records_bench.proofs.records_bench_scan.Lts as lts
 use Rattle.records.proofs.head.read.Reads as read-reads
 
--- src/lib.rt:39:9
+-- src/lib.rt:57:9
 read-requires : tie.Need-read-requires
 read-requires c κs = search needs
 
--- src/lib.rt:41:31
+-- src/lib.rt:59:31
 enum-known-head : tie.Need-enum-known-head
 enum-known-head c = search needs
 
--- src/lib.rt:35:1
+-- src/lib.rt:60:47
+enum-told : tie.Need-enum-told
+enum-told c = search needs
+
+-- src/lib.rt:65:14
+enum-told-2 : tie.Need-enum-told-2
+enum-told-2 c = search needs
+
+-- src/lib.rt:71:14
+enum-told-3 : tie.Need-enum-told-3
+enum-told-3 c = search needs
+
+-- src/lib.rt:72:24
+enum-told-4 : tie.Need-enum-told-4
+enum-told-4 c = search needs
+
+-- src/lib.rt:73:36
+enum-told-5 : tie.Need-enum-told-5
+enum-told-5 c = search needs
+
+-- src/lib.rt:74:32
+enum-told-6 : tie.Need-enum-told-6
+enum-told-6 c = search needs
+
+-- src/lib.rt:53:1
 returns : tie.Need-returns
 returns c = search needs
 
--- src/lib.rt:35:1
+-- src/lib.rt:53:1
 returns-2 : tie.Need-returns-2
 returns-2 c = search needs
 
+-- src/lib.rt:53:1
+returns-3 : tie.Need-returns-3
+returns-3 c = search needs
+
+-- src/lib.rt:53:1
+returns-4 : tie.Need-returns-4
+returns-4 c = search needs
+
+-- src/lib.rt:53:1
+returns-5 : tie.Need-returns-5
+returns-5 c = search needs
+
+-- src/lib.rt:53:1
+returns-6 : tie.Need-returns-6
+returns-6 c = search needs
+
+-- src/lib.rt:53:1
+returns-7 : tie.Need-returns-7
+returns-7 c = search needs
+
 pub records-bench-scan-spec : {M : Type 1} → statement M
-records-bench-scan-spec = tie.close (tie.spec read-requires enum-known-head returns returns-2)
+records-bench-scan-spec =
+    tie.close
+    (tie.spec
+    read-requires
+    enum-known-head
+    enum-told
+    enum-told-2
+    enum-told-3
+    enum-told-4
+    enum-told-5
+    enum-told-6
+    returns
+    returns-2
+    returns-3
+    returns-4
+    returns-5
+    returns-6
+    returns-7)

@@ -7,7 +7,8 @@ use lib.ListN.{length, getD, set, length-set}
 use borrow.Author.Needs.{needs}
 use Rattle.records.specs.declared.head.Head.{Head}
 use Rattle.model.specs.Record.{check}
-use Rattle.records.proofs.Heads.{told, finish-head}
+use Rattle.records.proofs.Heads.{finish-head}
+use Rattle.records.proofs.Readable.{told}
 use Rattle.model.specs.Reading.{read, recordFields, fieldsOf}
 use borrow.Author.Tests.{ne-eqb}
 use Rattle.records.proofs.head.read.Statement.{statement}
