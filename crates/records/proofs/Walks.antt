@@ -5,7 +5,7 @@ use mathlib.Core.Path.{_≡_, refl, ap, sym, _∙_}
 use mathlib.Core.List.{List, [], _∷_}
 use native.Mathlib.Omega.{arith}
 use borrow.Author.Tests.{eq-eqb, ne-eqb}
-use lib.ListN.{length, take}
+use lib.ListN.{length, take, replicate, length-append, length-replicate}
 use lib.Seq.{take-at}
 use Rattle.model.specs.Sizes.{Bytes}
 use Rattle.model.specs.Record.{Shown, Row, frontFrom, lastFrom}
@@ -92,6 +92,12 @@ module _ (s : Bytes) (k n : ℕ) where
 -- the model's content is the first `length` bytes of the array
 pub entry-content : (s : Bytes) (k : ℕ) → take (lengthAt s k) (shownEntry s k .content) ≡ shownAt s k .entry .content
 entry-content s k = take-at (contentAt s k) _ (lengthAt s k) (bytes-length s (k + 48) (lengthAt s k))
+
+-- the array has 32 bytes
+pub entry-length : (s : Bytes) (k : ℕ) → lengthAt s k ≤ 32 → length (shownEntry s k .content) ≡ 32
+entry-length s k h =
+    let n : ℕ = lengthAt s k in
+    length-append (contentAt s k) (replicate (32 - n) 0) ∙ omega (arith, bytes-length s (k + 48) n, length-replicate {A = ℕ} (32 - n) 0)
 
 -- the same for rows
 

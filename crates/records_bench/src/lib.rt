@@ -18,8 +18,8 @@ fn wide(x: u8) -> u64
 
 // The sum of the first n bytes of a content.
 fn content_sum(content: &[u8; 32], n: usize) -> u64
-    requires { ⌜ n ≤ 32 ⌝ }
-    ensures { λ r. ⌜ r ≡ sumOf (take n (now (content .entry))) ⌝ }
+    requires { ⌜ (n ≤ 32) × (length (now content) ≡ 32) ⌝ }
+    ensures { λ r. ⌜ (r ≡ sumOf (take n (now (content .entry)))) × (r ≤ 8160) ⌝ }
 {
     let mut sum: u64 = 0;
     let mut i = 0;

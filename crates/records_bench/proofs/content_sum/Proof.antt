@@ -5,6 +5,9 @@ use mathlib.Core.Logic.{⊎-elim}
 use native.Mathlib.Omega.{arith}
 use lib.ListN.{length, getD, set, length-set}
 use borrow.Author.Needs.{needs}
+use Rattle.records_bench.proofs.Sums.{sum-next, sum-end}
+use Rattle.records_bench.specs.Used.{sumOf}
+use lib.ListN.{take, drop}
 use Rattle.records_bench.proofs.content_sum.Statement.{statement}
 use Rattle.records_bench.proofs.content_sum.Tie as tie
 use Rattle.records_bench.proofs.content_sum.Reads as reads
@@ -12,14 +15,15 @@ use Rattle.records_bench.proofs.content_sum.Lts as lts
 use Rattle.records_bench.proofs.wide.Reads as wide-reads
 
 abbrev Inv-loop : tie.InvT-loop
-Inv-loop content n sum₀ i₀ sum i = ?
+Inv-loop content n sum₀ i₀ sum i =
+    (i ≤ n) × (sum ≤ 255 * i) × (sumOf (take n content) ≡ sum + sumOf (drop i (take n content)))
 
 abbrev μ-loop : tie.MeasureT-loop
-μ-loop content n sum₀ i₀ sum i = ?
+μ-loop content n sum₀ i₀ sum i = n - i
 
 -- src/lib.rt:27:5
 loop-holds : tie.Need-loop-holds Inv-loop μ-loop
-loop-holds c = search needs
+loop-holds c = (omega arith, omega arith, omega arith)
 
 -- src/lib.rt:28:21
 element-copy-out-wide : tie.Need-element-copy-out-wide Inv-loop μ-loop
@@ -31,7 +35,7 @@ wide-requires c κs = search needs
 
 -- src/lib.rt:28:9
 add-sum : tie.Need-add-sum Inv-loop μ-loop
-add-sum c = search needs
+add-sum c = omega arith
 
 -- src/lib.rt:29:9
 add-i : tie.Need-add-i Inv-loop μ-loop
@@ -39,15 +43,15 @@ add-i c = search needs
 
 -- src/lib.rt:27:5
 loop-less : tie.Need-loop-less Inv-loop μ-loop
-loop-less c = search needs
+loop-less c = omega arith
 
 -- src/lib.rt:27:5
 loop-again : tie.Need-loop-again Inv-loop μ-loop
-loop-again c = search needs
+loop-again c = (omega arith, omega arith, sum-next (c .before .before .before .before .args .content .now) (c .before .before .before .before .args .n) (c .before .before .before .loop .sum) (c .before .before .before .loop .i) (omega arith) _ (c .before .before .before .loop .inv .2) (c .before .before .loop-test .taken) (c .wide .ensures .0))
 
 -- src/lib.rt:21:1
 returns : tie.Need-returns Inv-loop μ-loop
-returns c = search needs
+returns c = (sum-end (c .before .before .args .content .now) (c .before .before .args .n) (c .before .loop .sum) (c .before .loop .i) (omega arith) (c .before .loop .inv .2) (c .loop-test .left), omega arith)
 
 pub content-sum-spec : {M : Type 1} → statement M
 content-sum-spec =

@@ -5,6 +5,7 @@ use mathlib.Core.Logic.{⊎-elim}
 use native.Mathlib.Omega.{arith}
 use lib.ListN.{length, getD, set, length-set}
 use borrow.Author.Needs.{needs}
+use Rattle.records.proofs.Walks.{entries-length}
 use Rattle.records_bench.proofs.records_bench_scan.Statement.{statement}
 use Rattle.records_bench.proofs.records_bench_scan.Tie as tie
 use Rattle.records_bench.proofs.records_bench_scan.Reads as reads
@@ -45,31 +46,31 @@ enum-told-6 c = search needs
 
 -- src/lib.rt:53:1
 returns : tie.Need-returns
-returns c = search needs
+returns c = rw (c .before .before .before .read .ensures .reading, c .before .head .given .1) (sym (entries-length _ _ _))
 
 -- src/lib.rt:53:1
 returns-2 : tie.Need-returns-2
-returns-2 c = search needs
+returns-2 c = rw (c .before .before .read .ensures .reading, c .enum-told .given .1)
 
 -- src/lib.rt:53:1
 returns-3 : tie.Need-returns-3
-returns-3 c = search needs
+returns-3 c = rw (c .before .before .read .ensures .reading, c .enum-told2 .given .1)
 
 -- src/lib.rt:53:1
 returns-4 : tie.Need-returns-4
-returns-4 c = search needs
+returns-4 c = rw (c .before .before .read .ensures .reading, c .enum-told3 .given .1)
 
 -- src/lib.rt:53:1
 returns-5 : tie.Need-returns-5
-returns-5 c = search needs
+returns-5 c = rw (c .before .before .read .ensures .reading, c .enum-told4 .given .1)
 
 -- src/lib.rt:53:1
 returns-6 : tie.Need-returns-6
-returns-6 c = search needs
+returns-6 c = rw (c .before .before .read .ensures .reading, c .enum-told5 .given .1)
 
 -- src/lib.rt:53:1
 returns-7 : tie.Need-returns-7
-returns-7 c = search needs
+returns-7 c = rw (c .before .before .read .ensures .reading, c .enum-told6 .given .1)
 
 pub records-bench-scan-spec : {M : Type 1} → statement M
 records-bench-scan-spec =
