@@ -1,22 +1,17 @@
-use Prim.Native.Nat.{ℕ, suc, _+_, _-_, _*_, _≤_, _<_}
-use mathlib.Core.Path.{_≡_, refl, ap, sym, _∙_}
-use mathlib.Core.Bool.{Bool, true, false}
-use mathlib.Core.Logic.{⊎-elim}
+-- `records_bench::walk` meets its contract: the sum is what was added, and the sum of what is left.
+-- Assumes nothing.
+use Prim.Native.Nat.{_+_, _-_, _*_, _≤_}
+use mathlib.Core.Path.{_≡_, ap, _∙_}
 use native.Mathlib.Omega.{arith}
-use lib.ListN.{length, getD, set, length-set}
 use borrow.Author.Needs.{needs}
+use lib.ListN.{length, take}
 use Rattle.records.specs.declared.walk.ShownEntry.{ShownEntry}
-use lib.ListN.{take}
-use Rattle.records_bench.proofs.Sums.{contents-next, contents-end}
-use Rattle.records_bench.specs.Used.{sumOf, contentsOf}
 use Rattle.records.proofs.Walks.{here, next-walk, entry-content, entry-length}
 use Rattle.records.specs.Places.{Walk, entriesAt, firstEntry}
+use Rattle.records_bench.proofs.Sums.{contents-next, contents-end}
+use Rattle.records_bench.specs.Used.{sumOf, contentsOf}
 use Rattle.records_bench.proofs.walk.Statement.{statement}
 use Rattle.records_bench.proofs.walk.Tie as tie
-use Rattle.records_bench.proofs.walk.Reads as reads
-use Rattle.records_bench.proofs.walk.Lts as lts
-use Rattle.records.proofs.walk.entry_at.Reads as entry-at-reads
-use Rattle.records_bench.proofs.content_sum.Reads as content-sum-reads
 
 abbrev Inv-loop : tie.InvT-loop
 Inv-loop s count at₀ left₀ sum₀ at left sum =
@@ -25,35 +20,42 @@ Inv-loop s count at₀ left₀ sum₀ at left sum =
 abbrev μ-loop : tie.MeasureT-loop
 μ-loop s count at₀ left₀ sum₀ at left sum = left
 
--- src/lib.rt:42:5
 loop-holds : tie.Need-loop-holds Inv-loop μ-loop
 loop-holds c = (omega arith, omega arith, c .before .pre .1, omega arith)
 
--- src/lib.rt:43:13
 entry-at-requires : tie.Need-entry-at-requires Inv-loop μ-loop
 entry-at-requires c κs = here _ _ _ (c .before .loop .inv .2) (c .loop-test .taken)
 
--- src/lib.rt:45:16
 content-sum-requires : tie.Need-content-sum-requires Inv-loop μ-loop
-content-sum-requires c κs = let h = here _ _ _ (c .before .before .before .before .loop .inv .2) (c .before .before .before .loop-test .taken) in rw (c .before .before .entry-at .ensures) (h .short, entry-length _ _ (h .short))
+content-sum-requires c κs =
+    let c₂ = c .before .before in
+    let c₃ = c₂ .before in
+    let c₄ = c₃ .before in
+    let h = here _ _ _ (c₄ .loop .inv .2) (c₃ .loop-test .taken) in
+    rw (c₂ .entry-at .ensures) (h .short, entry-length _ _ (h .short))
 
--- src/lib.rt:45:9
 add-sum : tie.Need-add-sum Inv-loop μ-loop
 add-sum c = omega (arith, c .content-sum .ensures .1)
 
--- src/lib.rt:47:9
 sub-left : tie.Need-sub-left Inv-loop μ-loop
 sub-left c = search needs
 
--- src/lib.rt:42:5
 loop-less : tie.Need-loop-less Inv-loop μ-loop
 loop-less c = search needs
 
--- src/lib.rt:42:5
 loop-again : tie.Need-loop-again Inv-loop μ-loop
-loop-again c = let x = c .content-sum .ensures .0 ∙ ap (λ (e : ShownEntry). sumOf (take (e .length) (e .content))) (c .before .before .before .entry-at .ensures) ∙ ap sumOf (entry-content _ _) in rw (c .before .before .before .entry-at .ensures) (omega arith, omega (arith, c .content-sum .ensures .1), next-walk _ _ _ (c .before .before .before .before .before .loop .inv .2) (c .before .before .before .before .loop-test .taken), contents-next _ _ _ _ _ (c .before .before .before .before .before .loop .inv .3) (c .before .before .before .before .loop-test .taken) x)
+loop-again c =
+    let c₃ = c .before .before .before in
+    let c₄ = c₃ .before in
+    let c₅ = c₄ .before in
+    let x = c .content-sum .ensures .0 ∙ ap (λ (e : ShownEntry). sumOf (take (e .length) (e .content))) (c₃ .entry-at .ensures) ∙ ap sumOf (entry-content _ _) in
+    rw (c₃ .entry-at .ensures) (
+      omega arith,
+      omega (arith, c .content-sum .ensures .1),
+      next-walk _ _ _ (c₅ .loop .inv .2) (c₄ .loop-test .taken),
+      contents-next _ _ _ _ _ (c₅ .loop .inv .3) (c₄ .loop-test .taken) x,
+    )
 
--- src/lib.rt:35:1
 returns : tie.Need-returns Inv-loop μ-loop
 returns c = contents-end _ _ _ _ (c .before .loop .inv .3) (c .loop-test .left)
 

@@ -1,21 +1,17 @@
-use Prim.Native.Nat.{ℕ, suc, _+_, _-_, _*_, _≤_, _<_}
-use mathlib.Core.Path.{_≡_, refl, ap, sym, _∙_}
-use mathlib.Core.Bool.{Bool, true, false}
-use mathlib.Core.Logic.{⊎-elim}
+-- `records::scan::scan_rows` meets its contract: the list ends where what is left of it ends.
+-- Assumes nothing.
+use Prim.Native.Nat.{_+_, _*_, _≤_}
+use mathlib.Core.Path.{_≡_, refl}
 use native.Mathlib.Omega.{arith}
-use lib.ListN.{length, getD, set, length-set}
 use borrow.Author.Needs.{needs}
+use Rattle.model.specs.Reading.{many, row}
+use Rattle.records.specs.Places.{nodeOf}
+use Rattle.records.specs.Answers.{ended}
 use Rattle.records.proofs.Walks.{row-near}
 use Rattle.records.proofs.Given.{item-is, item-not}
 use Rattle.records.proofs.Listed.{scan-end, scan-next, scan-stop}
-use Rattle.records.specs.Places.{nodeOf}
-use Rattle.records.specs.Answers.{ended}
-use Rattle.model.specs.Reading.{many, row}
 use Rattle.records.proofs.scan.scan_rows.Statement.{statement}
 use Rattle.records.proofs.scan.scan_rows.Tie as tie
-use Rattle.records.proofs.scan.scan_rows.Reads as reads
-use Rattle.records.proofs.scan.scan_rows.Lts as lts
-use Rattle.records.proofs.scan.scan_row.Reads as scan-row-reads
 
 abbrev Inv-loop : tie.InvT-loop
 Inv-loop s first count at₀ least₀ left₀ at least left =
@@ -28,43 +24,43 @@ abbrev μ-loop : tie.MeasureT-loop
 small : (c : tie.After-known-told Inv-loop μ-loop) → (c .before .key .given .0 .0 ≤ 256) × (c .before .key .given .0 .1 .0 ≤ c .before .before .before .before .before .loop .at + 122)
 small c = row-near _ _ _ _ _ (item-is (c .before .before .before .scan-row .ensures) (c .before .key .given .1))
 
--- src/scan.rt:154:5
 loop-holds : tie.Need-loop-holds Inv-loop μ-loop
 loop-holds c = (omega arith, refl)
 
--- src/scan.rt:155:15
 scan-row-requires : tie.Need-scan-row-requires Inv-loop μ-loop
 scan-row-requires c κs = omega arith
 
--- src/scan.rt:156:24
 enum-known-key : tie.Need-enum-known-key Inv-loop μ-loop
 enum-known-key c = search needs
 
--- src/scan.rt:157:25
 add-least : tie.Need-add-least Inv-loop μ-loop
 add-least c = omega (arith, small c)
 
--- src/scan.rt:160:23
 enum-known-f : tie.Need-enum-known-f Inv-loop μ-loop
 enum-known-f c = search needs
 
--- src/scan.rt:160:29
 returns : tie.Need-returns Inv-loop μ-loop
-returns c = scan-stop row nodeOf _ _ _ _ (c .before .before .before .before .before .loop .inv .1) (c .before .before .before .before .loop-test .taken) (item-not (c .before .before .before .scan-row .ensures) (c .before .f .given .1))
+returns c =
+    let c₃ = c .before .before .before in
+    let c₄ = c₃ .before in
+    let c₅ = c₄ .before in
+    scan-stop row nodeOf _ _ _ _ (c₅ .loop .inv .1) (c₄ .loop-test .taken) (item-not (c₃ .scan-row .ensures) (c .before .f .given .1))
 
--- src/scan.rt:162:9
 sub-left : tie.Need-sub-left Inv-loop μ-loop
 sub-left c = search needs
 
--- src/scan.rt:154:5
 loop-less : tie.Need-loop-less Inv-loop μ-loop
 loop-less c = search needs
 
--- src/scan.rt:154:5
 loop-again : tie.Need-loop-again Inv-loop μ-loop
-loop-again c = (omega (arith, small c), scan-next row nodeOf _ _ _ _ _ _ (c .before .before .before .before .before .loop .inv .1) (c .before .before .before .before .loop-test .taken) (item-is (c .before .before .before .scan-row .ensures) (c .before .key .given .1)))
+loop-again c =
+    let c₃ = c .before .before .before in
+    let c₄ = c₃ .before in
+    let c₅ = c₄ .before in (
+      omega (arith, small c),
+      scan-next row nodeOf _ _ _ _ _ _ (c₅ .loop .inv .1) (c₄ .loop-test .taken) (item-is (c₃ .scan-row .ensures) (c .before .key .given .1)),
+    )
 
--- src/scan.rt:147:1
 returns-2 : tie.Need-returns-2 Inv-loop μ-loop
 returns-2 c = scan-end row nodeOf _ _ _ _ (c .before .loop .inv .1) (c .loop-test .left)
 
