@@ -45,7 +45,8 @@ pub record Went {A B : Type 0} (s : Bytes) (p : Part A) (f : A → Reader B) (b 
   pub first : p ≡ got value place
   pub rest : f value s place ≡ got b j
 
-pub went : {A B : Type 0} (s : Bytes) (p : Part A) (f : A → Reader B) {b : B} {j : ℕ} → onward s p f ≡ got b j → Went s p f b j
+pub went : {A B : Type 0} (s : Bytes) (p : Part A) (f : A → Reader B) {b : B} {j : ℕ} → onward s p f ≡ got b j
+    → Went s p f b j
 went s (got a k) f e = record { value = a; place = k; first = refl; rest = e }
 went s (fault r) f e = absurd (fault≢got e)
 
@@ -54,7 +55,8 @@ pub record Required {A : Type 0} (t : Bool) (a b : A) (k j : ℕ) : Type 0 where
   pub same : a ≡ b
   pub next : k ≡ j
 
-pub required : {A : Type 0} (t : Bool) (r : Refusal) (a : A) (k : ℕ) {b : A} {j : ℕ} → cond {A = Part A} t (got a k) (fault r) ≡ got b j → Required t a b k j
+pub required : {A : Type 0} (t : Bool) (r : Refusal) (a : A) (k : ℕ) {b : A} {j : ℕ}
+    → cond {A = Part A} t (got a k) (fault r) ≡ got b j → Required t a b k j
 required true r a k e = record { test = refl; same = cc; next = cc }
 required false r a k e = absurd (fault≢got e)
 
@@ -193,9 +195,8 @@ shown-is s least k e =
     let v₃ : g₃ .value ≡ lengthAt s k = n .field .value ∙ ap (λ (a : ℕ). fieldAt s a 6) p₂ in
     let v₄ : g₄ .value ≡ contentAt s k = c .value ∙ (λ i. bytesAt s (p₃ i) (v₃ i)) in
     let p₄ : g₄ .place ≡ nextAt s k = c .next ∙ (λ i. p₃ i + 8 * v₃ i) in
-    let at : _≡_ {A = Shown} (record { index = g₁ .value; entry = record { term = g₂ .value; content = g₄ .value } }) (shownAt s k) = λ i. record { index = v₁ i; entry = record { term = v₂ i; content = v₄ i } } in
     record {
-      value = got-same (g₄ .rest) .0 ∙ at;
+      value = got-same (g₄ .rest) .0 ∙ (λ i. record { index = v₁ i; entry = record { term = v₂ i; content = v₄ i } });
       next = got-same (g₄ .rest) .1 ∙ p₄;
       positive = omega (arith, i .positive, v₁);
       within = omega (arith, i .limited .within, v₁);
@@ -211,7 +212,8 @@ pub record Configured (s : Bytes) (k : ℕ) (x : Configuration) (j : ℕ) : Type
   pub next : j ≡ k + 43
   pub whole : k + 43 ≤ 8 * length s
 
-pub configuration-is : (s : Bytes) (k : ℕ) {x : Configuration} {j : ℕ} → configuration s k ≡ got x j → Configured s k x j
+pub configuration-is : (s : Bytes) (k : ℕ) {x : Configuration} {j : ℕ} → configuration s k ≡ got x j
+    → Configured s k x j
 unfolding configuration
 configuration-is s k e =
     let g₁ = went s (yesNo s k) _ e in
@@ -226,9 +228,8 @@ configuration-is s k e =
     let v₁ = p .value in
     let v₂ = i .value ∙ ap (λ (a : ℕ). fieldAt s a 10) p₁ in
     let v₃ = d .value ∙ ap (λ (a : ℕ). fieldAt s a 32) p₂ in
-    let at : _≡_ {A = Configuration} (record { present = g₁ .value; index = g₂ .value; identity = g₃ .value }) (configurationAt s k) = λ i. record { present = v₁ i; index = v₂ i; identity = v₃ i } in
     record {
-      value = got-same (g₃ .rest) .0 ∙ at;
+      value = got-same (g₃ .rest) .0 ∙ (λ i. record { present = v₁ i; index = v₂ i; identity = v₃ i });
       next = got-same (g₃ .rest) .1 ∙ p₃;
       whole = omega (arith, d .whole, p₂);
     }
@@ -267,10 +268,10 @@ row-is s least k e =
     let v₄ = l .value ∙ ap (λ (a : ℕ). fieldAt s a 10) p₃ in
     let v₅ = fc .value ∙ ap (configurationAt s) p₄ in
     let v₆ = ac .value ∙ ap (configurationAt s) p₅ in
-    let at : _≡_ {A = Row} (record { node = g₁ .value; floor = g₂ .value; commit = g₃ .value; last = g₄ .value; floorConfiguration = g₅ .value; actualConfiguration = g₆ .value }) (rowAt s k) =
-    λ i. record { node = v₁ i; floor = v₂ i; commit = v₃ i; last = v₄ i; floorConfiguration = v₅ i; actualConfiguration = v₆ i } in
     record {
-      value = got-same (g₆ .rest) .0 ∙ at;
+      value =
+          got-same (g₆ .rest) .0
+          ∙ (λ i. record { node = v₁ i; floor = v₂ i; commit = v₃ i; last = v₄ i; floorConfiguration = v₅ i; actualConfiguration = v₆ i });
       next = got-same (g₆ .rest) .1 ∙ p₆;
       above = omega (arith, n .above, v₁);
       whole = omega (arith, ac .whole, p₅);

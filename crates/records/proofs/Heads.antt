@@ -15,7 +15,8 @@ use Rattle.records.specs.Heads.{readingOf, finished, headOf, faultOf}
 use Rattle.records.proofs.Listed.{items-length}
 
 -- the last test of a record is the code's
-pub finish-head : (s : Bytes) (r : Record) (k : ℕ) (h : Head) → readable r ≡ readingOf s h → finish s (got r k) ≡ readingOf s (finished s k h)
+pub finish-head : (s : Bytes) (r : Record) (k : ℕ) (h : Head) → readable r ≡ readingOf s h
+    → finish s (got r k) ≡ readingOf s (finished s k h)
 finish-head s r k h e = go (filled s k)
   where
     go : (b : Bool) → cond b (readable r) (unreadable filling) ≡ readingOf s (cond b h (Head.Unreadable Fault.Filling))

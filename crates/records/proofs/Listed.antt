@@ -33,13 +33,16 @@ keyed-fault key (got x k) e = absurd (fault≢got (sym e))
 keyed-fault key (fault q) e = ap fault (cc)
 
 -- a part of an item that was scanned
-pub done-is : {A : Type 0} (p : Part A) {r : Done} {k : ℕ} → ended p ≡ donePart r k → r ≡ Done.Whole → Keyed (λ x. 0) p 0 k
+pub done-is : {A : Type 0} (p : Part A) {r : Done} {k : ℕ} → ended p ≡ donePart r k → r ≡ Done.Whole
+    → Keyed (λ x. 0) p 0 k
 done-is p {k = k} e q = keyed-is (λ x. 0) p (e ∙ ap (λ (r : Done). donePart r k) q)
 
-pub done-not : {A : Type 0} (p : Part A) {r : Done} (k : ℕ) {f : Fault} → ended p ≡ donePart r k → r ≡ Done.Not f → p ≡ fault (refusalOf f)
+pub done-not : {A : Type 0} (p : Part A) {r : Done} (k : ℕ) {f : Fault} → ended p ≡ donePart r k → r ≡ Done.Not f
+    → p ≡ fault (refusalOf f)
 done-not p k e q = keyed-fault (λ x. 0) p (e ∙ ap (λ (r : Done). donePart r k) q)
 
-pub end-not : {A : Type 0} (p : Part A) {r : End} {f : Fault} → ended p ≡ endPart r → r ≡ End.Not f → p ≡ fault (refusalOf f)
+pub end-not : {A : Type 0} (p : Part A) {r : End} {f : Fault} → ended p ≡ endPart r → r ≡ End.Not f
+    → p ≡ fault (refusalOf f)
 end-not p e q = keyed-fault (λ x. 0) p (e ∙ ap endPart q)
 
 -- the end of a list does not depend on its first item
@@ -50,7 +53,8 @@ ended-cons s x (fault r) = refl
 -- ---- a loop that scans n items
 
 module _ {A : Type 0} (item : ℕ → Reader A) (key : A → ℕ) (s : Bytes) where
-  many-more : (least k i j : ℕ) (n : ℕ) → keyed key (item least s k) ≡ got i j → ended (many item key least (suc n) s k) ≡ ended (many item key (i + 1) n s j)
+  many-more : (least k i j : ℕ) (n : ℕ) → keyed key (item least s k) ≡ got i j
+      → ended (many item key least (suc n) s k) ≡ ended (many item key (i + 1) n s j)
   unfolding many
   many-more least k i j n e =
       let q = keyed-is key (item least s k) e in
@@ -63,7 +67,8 @@ module _ {A : Type 0} (item : ℕ → Reader A) (key : A → ℕ) (s : Bytes) wh
   scan-end least k (suc n) e h = absurd (omega arith)
 
   -- the next item is whole
-  pub scan-next : {t : Part ℕ} (least k n i j : ℕ) → t ≡ ended (many item key least n s k) → 0 < n → keyed key (item least s k) ≡ got i j
+  pub scan-next : {t : Part ℕ} (least k n i j : ℕ) → t ≡ ended (many item key least n s k) → 0 < n
+      → keyed key (item least s k) ≡ got i j
       → t ≡ ended (many item key (i + 1) (n - 1) s j)
   scan-next least k zero i j e h q = absurd (omega arith)
   scan-next least k (suc n) i j e h q =
@@ -71,7 +76,8 @@ module _ {A : Type 0} (item : ℕ → Reader A) (key : A → ℕ) (s : Bytes) wh
       rw d (e ∙ many-more least k i j n q)
 
   -- the next item has a fault
-  pub scan-stop : {t : Part ℕ} {r : Refusal} (least k n : ℕ) → t ≡ ended (many item key least n s k) → 0 < n → keyed key (item least s k) ≡ fault r
+  pub scan-stop : {t : Part ℕ} {r : Refusal} (least k n : ℕ) → t ≡ ended (many item key least n s k) → 0 < n
+      → keyed key (item least s k) ≡ fault r
       → t ≡ fault r
   unfolding many
   scan-stop least k zero e h q = absurd (omega arith)
@@ -125,7 +131,8 @@ module _ {A : Type 0} (item : ℕ → Reader A) (key : A → ℕ) (at : Bytes �
   -- ---- walks
 
   -- a list that was read is a walk
-  pub walk-read : (least k n : ℕ) {xs : List A} {e : ℕ} → k + size * n ≤ 2 ^ 32 → many item key least n s k ≡ got xs e → Listed item key at next size s k n
+  pub walk-read : (least k n : ℕ) {xs : List A} {e : ℕ} → k + size * n ≤ 2 ^ 32
+      → many item key least n s k ≡ got xs e → Listed item key at next size s k n
   walk-read least k n h q =
       let r = many-is least k n q in
       let v = r .values in
@@ -133,12 +140,14 @@ module _ {A : Type 0} (item : ℕ → Reader A) (key : A → ℕ) (at : Bytes �
       record { least = least; near = h; reads = q ∙ (λ d. got (v d) (p d)) }
 
   -- the first item of a walk
-  pub walk-item : (k n : ℕ) (w : Listed item key at next size s k n) → 0 < n → item (w .least) s k ≡ got (at s k) (next s k)
+  pub walk-item : (k n : ℕ) (w : Listed item key at next size s k n) → 0 < n
+      → item (w .least) s k ≡ got (at s k) (next s k)
   walk-item k zero w h = absurd (omega arith)
   walk-item k (suc n) w h = more (w .least) k n (w .reads) .first
 
   -- the walk after it
-  pub walk-next : (k n : ℕ) → Listed item key at next size s k n → 0 < n → Listed item key at next size s (next s k) (n - 1)
+  pub walk-next : (k n : ℕ) → Listed item key at next size s k n → 0 < n
+      → Listed item key at next size s (next s k) (n - 1)
   walk-next k zero w h = absurd (omega arith)
   walk-next k (suc n) w h =
       let m = more (w .least) k n (w .reads) in

@@ -79,7 +79,8 @@ module _ (s : Bytes) (k : ℕ) {r : Record} {j : ℕ} where
       ap kindOf (got-same (g₂ .rest) .0)
 
   -- a kind that is i, or else one of the others
-  pick : (kind i : ℕ) (f g : Reader Record) → cond (eqb kind i) f g s k ≡ got r j → ((kind ≡ i) × (f s k ≡ got r j)) ⊎ (g s k ≡ got r j)
+  pick : (kind i : ℕ) (f g : Reader Record) → cond (eqb kind i) f g s k ≡ got r j
+      → ((kind ≡ i) × (f s k ≡ got r j)) ⊎ (g s k ≡ got r j)
   pick kind i f g e = go (eqb kind i) refl e
     where
       go : (b : Bool) → eqb kind i ≡ b → cond b f g s k ≡ got r j → ((kind ≡ i) × (f s k ≡ got r j)) ⊎ (g s k ≡ got r j)

@@ -20,14 +20,16 @@ use Rattle.records.proofs.Listed.{Stands, keyed-is, many-is, walk-read,
 
 -- ---- entries
 
-pub entry-stands : (s : Bytes) (least k : ℕ) (x : Shown) (j : ℕ) → shown least s k ≡ got x j → Stands shownAt nextAt 304 s k x j
+pub entry-stands : (s : Bytes) (least k : ℕ) (x : Shown) (j : ℕ) → shown least s k ≡ got x j
+    → Stands shownAt nextAt 304 s k x j
 entry-stands s least k x j e =
     let h = shown-is s least k e in
     record { value = h .value; end = h .next; within = omega (arith, h .short) }
 
 -- ---- rows
 
-pub row-stands : (s : Bytes) (least k : ℕ) (x : Row) (j : ℕ) → row least s k ≡ got x j → Stands rowAt afterRow 122 s k x j
+pub row-stands : (s : Bytes) (least k : ℕ) (x : Row) (j : ℕ) → row least s k ≡ got x j
+    → Stands rowAt afterRow 122 s k x j
 row-stands s least k x j e =
     let h = row-is s least k e in
     record { value = h .value; end = h .next; within = omega arith }
@@ -51,14 +53,16 @@ row-near s least k i j e =
     (omega (arith, field-lt s k 6, v, q .same), omega (arith, h .next))
 
 -- entries that were scanned are those in the bytes
-pub entries-scanned : (s : Bytes) (k n : ℕ) {r : End} {e : ℕ} → ended (many shown indexOf 0 n s k) ≡ endPart r → r ≡ End.At e → many shown indexOf 0 n s k ≡ got (entriesAt s k n) e
+pub entries-scanned : (s : Bytes) (k n : ℕ) {r : End} {e : ℕ} → ended (many shown indexOf 0 n s k) ≡ endPart r
+    → r ≡ End.At e → many shown indexOf 0 n s k ≡ got (entriesAt s k n) e
 entries-scanned s k n {e = e} p q =
     let d = keyed-is (λ x. 0) (many shown indexOf 0 n s k) (p ∙ ap endPart q) in
     let m = many-is shown indexOf shownAt nextAt 304 s (entry-stands s) 0 k n (d .part) in
     d .part ∙ ap (λ (es : List Shown). got es e) (m .values)
 
 -- rows that were scanned are those in the bytes
-pub rows-scanned : (s : Bytes) (k n : ℕ) {r : End} {e : ℕ} → ended (many row nodeOf 0 n s k) ≡ endPart r → r ≡ End.At e → many row nodeOf 0 n s k ≡ got (rowsAt s k n) e
+pub rows-scanned : (s : Bytes) (k n : ℕ) {r : End} {e : ℕ} → ended (many row nodeOf 0 n s k) ≡ endPart r
+    → r ≡ End.At e → many row nodeOf 0 n s k ≡ got (rowsAt s k n) e
 rows-scanned s k n {e = e} p q =
     let d = keyed-is (λ x. 0) (many row nodeOf 0 n s k) (p ∙ ap endPart q) in
     let m = many-is row nodeOf rowAt afterRow 122 s (row-stands s) 0 k n (d .part) in
@@ -125,13 +129,15 @@ module _ (s : Bytes) (k n : ℕ) where
 
 module _ (s : Bytes) (k n : ℕ) where
   -- the front goes on
-  pub front-next : {t : ℕ} (m i : ℕ) → t ≡ m + length (frontFrom (m + 1) (entriesAt s k n)) → 0 < n → i ≡ indexAt s k → i ≡ m + 1
+  pub front-next : {t : ℕ} (m i : ℕ) → t ≡ m + length (frontFrom (m + 1) (entriesAt s k n)) → 0 < n
+      → i ≡ indexAt s k → i ≡ m + 1
       → t ≡ (m + 1) + length (frontFrom (m + 1 + 1) (entriesAt s (nextAt s k) (n - 1)))
   unfolding frontFrom
   front-next m i e h p q = e ∙ rw (entries-next s k n h, eq-eqb (indexAt s k) (m + 1) (sym p ∙ q)) (omega arith)
 
   -- a gap ends it
-  pub front-gap : {t : ℕ} (m i : ℕ) → t ≡ m + length (frontFrom (m + 1) (entriesAt s k n)) → 0 < n → i ≡ indexAt s k → (i ≡ m + 1 → ⊥)
+  pub front-gap : {t : ℕ} (m i : ℕ) → t ≡ m + length (frontFrom (m + 1) (entriesAt s k n)) → 0 < n
+      → i ≡ indexAt s k → (i ≡ m + 1 → ⊥)
       → m ≡ t
   unfolding frontFrom
   front-gap m i e h p q = sym (e ∙ rw (entries-next s k n h, ne-eqb (indexAt s k) (m + 1) (λ z. q (p ∙ z))) (omega arith))
@@ -140,7 +146,8 @@ module _ (s : Bytes) (k n : ℕ) where
   unfolding frontFrom
   front-end m e h = sym (e ∙ rw (entries-none s k n h) (omega arith))
 
-  pub last-next : {t : ℕ} (m i : ℕ) → t ≡ lastFrom m (entriesAt s k n) → 0 < n → i ≡ indexAt s k → t ≡ lastFrom i (entriesAt s (nextAt s k) (n - 1))
+  pub last-next : {t : ℕ} (m i : ℕ) → t ≡ lastFrom m (entriesAt s k n) → 0 < n → i ≡ indexAt s k
+      → t ≡ lastFrom i (entriesAt s (nextAt s k) (n - 1))
   unfolding lastFrom
   last-next m i e h p = e ∙ rw (entries-next s k n h, p)
 

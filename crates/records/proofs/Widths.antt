@@ -42,12 +42,14 @@ chunk-more b o n h =
     let f : 8 - o - n ≡ m + 1 = omega arith in
     rw (e, f, ← add-one n, mod-pow-add (b / 2 ^ m) n 1, shr-shr b m 1)
 
-one-more : (s : Bytes) (k j : ℕ) → fieldAt s k (suc j) ≡ fieldAt s k j * 2 + getD s ((k + j) / 8) 0 / 2 ^ (7 - (k + j) % 8) % 2
+one-more : (s : Bytes) (k j : ℕ)
+    → fieldAt s k (suc j) ≡ fieldAt s k j * 2 + getD s ((k + j) / 8) 0 / 2 ^ (7 - (k + j) % 8) % 2
 unfolding fieldAt bitAt
 one-more s k j = refl
 
 -- i bits, and n more out of one byte
-pub more : (s : Bytes) (k i n : ℕ) → (k + i) % 8 + n ≤ 8 → fieldAt s k (i + n) ≡ fieldAt s k i * 2 ^ n + chunk (getD s ((k + i) / 8) 0) ((k + i) % 8) n
+pub more : (s : Bytes) (k i n : ℕ) → (k + i) % 8 + n ≤ 8
+    → fieldAt s k (i + n) ≡ fieldAt s k i * 2 ^ n + chunk (getD s ((k + i) / 8) 0) ((k + i) % 8) n
 more s k i zero h = rw (add-zero i) (omega (arith, mod-one (getD s ((k + i) / 8) 0 / 2 ^ (8 - (k + i) % 8 - 0))))
 more s k i (suc n) h =
     let q : (k + (i + n)) / 8 ≡ (k + i) / 8 = omega arith in

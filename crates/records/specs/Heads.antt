@@ -7,7 +7,7 @@ use lib.ListN.{length}
 use Rattle.model.specs.Sizes.{Bytes}
 use Rattle.model.specs.Refusal.{Refusal, unknownKind, bitsMissing, filling, outOfLimit, notAbove, prefixesFull, findingsFull, oldExceedsNew, lengthExceedsFront, certificatesFull, numberTaken}
 use Rattle.model.specs.Record.{Record, view, commit, terms, election, check, rows}
-use Rattle.model.specs.Reading.{Reading, readable, unreadable, filled, read}
+use Rattle.model.specs.Reading.{Reader, Reading, readable, unreadable, filled, finish, read}
 use Rattle.records.specs.declared.bits.Fault.{Fault}
 use Rattle.records.specs.declared.head.Head.{Head}
 use Rattle.records.specs.Answers.{refusalOf}
@@ -22,6 +22,10 @@ readingOf s (Head.Election l t p n) = readable (election (l .0) (t .0) p n)
 readingOf s Head.Check = readable check
 readingOf s (Head.Rows c) = readable (rows (rowsAt s firstRow c))
 readingOf s (Head.Unreadable f) = unreadable (refusalOf f)
+
+-- the answer r stands for what the fields of a kind, which follow its 4 bits, say
+abbrev pub Reads : Reader Record → Bytes → Head → Type 0
+Reads fields s r = finish s (fields s 4) ≡ readingOf s r
 
 -- the head, or 3 where what follows the fields is not the filling
 abbrev pub finished : Bytes → ℕ → Head → Head

@@ -1,5 +1,5 @@
--- The entries and rows of a record by their bits: what stands at a bit, with no faults. Where the record is readable this is
--- what the model reads.
+-- The entries and rows of a record by their bits: what stands at a bit, with no faults. Where the record is readable, this
+-- is what the model reads.
 -- Assumes nothing.
 use Prim.Native.Nat.{ℕ, zero, suc, _+_, _*_, _^_, _≤_}
 use mathlib.Core.Path.{_≡_}
@@ -83,7 +83,8 @@ rowsAt s k n = itemsAt rowAt afterRow s k n
 
 -- the model reads just these, each above the one before it, from `least` on. Each has at most `size` bits, and the
 -- positions are small, so that no sum of them wraps.
-pub record Listed {A : Type 0} (item : ℕ → Reader A) (key : A → ℕ) (at : Bytes → ℕ → A) (next : Bytes → ℕ → ℕ) (size : ℕ) (s : Bytes) (k n : ℕ) : Type 0 where
+pub record Listed {A : Type 0} (item : ℕ → Reader A) (key : A → ℕ) (at : Bytes → ℕ → A) (next : Bytes → ℕ → ℕ) (size : ℕ)
+    (s : Bytes) (k n : ℕ) : Type 0 where
   pub least : ℕ
   pub near : k + size * n ≤ 2 ^ 32
   pub reads : many item key least n s k ≡ got (itemsAt at next s k n) (endAt next s k n)

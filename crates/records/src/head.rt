@@ -1,7 +1,7 @@
 // A whole record, read: its kind with its plain fields, or the first fault from the left. Nothing is asked of the bytes.
 ghost use mathlib.Core.Path.{_≡_};
 ghost use Rattle.model.specs.Reading as reading;
-ghost use Rattle.records.specs.Heads.{readingOf, finished, Told};
+ghost use Rattle.records.specs.Heads.{Reads, finished, Told};
 use crate::bits::Fault;
 use crate::bits::Number;
 use crate::bits::field;
@@ -65,7 +65,7 @@ fn finish(s: &[u8], at: usize, head: Head) -> Head
 
 // 1 view: node, count, entries.
 fn read_view(s: &[u8]) -> Head
-    ensures { λ r. ⌜ reading.finish (now (s .entry)) (reading.viewFields (now (s .entry)) 4) ≡ readingOf (now (s .entry)) r ⌝ }
+    ensures { λ r. ⌜ Reads reading.viewFields (now (s .entry)) r ⌝ }
 {
     let n = match field(s, 4, 6) {
         Number::Is(n) => n,
@@ -91,7 +91,7 @@ fn read_view(s: &[u8]) -> Head
 
 // 2 commit: node, commit index.
 fn read_commit(s: &[u8]) -> Head
-    ensures { λ r. ⌜ reading.finish (now (s .entry)) (reading.commitFields (now (s .entry)) 4) ≡ readingOf (now (s .entry)) r ⌝ }
+    ensures { λ r. ⌜ Reads reading.commitFields (now (s .entry)) r ⌝ }
 {
     let n = match field(s, 4, 6) {
         Number::Is(n) => n,
@@ -113,7 +113,7 @@ fn read_commit(s: &[u8]) -> Head
 
 // 3 commit terms: old, new, term.
 fn read_terms(s: &[u8]) -> Head
-    ensures { λ r. ⌜ reading.finish (now (s .entry)) (reading.termsFields (now (s .entry)) 4) ≡ readingOf (now (s .entry)) r ⌝ }
+    ensures { λ r. ⌜ Reads reading.termsFields (now (s .entry)) r ⌝ }
 {
     let o = match index(s, 4) {
         Number::Is(o) => o,
@@ -140,7 +140,7 @@ fn read_terms(s: &[u8]) -> Head
 
 // 4 election: leader, term, log present, length.
 fn read_election(s: &[u8]) -> Head
-    ensures { λ r. ⌜ reading.finish (now (s .entry)) (reading.electionFields (now (s .entry)) 4) ≡ readingOf (now (s .entry)) r ⌝ }
+    ensures { λ r. ⌜ Reads reading.electionFields (now (s .entry)) r ⌝ }
 {
     let l = match field(s, 4, 6) {
         Number::Is(l) => l,
@@ -172,7 +172,7 @@ fn read_election(s: &[u8]) -> Head
 
 // 6 rows: count, rows.
 fn read_rows(s: &[u8]) -> Head
-    ensures { λ r. ⌜ reading.finish (now (s .entry)) (reading.rowsFields (now (s .entry)) 4) ≡ readingOf (now (s .entry)) r ⌝ }
+    ensures { λ r. ⌜ Reads reading.rowsFields (now (s .entry)) r ⌝ }
 {
     let c = match index(s, 4) {
         Number::Is(c) => c,

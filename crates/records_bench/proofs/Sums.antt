@@ -14,7 +14,8 @@ use Rattle.records_bench.specs.Used.{sumOf, contentsOf}
 
 -- the first n bytes of a content, from the i-th on
 module _ (c : List ℕ) (n v i : ℕ) (fits : n ≤ length c) where
-  pub sum-next : {t : ℕ} (x : ℕ) → t ≡ v + sumOf (drop i (take n c)) → i < n → x ≡ getD c i 0 → t ≡ v + x + sumOf (drop (i + 1) (take n c))
+  pub sum-next : {t : ℕ} (x : ℕ) → t ≡ v + sumOf (drop i (take n c)) → i < n → x ≡ getD c i 0
+      → t ≡ v + x + sumOf (drop (i + 1) (take n c))
   unfolding sumOf
   sum-next x e h q =
       let l : i < length (take n c) = omega (arith, length-take-le n c fits) in

@@ -21,7 +21,9 @@ abbrev μ-loop : tie.MeasureT-loop
 μ-loop s first count at₀ least₀ left₀ at least left = left
 
 -- what was scanned is near, and so is its key
-small : (c : tie.After-known-told Inv-loop μ-loop) → (c .before .key .given .0 .0 ≤ 256) × (c .before .key .given .0 .1 .0 ≤ c .before .before .before .before .before .loop .at + 304)
+small : (c : tie.After-known-told Inv-loop μ-loop)
+    → let item = c .before .key .given .0 in
+    (item .0 ≤ 256) × (item .1 .0 ≤ c .before .before .before .before .before .loop .at + 304)
 small c = entry-near _ _ _ _ _ (item-is (c .before .before .before .scan-entry .ensures) (c .before .key .given .1))
 
 loop-holds : tie.Need-loop-holds Inv-loop μ-loop
