@@ -1,10 +1,10 @@
 -- From what the model's readers gave to what stands in the bytes: each field that was read is within the record, is the
 -- number of its bits, and is within its limit.
 -- Assumes nothing.
-use Prim.Native.Nat.{ℕ, zero, suc, _+_, _-_, _*_, _^_, _≤_, _<_}
+use Prim.Native.Nat.{ℕ, _+_, _-_, _*_, _^_, _≤_, _<_}
 use mathlib.Core.Path.{_≡_, refl, ap, sym, _∙_}
 use mathlib.Core.Bool.{Bool, true, false, cond}
-use mathlib.Core.List.{List, [], _∷_}
+use mathlib.Core.List.{List}
 use native.Mathlib.Omega.{arith}
 use borrow.Author.Tests.{leb-true, ltb-true}
 use lib.ListN.{length}
@@ -12,13 +12,13 @@ use lib.Dec.{leb, ltb, eqb}
 use Rattle.model.specs.Sizes.{Bytes}
 use Rattle.model.specs.Refusal.{Refusal, bitsMissing, outOfLimit, notAbove}
 use Rattle.model.specs.Record.{Shown, Configuration, Row}
-use Rattle.model.specs.Reading.{fieldAt, bytesAt, Part, got, fault, Reader, onward, require, return, field, limited, governed, yesNo, content, entryIndex, rowNode, shown, configuration, row, many}
+use Rattle.model.specs.Reading.{fieldAt, bytesAt, Part, got, fault, Reader, onward, require, return, field, limited, governed, yesNo, content, entryIndex, rowNode, shown, configuration, row}
 use Rattle.records.proofs.Widths.{field-lt}
 use Rattle.records.specs.declared.bits.Number.{Number}
 use Rattle.records.specs.declared.bits.Fault.{Fault}
 use Rattle.records.specs.declared.scan.Item.{Item}
 use Rattle.records.specs.Answers.{refusalOf, numberPart, scanPart}
-use Rattle.records.specs.Places.{indexOf, nodeOf, indexAt, termAt, lengthAt, contentAt, nextAt, shownAt, configurationAt, rowAt, afterRow}
+use Rattle.records.specs.Places.{indexAt, termAt, lengthAt, contentAt, nextAt, shownAt, configurationAt, rowAt, afterRow}
 
 -- ---- chains
 

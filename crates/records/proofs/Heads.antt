@@ -1,12 +1,12 @@
 -- Laws of the whole record: its last test, and the way back from an answer to the model's.
 -- Assumes nothing.
-use Prim.Native.Nat.{ℕ, zero, suc, _+_, _-_, _*_, _^_, _≤_, _<_}
-use mathlib.Core.Path.{_≡_, refl, ap, sym, _∙_}
+use Prim.Native.Nat.{ℕ}
+use mathlib.Core.Path.{_≡_, refl, ap, sym}
 use mathlib.Core.Bool.{Bool, true, false, cond}
 use Rattle.model.specs.Sizes.{Bytes}
-use Rattle.model.specs.Refusal.{Refusal, filling}
+use Rattle.model.specs.Refusal.{filling}
 use Rattle.model.specs.Record.{Record}
-use Rattle.model.specs.Reading.{Reading, readable, unreadable, Part, got, fault, filled, finish}
+use Rattle.model.specs.Reading.{readable, unreadable, got, filled, finish}
 use Rattle.records.specs.declared.bits.Fault.{Fault}
 use Rattle.records.specs.declared.head.Head.{Head}
 use Rattle.records.specs.Answers.{refusalOf}

@@ -1,10 +1,10 @@
 -- From a record that the model reads to what `read` tells of it: the limits of its fields, and the walk over its entries or
 -- rows, which are the ones in the bytes, in order, each readable.
 -- Assumes nothing.
-use Prim.Native.Nat.{ℕ, zero, suc, _+_, _-_, _*_, _^_, _≤_, _<_}
+use Prim.Native.Nat.{ℕ, _≤_}
 use mathlib.Core.Path.{_≡_, refl, ap, sym, _∙_}
 use mathlib.Core.Bool.{Bool, true, false, cond}
-use mathlib.Core.List.{List, [], _∷_}
+use mathlib.Core.List.{List}
 use mathlib.Core.Logic.{_⊎_, inl, inr, ⊎-elim}
 use native.Mathlib.Omega.{arith}
 use borrow.Author.Tests.{eqb-true}
@@ -13,7 +13,7 @@ use lib.ListN.{length}
 use Rattle.model.specs.Sizes.{Bytes}
 use Rattle.model.specs.Refusal.{filling}
 use Rattle.model.specs.Record.{Shown, Row, Record, view, commit, terms, election, check, rows}
-use Rattle.model.specs.Reading.{fieldAt, Reading, readable, unreadable, Part, got, fault, Reader, onward, return, field, limited, governed, yesNo, many, shown, row, viewFields, commitFields, termsFields, electionFields, rowsFields, fieldsOf, filled, finish, recordFields, read}
+use Rattle.model.specs.Reading.{fieldAt, readable, unreadable, Part, got, fault, Reader, field, limited, governed, yesNo, many, shown, row, viewFields, commitFields, termsFields, electionFields, rowsFields, fieldsOf, filled, finish, recordFields, read}
 use Rattle.units.specs.declared.NodeId.{NodeId}
 use Rattle.records.specs.declared.head.Head.{Head}
 use Rattle.records.specs.Heads.{readingOf, headOf, Within, Told}

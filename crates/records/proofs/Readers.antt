@@ -1,17 +1,16 @@
 -- Laws of the model's readers, in the form that the code's exits want: what a reader gives from what was read and tested.
 -- Assumes nothing.
-use Prim.Native.Nat.{ℕ, zero, suc, _+_, _-_, _*_, _/_, _%_, _≤_, _<_}
-use mathlib.Core.Path.{_≡_, refl, ap, sym, _∙_}
-use mathlib.Core.Bool.{Bool, true, false, cond}
-use mathlib.Core.List.{List, [], _∷_}
+use Prim.Native.Nat.{ℕ, _+_, _-_, _*_, _/_, _%_, _≤_, _<_}
+use mathlib.Core.Path.{_≡_, sym, _∙_}
+use mathlib.Core.Bool.{true, false}
 use native.Mathlib.Omega.{arith}
 use native.Mathlib.Decide.{decLe}
-use borrow.Author.Tests.{le-leb, lt-leb, lt-ltb, le-ltb, eq-eqb, ne-eqb}
+use borrow.Author.Tests.{le-leb, lt-leb, lt-ltb, le-ltb}
 use lib.ListN.{length}
-use lib.Dec.{leb, ltb, eqb}
+use lib.Dec.{leb, eqb}
 use Rattle.model.specs.Sizes.{Bytes}
-use Rattle.model.specs.Refusal.{Refusal, unknownKind, bitsMissing, filling, outOfLimit, notAbove}
-use Rattle.model.specs.Reading.{fieldAt, bytesAt, content, Part, got, fault, Reader, onward, require, field, limited, governed, yesNo, entryIndex, rowNode, filled}
+use Rattle.model.specs.Refusal.{bitsMissing}
+use Rattle.model.specs.Reading.{fieldAt, bytesAt, content, got, fault, field, filled}
 
 -- ---- a field
 

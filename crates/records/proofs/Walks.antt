@@ -1,7 +1,7 @@
 -- Laws for the loops of callers: the entries of a readable view and the rows, one after the other.
 -- Assumes nothing.
-use Prim.Native.Nat.{ℕ, zero, suc, _+_, _-_, _*_, _^_, _≤_, _<_}
-use mathlib.Core.Path.{_≡_, refl, ap, sym, _∙_}
+use Prim.Native.Nat.{ℕ, _+_, _-_, _≤_, _<_}
+use mathlib.Core.Path.{_≡_, ap, sym, _∙_}
 use mathlib.Core.List.{List, [], _∷_}
 use native.Mathlib.Omega.{arith}
 use borrow.Author.Tests.{eq-eqb, ne-eqb}
@@ -9,14 +9,14 @@ use lib.ListN.{length, take, replicate, length-append, length-replicate}
 use lib.Seq.{take-at}
 use Rattle.model.specs.Sizes.{Bytes}
 use Rattle.model.specs.Record.{Shown, Row, frontFrom, lastFrom}
-use Rattle.model.specs.Reading.{fieldAt, Part, got, fault, many, shown, row}
+use Rattle.model.specs.Reading.{got, many, shown, row}
 use Rattle.records.specs.declared.scan.End.{End}
 use Rattle.records.specs.Answers.{keyed, ended, endPart}
 use Rattle.records.specs.Places.{indexOf, nodeOf, shownAt, nextAt, entriesAt, indexAt, lengthAt, contentAt, rowAt, afterRow, rowsAt, Walk, RowWalk}
 use Rattle.records.specs.Values.{shownEntry, Here, RowHere}
 use Rattle.records.proofs.Widths.{field-lt, bytes-length}
 use Rattle.records.proofs.Given.{Entered, Rowed, shown-is, row-is}
-use Rattle.records.proofs.Listed.{Stands, keyed-is, many-is, walk-read, walk-item, walk-next, items-none, items-next, items-length}
+use Rattle.records.proofs.Listed.{Stands, keyed-is, many-is, walk-item, walk-next, items-none, items-next, items-length}
 
 -- ---- entries
 

@@ -1,12 +1,12 @@
 -- Laws of bits, over the width and the position: a number of w bits is below 2 ^ w, and bits of one byte are taken at once.
 -- Assumes nothing.
 use Prim.Native.Nat.{ℕ, zero, suc, _+_, _-_, _*_, _/_, _%_, _^_, _≤_, _<_}
-use mathlib.Core.Path.{_≡_, refl, ap, sym, _∙_, subst}
+use mathlib.Core.Path.{_≡_, refl, ap, sym, _∙_}
 use mathlib.Core.List.{List, [], _∷_, _++_, append-assoc}
 use native.Mathlib.Omega.{arith}
-use native.Mathlib.Nat.{add-zero, zero-add, div-one, div-eq-of-lt, mul-add-div-right, pow-suc, add-suc, mod-one, mod-eq-of-lt, mod-lt, one-mul, mul-one, lt-of-lt-of-le}
+use native.Mathlib.Nat.{add-zero, zero-add, div-one, div-eq-of-lt, mul-add-div-right, pow-suc, add-suc, mod-one, one-mul, lt-of-lt-of-le}
 use native.Mathlib.Numerals.{add-one}
-use lib.Pow.{high, low, pow-add, shr-lt, shr-mod, pow-pos, pow-lt, pow-mono, shl-exact, shr-shr, mod-pow-add}
+use lib.Pow.{high, low, pow-add, shr-lt, shr-mod, pow-pos, pow-mono, shl-exact, shr-shr, mod-pow-add}
 use lib.ListN.{length, getD, set, replicate}
 use lib.Seq.{set-at}
 use Rattle.model.specs.Sizes.{Bytes}

@@ -6,7 +6,6 @@ use mathlib.Core.Path.{_≡_}
 use mathlib.Core.List.{List, [], _∷_}
 use lib.Dec.{eqb}
 use Rattle.model.specs.Sizes.{Bytes}
-use Rattle.model.specs.Entry.{Entry}
 use Rattle.model.specs.Record.{Shown, Configuration, Row}
 use Rattle.model.specs.Reading.{fieldAt, bytesAt, got, Reader, many, shown, row}
 

@@ -1,12 +1,12 @@
 -- The entries and rows that a walk gives, as the code's values.
 -- Assumes nothing.
 use Prim.Native.Nat.{ℕ, _+_, _-_, _*_, _^_, _≤_}
-use mathlib.Core.List.{List, [], _∷_, _++_}
+use mathlib.Core.List.{List, _++_}
 use lib.Dec.{eqb}
 use lib.ListN.{length, replicate}
 use Rattle.model.specs.Sizes.{Bytes}
 use Rattle.model.specs.Record.{Shown, front, lastIndex}
-use Rattle.model.specs.Reading.{fieldAt, bytesAt}
+use Rattle.model.specs.Reading.{fieldAt}
 use Rattle.records.specs.declared.walk.ShownEntry.{ShownEntry}
 use Rattle.records.specs.declared.walk.Configuration.{Configuration}
 use Rattle.records.specs.declared.walk.Row.{Row}

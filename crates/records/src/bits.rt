@@ -1,6 +1,6 @@
 // Bits of a record, most significant first: the number in any 64 or fewer of them, and a field that may be missing.
 ghost use mathlib.Core.Path.{_≡_};
-ghost use Prim.Native.Nat.{ℕ, _+_, _*_, _≤_};
+ghost use Prim.Native.Nat.{ℕ, _+_, _*_, _≤_, min};
 ghost use lib.ListN.{length};
 ghost use lib.Dec.{leb};
 ghost use Rattle.model.specs.Reading as reading;
@@ -47,7 +47,7 @@ fn wide(x: u8) -> u64
 }
 
 fn lesser(a: usize, b: usize) -> usize
-    ensures { λ r. ⌜ r ≡ Prim.Native.Nat.min a b ⌝ }
+    ensures { λ r. ⌜ r ≡ min a b ⌝ }
 {
     if a <= b { a } else { b }
 }

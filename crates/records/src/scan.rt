@@ -1,13 +1,12 @@
 // The entries of a view and the rows, looked at from the left for their first fault. An item's answer has its key, the
 // entry's index or the row's node, and the bit after it; contents are not read here.
 ghost use mathlib.Core.Path.{_≡_};
-ghost use Prim.Native.Nat.{ℕ, _+_, _*_, _≤_};
+ghost use Prim.Native.Nat.{ℕ, _+_, _*_, _^_, _≤_};
 ghost use Rattle.model.specs.Reading as reading;
 ghost use Rattle.records.specs.Answers.{keyed, ended, scanPart, endPart, donePart};
 ghost use Rattle.records.specs.Places.{indexOf, nodeOf};
 use crate::bits::Fault;
 use crate::bits::Number;
-use crate::bits::field;
 use crate::bits::holds;
 use crate::fields::Flag;
 use crate::fields::entry_index;
@@ -37,7 +36,7 @@ pub enum Done {
 
 // An entry: index, term, content length, content.
 fn scan_entry(s: &[u8], at: usize, least: u64) -> Item
-    requires { ⌜ at ≤ 4294967296 ⌝ }
+    requires { ⌜ at ≤ 2 ^ 32 ⌝ }
     ensures { λ r. ⌜ keyed indexOf (reading.shown least (now (s .entry)) at) ≡ scanPart r ⌝ }
 {
     let i = match entry_index(s, at, least) {
@@ -67,7 +66,7 @@ fn scan_entry(s: &[u8], at: usize, least: u64) -> Item
 
 // The entries of a view.
 pub fn scan_entries(s: &[u8], first: usize, count: usize) -> End
-    requires { ⌜ first + 304 * count ≤ 4294967296 ⌝ }
+    requires { ⌜ first + 304 * count ≤ 2 ^ 32 ⌝ }
     ensures { λ r. ⌜ ended (reading.many reading.shown indexOf 0 count (now (s .entry)) first) ≡ endPart r ⌝ }
 {
     let mut at = first;
@@ -88,7 +87,7 @@ pub fn scan_entries(s: &[u8], first: usize, count: usize) -> End
 
 // A configuration: present, index, identity.
 fn scan_configuration(s: &[u8], at: usize) -> Done
-    requires { ⌜ at ≤ 8589934592 ⌝ }
+    requires { ⌜ at ≤ 2 ^ 33 ⌝ }
     ensures { λ r. ⌜ ended (reading.configuration (now (s .entry)) at) ≡ donePart r (at + 43) ⌝ }
 {
     let p = match yes_no(s, at) {
@@ -109,7 +108,7 @@ fn scan_configuration(s: &[u8], at: usize) -> Done
 
 // A row: node, floor, commit, last index, floor configuration, actual configuration.
 fn scan_row(s: &[u8], at: usize, least: u64) -> Item
-    requires { ⌜ at ≤ 4294967296 ⌝ }
+    requires { ⌜ at ≤ 2 ^ 32 ⌝ }
     ensures { λ r. ⌜ keyed nodeOf (reading.row least (now (s .entry)) at) ≡ scanPart r ⌝ }
 {
     let n = match row_node(s, at, least) {
@@ -148,7 +147,7 @@ fn scan_row(s: &[u8], at: usize, least: u64) -> Item
 
 // The rows.
 pub fn scan_rows(s: &[u8], first: usize, count: usize) -> End
-    requires { ⌜ first + 122 * count ≤ 4294967296 ⌝ }
+    requires { ⌜ first + 122 * count ≤ 2 ^ 32 ⌝ }
     ensures { λ r. ⌜ ended (reading.many reading.row nodeOf 0 count (now (s .entry)) first) ≡ endPart r ⌝ }
 {
     let mut at = first;

@@ -1,11 +1,11 @@
 // The entries and rows of a readable record, by value, each with the bit after it, and the front of a view. A walk starts
 // at FIRST_ENTRY or FIRST_ROW with the count that `read` gave.
 ghost use mathlib.Core.Path.{_≡_};
-ghost use Prim.Native.Nat.{ℕ, _+_, _*_, _≤_};
+ghost use Prim.Native.Nat.{ℕ, _+_, _*_, _^_, _≤_};
 ghost use lib.ListN.{length};
 ghost use Rattle.model.specs.Reading as reading;
-ghost use Rattle.records.specs.Places as places;
 ghost use Rattle.model.specs.Record as model;
+ghost use Rattle.records.specs.Places as places;
 ghost use Rattle.records.specs.Values.{padded, frontValue, shownEntry, configurationValue, rowValue, Here, RowHere};
 use crate::bits::bits_at;
 use units::LogIndex;
@@ -62,7 +62,7 @@ fn wide(x: u8) -> u16
 // The n bytes from bit `at` on, each through a window of two bytes, and zeros after them. Where `at` begins a byte, both
 // bytes of the window are that one.
 fn content_at(s: &[u8], at: usize, n: usize) -> [u8; 32]
-    requires { ⌜ (n ≤ 32) × (at ≤ 8589934592) × (at + 8 * n ≤ 8 * length (now s)) ⌝ }
+    requires { ⌜ (n ≤ 32) × (at ≤ 2 ^ 33) × (at + 8 * n ≤ 8 * length (now s)) ⌝ }
     ensures { λ r. ⌜ r ≡ padded (reading.bytesAt (now (s .entry)) at n) n ⌝ }
 {
     let first = at / 8;
@@ -114,7 +114,7 @@ pub fn entry_at(s: &[u8], at: usize) -> ShownEntry
 
 // The configuration at bit `at`.
 fn configuration_at(s: &[u8], at: usize) -> Configuration
-    requires { ⌜ (at ≤ 8589934592) × (at + 43 ≤ 8 * length (now s)) ⌝ }
+    requires { ⌜ (at ≤ 2 ^ 33) × (at + 43 ≤ 8 * length (now s)) ⌝ }
     ensures { λ r. ⌜ r ≡ configurationValue (now (s .entry)) at ⌝ }
 {
     let p = bits_at(s, at, 1);

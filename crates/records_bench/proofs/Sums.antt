@@ -1,14 +1,14 @@
 -- Laws of the sums under the benchmark, byte by byte and entry by entry.
 -- Assumes nothing.
-use Prim.Native.Nat.{ℕ, zero, suc, _+_, _-_, _≤_, _<_}
-use mathlib.Core.Path.{_≡_, refl, ap, sym, _∙_}
-use mathlib.Core.List.{List, [], _∷_}
+use Prim.Native.Nat.{ℕ, _+_, _-_, _≤_, _<_}
+use mathlib.Core.Path.{_≡_, sym, _∙_}
+use mathlib.Core.List.{List}
 use native.Mathlib.Omega.{arith}
 use native.Mathlib.Numerals.{add-one}
 use lib.ListN.{length, getD, take, drop, drop-of-length-le}
 use lib.Seq.{drop-cons, getD-take, length-take-le}
 use Rattle.model.specs.Sizes.{Bytes}
-use Rattle.records.specs.Places.{entriesAt, shownAt, nextAt, contentAt}
+use Rattle.records.specs.Places.{entriesAt, nextAt, contentAt}
 use Rattle.records.proofs.Walks.{entries-next, entries-none}
 use Rattle.records_bench.specs.Used.{sumOf, contentsOf}
 

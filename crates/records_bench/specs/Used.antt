@@ -3,7 +3,7 @@
 use Prim.Native.Nat.{ℕ, _+_}
 use mathlib.Core.List.{List, [], _∷_}
 use lib.ListN.{length}
-use Rattle.model.specs.Record.{Shown, Record, view, commit, terms, election, check, rows}
+use Rattle.model.specs.Record.{Shown, view, commit, terms, election, check, rows}
 use Rattle.model.specs.Reading.{Reading, readable, unreadable}
 
 unfoldable pub sumOf : List ℕ → ℕ

@@ -1,6 +1,6 @@
 -- `records::scan::scan_entries` meets its contract: the list ends where what is left of it ends.
 -- Assumes nothing.
-use Prim.Native.Nat.{_+_, _*_, _≤_}
+use Prim.Native.Nat.{_+_, _*_, _^_, _≤_}
 use mathlib.Core.Path.{_≡_, refl}
 use native.Mathlib.Omega.{arith}
 use borrow.Author.Needs.{needs}
@@ -15,7 +15,7 @@ use Rattle.records.proofs.scan.scan_entries.Tie as tie
 
 abbrev Inv-loop : tie.InvT-loop
 Inv-loop s first count at₀ least₀ left₀ at least left =
-    (at + 304 * left ≤ 4294967296) × (ended (many shown indexOf 0 count s first) ≡ ended (many shown indexOf least left s at))
+    (at + 304 * left ≤ 2 ^ 32) × (ended (many shown indexOf 0 count s first) ≡ ended (many shown indexOf least left s at))
 
 abbrev μ-loop : tie.MeasureT-loop
 μ-loop s first count at₀ least₀ left₀ at least left = left
