@@ -1,0 +1,7 @@
+pub mod Widths
+pub mod Readers
+pub mod Given
+pub mod Listed
+pub mod Walks
+pub mod Heads
+pub mod Readable

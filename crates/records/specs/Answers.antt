@@ -1,0 +1,51 @@
+-- What the code's answers say in the model's words: a value with the bit after it, or a refusal.
+-- Assumes nothing.
+use Prim.Native.Nat.{ℕ}
+use mathlib.Core.Bool.{Bool}
+use Rattle.model.specs.Refusal.{Refusal, unknownKind, bitsMissing, filling, outOfLimit, notAbove}
+use Rattle.model.specs.Reading.{Part, got, fault}
+use Rattle.records.specs.declared.bits.Fault.{Fault}
+use Rattle.records.specs.declared.bits.Number.{Number}
+use Rattle.records.specs.declared.fields.Flag.{Flag}
+use Rattle.records.specs.declared.scan.Item.{Item}
+use Rattle.records.specs.declared.scan.End.{End}
+use Rattle.records.specs.declared.scan.Done.{Done}
+
+-- a fault is a refusal of reading
+abbrev pub refusalOf : Fault → Refusal
+refusalOf Fault.UnknownKind = unknownKind
+refusalOf Fault.BitsMissing = bitsMissing
+refusalOf Fault.Filling = filling
+refusalOf Fault.OutOfLimit = outOfLimit
+refusalOf Fault.NotAbove = notAbove
+
+-- the number, with the bit after it, or the refusal
+abbrev pub numberPart : Number → ℕ → Part ℕ
+numberPart (Number.Is v) k = got v k
+numberPart (Number.Not f) k = fault (refusalOf f)
+
+-- the yes/no, with the bit after it, or the refusal
+abbrev pub flagPart : Flag → ℕ → Part Bool
+flagPart (Flag.Says b) k = got b k
+flagPart (Flag.Not f) k = fault (refusalOf f)
+
+-- ---- of a longer part the scan keeps a key and the bit after it
+
+abbrev pub keyed : {A : Type 0} → (A → ℕ) → Part A → Part ℕ
+keyed key (got x k) = got (key x) k
+keyed key (fault r) = fault r
+
+abbrev pub ended : {A : Type 0} → Part A → Part ℕ
+ended p = keyed (λ x. 0) p
+
+abbrev pub scanPart : Item → Part ℕ
+scanPart (Item.On i k) = got i k
+scanPart (Item.Not f) = fault (refusalOf f)
+
+abbrev pub endPart : End → Part ℕ
+endPart (End.At k) = got 0 k
+endPart (End.Not f) = fault (refusalOf f)
+
+abbrev pub donePart : Done → ℕ → Part ℕ
+donePart Done.Whole k = got 0 k
+donePart (Done.Not f) k = fault (refusalOf f)
