@@ -1,0 +1,31 @@
+//! Stand-in, and the door to `last_views_by_node`, private to the parent.
+
+use rafter::{LogIndex, NodeId};
+
+use crate::Cluster;
+
+use super::{LogPrefixWitness, LogicalLogHistory};
+
+impl LogicalLogHistory {
+    /// `observe_cluster` on a cluster of one node. It replaces the views of
+    /// all nodes by those of its cluster, so the lost ones are put back.
+    pub(in crate::model_check) fn observe_one(&mut self, cluster: &Cluster) {
+        let mut views = std::mem::take(&mut self.last_views_by_node);
+        let _ = self.observe_cluster(cluster);
+        views.append(&mut self.last_views_by_node);
+        self.last_views_by_node = views;
+    }
+
+    /// The first `length` entries of the node's view, or nothing where it
+    /// has a gap or ends before. A node without a view has the empty one.
+    pub(in crate::model_check) fn front_through(
+        &self,
+        node: NodeId,
+        length: LogIndex,
+    ) -> Option<LogPrefixWitness> {
+        match self.last_views_by_node.get(&node) {
+            Some(view) => self.prefix_from_view(view, length),
+            None => (length == LogIndex::ZERO).then(LogPrefixWitness::default),
+        }
+    }
+}
