@@ -2,14 +2,14 @@
 
 use std::process::ExitCode;
 use std::time::Instant;
-use std::{env, fs, panic};
+use std::{env, fs};
 
 use harness::compare::{compare, hex, smallest, Counts};
 use harness::figures::figures;
 use harness::library::subject;
 use harness::limits::limits;
 use harness::model::{Model, MISTAKES};
-use harness::oracle::Oracle;
+use harness::oracle::{hush_refusal_8, Oracle};
 use harness::subject::Subject;
 use harness::{random, sheet, small};
 
@@ -21,13 +21,7 @@ harness mistakes [--seed S]     each mistake of the model on purpose, and the sm
 harness chain S K               the recording of random chain K of seed S, in hexadecimal";
 
 fn main() -> ExitCode {
-    // Refusal 8 is the Rust's panic; it is caught, and need not be printed.
-    panic::set_hook(Box::new(|info| {
-        let ours = info.location().is_some_and(|at| !at.file().contains("oracle/"));
-        if ours {
-            eprintln!("{info}");
-        }
-    }));
+    hush_refusal_8();
     let words: Vec<String> = env::args().skip(1).collect();
     let words: Vec<&str> = words.iter().map(String::as_str).collect();
     let good = match words.as_slice() {

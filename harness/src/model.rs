@@ -30,13 +30,10 @@ pub enum Mistake {
     AbsentTermRelevant,
     ZerosLowerMarks,
     EqualTermLowersMark,
-    MarkLoweredToZero,
     GreaterTermReplaces,
     CheckEndsAtFirst,
-    AllMarksMove,
     ElectionKeepsFront,
     AbsentLogPasses,
-    CertificatesByArrival,
     FillingIgnored,
     RiseBeforeLimit,
     AbsentFieldsIgnored,
@@ -51,7 +48,7 @@ pub enum Mistake {
     LeaderTwice,
 }
 
-pub const MISTAKES: [Mistake; 36] = [
+pub const MISTAKES: [Mistake; 33] = [
     Mistake::MarkLeftUp,
     Mistake::LastEntryOnly,
     Mistake::MismatchReplaces,
@@ -69,13 +66,10 @@ pub const MISTAKES: [Mistake; 36] = [
     Mistake::AbsentTermRelevant,
     Mistake::ZerosLowerMarks,
     Mistake::EqualTermLowersMark,
-    Mistake::MarkLoweredToZero,
     Mistake::GreaterTermReplaces,
     Mistake::CheckEndsAtFirst,
-    Mistake::AllMarksMove,
     Mistake::ElectionKeepsFront,
     Mistake::AbsentLogPasses,
-    Mistake::CertificatesByArrival,
     Mistake::FillingIgnored,
     Mistake::RiseBeforeLimit,
     Mistake::AbsentFieldsIgnored,
@@ -413,10 +407,9 @@ impl Model {
             } else {
                 term + 1
             };
-            let to = if self.is(Mistake::MarkLoweredToZero) { 0 } else { first - 1 };
             for certificate in &mut self.certificates {
                 if certificate.term >= least && certificate.mark >= first {
-                    certificate.mark = to;
+                    certificate.mark = first - 1;
                 }
             }
         }
@@ -468,10 +461,8 @@ impl Model {
     fn check(&mut self) -> Outcome {
         let end = self.committed.len();
         let mut order: Vec<usize> = (0..self.certificates.len()).collect();
-        if !self.is(Mistake::CertificatesByArrival) {
-            // A stable sort: by term, then arrival.
-            order.sort_by_key(|place| self.certificates[*place].term);
-        }
+        // A stable sort: by term, then arrival.
+        order.sort_by_key(|place| self.certificates[*place].term);
         let mut value = 0;
         let mut found = Vec::new();
         let mut moved = Vec::new();
@@ -507,9 +498,6 @@ impl Model {
             moved.iter().for_each(|place| self.certificates[*place].mark = end);
         }
         self.findings = self.with_findings(&found)?;
-        if self.is(Mistake::AllMarksMove) && !moved.is_empty() {
-            moved = (0..self.certificates.len()).collect();
-        }
         moved.iter().for_each(|place| self.certificates[*place].mark = end);
         Ok((value, 0))
     }

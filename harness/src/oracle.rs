@@ -6,13 +6,25 @@
 //! 10, the leader list and the printed order.
 
 use std::collections::{BTreeSet, HashMap};
-use std::panic::{catch_unwind, AssertUnwindSafe};
+use std::panic::{self, catch_unwind, AssertUnwindSafe};
 use std::sync::Arc;
 
-use rafter_sim::model_check::judge::{self, Histories, RowFields, ViewEntry};
+use rafter_sim::model_check::judge::{Call, Histories, RowFields, ViewEntry, Violation};
 
 use crate::record::{read, Configuration, Entry, Record, Row};
 use crate::subject::{Answer, Finding, Lists, Subject};
+
+/// Refusal 8 is the Rust's panic. It is caught, and need not be printed; any
+/// other panic is.
+pub fn hush_refusal_8() {
+    let before = panic::take_hook();
+    panic::set_hook(Box::new(move |info| {
+        let expected = info.location().is_some_and(|at| at.file().ends_with("commit/prefix.rs"));
+        if !expected {
+            before(info);
+        }
+    }));
+}
 
 const PREFIX_LIMIT: usize = 512;
 const FINDING_LIMIT: usize = 128;
@@ -67,51 +79,40 @@ impl Subject for Oracle {
 
 impl Oracle {
     fn take(&mut self, record: Record) -> Result<Answer, u32> {
+        let call = call(&record);
+        let mut next = self.histories.clone();
         match record {
-            Record::View { node, entries } => {
+            Record::View { entries, .. } => {
                 let missing = self.prefixes.missing(front(&entries));
                 if self.prefixes.count + missing > PREFIX_LIMIT {
                     return Err(6);
                 }
-                let shown = view_entries(&entries);
-                self.judged(|histories| {
-                    histories.view(u64::from(node), shown);
-                    0
-                })?;
+                next.run(&call);
+                self.keep(next)?;
                 self.prefixes.store(front(&entries));
-                Ok(Answer::accepted(0))
+                Ok(Answer::default())
             }
-            Record::Commit { node, index } => {
-                let flags = self.judged(|h| h.commit(u64::from(node), u64::from(index)))?;
-                Ok(Answer::accepted(flags))
+            Record::Commit { .. } | Record::Check => {
+                let (flags, _) = next.run(&call).unwrap_or_default();
+                self.keep(next)?;
+                Ok(Answer::accepted(flags as u32))
             }
-            Record::Terms { old, new, term } => {
-                let mut next = self.histories.clone();
-                let (old, new, term) = (u64::from(old), u64::from(new), u64::from(term));
-                catch_unwind(AssertUnwindSafe(|| next.commit_terms(old, new, term)))
-                    .map_err(|_| 8_u32)?;
-                self.histories = next;
-                Ok(Answer::accepted(0))
+            Record::Terms { .. } => {
+                catch_unwind(AssertUnwindSafe(|| next.run(&call))).map_err(|_| 8_u32)?;
+                self.keep(next)?;
+                Ok(Answer::default())
             }
-            Record::Election {
-                leader,
-                term,
-                length,
-            } => {
-                let mut next = self.histories.clone();
-                if !next.election(u64::from(leader), u64::from(term), length.map(u64::from)) {
-                    return Err(9);
-                }
+            Record::Election { .. } => {
+                next.run(&call).ok_or(9_u32)?;
                 if self.certificates == CERTIFICATE_LIMIT {
                     return Err(10);
                 }
                 self.certificates += 1;
-                self.histories = next;
-                Ok(Answer::accepted(0))
+                self.keep(next)?;
+                Ok(Answer::default())
             }
-            Record::Check => Ok(Answer::accepted(self.judged(Histories::check)?)),
-            Record::Rows(rows) => {
-                let (rule, node) = judge::rows(&rows.iter().map(row_fields).collect::<Vec<_>>());
+            Record::Rows(_) => {
+                let (rule, node) = next.run(&call).unwrap_or_default();
                 Ok(Answer {
                     refusal: 0,
                     value: rule as u32,
@@ -121,11 +122,9 @@ impl Oracle {
         }
     }
 
-    /// Runs a record that may find something on a clone: 7, and the clone is
-    /// dropped, where the distinct findings would be too many.
-    fn judged(&mut self, run: impl FnOnce(&mut Histories) -> u64) -> Result<u32, u32> {
-        let mut next = self.histories.clone();
-        let flags = run(&mut next);
+    /// Keeps the clone that a record was run on: 7, and it is dropped, where
+    /// the distinct findings would be too many.
+    fn keep(&mut self, mut next: Histories) -> Result<(), u32> {
         let found: Vec<Finding> = next.take_violations().into_iter().map(finding).collect();
         let new = found.iter().filter(|f| !self.findings.contains(f)).count();
         if self.findings.len() + new > FINDING_LIMIT {
@@ -133,11 +132,11 @@ impl Oracle {
         }
         self.findings.extend(found);
         self.histories = next;
-        Ok(flags as u32)
+        Ok(())
     }
 }
 
-fn finding(violation: judge::Violation) -> Finding {
+fn finding(violation: Violation) -> Finding {
     Finding {
         name: violation.name as u32,
         node: violation.node as u32,
@@ -146,18 +145,32 @@ fn finding(violation: judge::Violation) -> Finding {
     }
 }
 
-pub fn view_entries(entries: &[Entry]) -> Vec<ViewEntry> {
-    entries
-        .iter()
-        .map(|entry| ViewEntry {
-            index: u64::from(entry.index),
-            term: u64::from(entry.term),
-            content: Arc::clone(&entry.content),
-        })
-        .collect()
+/// A record's fields in the Rust's own units.
+pub fn call(record: &Record) -> Call {
+    match record {
+        Record::View { node, entries } => {
+            let entries = entries.iter().map(|entry| ViewEntry {
+                index: u64::from(entry.index),
+                term: u64::from(entry.term),
+                content: Arc::clone(&entry.content),
+            });
+            Call::view(u64::from(*node), entries)
+        }
+        Record::Commit { node, index } => Call::commit(u64::from(*node), u64::from(*index)),
+        Record::Terms { old, new, term } => {
+            Call::commit_terms(u64::from(*old), u64::from(*new), u64::from(*term))
+        }
+        Record::Election {
+            leader,
+            term,
+            length,
+        } => Call::election(u64::from(*leader), u64::from(*term), length.map(u64::from)),
+        Record::Check => Call::check(),
+        Record::Rows(rows) => Call::rows(rows.iter().map(row_fields)),
+    }
 }
 
-pub fn row_fields(row: &Row) -> RowFields {
+fn row_fields(row: &Row) -> RowFields {
     let configuration =
         |c: Configuration| c.map(|(index, identity)| (u64::from(index), u64::from(identity)));
     RowFields {

@@ -52,18 +52,22 @@ struct World {
     /// How often each kind comes, 1 to 6.
     weights: [u32; 6],
     records: u32,
+    /// The length of the front that each node showed last, so that commits
+    /// and elections mostly stay within it.
+    fronts: [u32; 64],
 }
 
 pub fn chain(seed: u64, number: u64) -> Vec<Vec<u8>> {
     let mut dice = Dice::new(seed, number);
-    let world = match dice.below(1000) {
-        0..450 => tiny(&mut dice),
-        450..750 => logs(&mut dice),
-        750..900 => wide(&mut dice),
-        900..995 => elections(&mut dice),
+    let mut world = match dice.below(1000) {
+        0..430 => tiny(&mut dice),
+        430..730 => logs(&mut dice),
+        730..880 => wide(&mut dice),
+        880..993 => elections(&mut dice),
+        993..995 => crowd(&mut dice),
         _ => full(&mut dice),
     };
-    (0..world.records).map(|_| record(&mut dice, &world)).collect()
+    (0..world.records).map(|_| record(&mut dice, &mut world)).collect()
 }
 
 /// Few nodes, terms and contents, so that everything meets everything.
@@ -78,6 +82,7 @@ fn tiny(dice: &mut Dice) -> World {
         damage: 6,
         weights: [30, 20, 17, 15, 15, 3],
         records: 1 + dice.below(14),
+        fronts: [0; 64],
     }
 }
 
@@ -106,6 +111,7 @@ fn logs(dice: &mut Dice) -> World {
         damage: 4,
         weights: [32, 22, 16, 14, 14, 2],
         records: 4 + dice.below(16),
+        fronts: [0; 64],
     }
 }
 
@@ -126,6 +132,7 @@ fn wide(dice: &mut Dice) -> World {
         damage: 12,
         weights: [30, 15, 15, 15, 10, 15],
         records: 1 + dice.below(10),
+        fronts: [0; 64],
     }
 }
 
@@ -146,6 +153,16 @@ fn elections(dice: &mut Dice) -> World {
         damage: 2,
         weights: [12, 12, 26, 25, 25, 0],
         records: 10 + dice.below(30),
+        fronts: [0; 64],
+    }
+}
+
+/// More elections than there is room for.
+fn crowd(dice: &mut Dice) -> World {
+    World {
+        weights: [4, 3, 5, 80, 5, 0],
+        records: 70 + dice.below(40),
+        ..elections(dice)
     }
 }
 
@@ -176,6 +193,7 @@ fn full(dice: &mut Dice) -> World {
         damage: 2,
         weights: [45, 20, 10, 12, 13, 0],
         records: 8 + dice.below(24),
+        fronts: [0; 64],
     }
 }
 
@@ -205,23 +223,46 @@ fn extend(dice: &mut Dice, log: &mut Vec<Entry>, more: usize, least: u32, conten
     }
 }
 
-fn record(dice: &mut Dice, world: &World) -> Vec<u8> {
+fn record(dice: &mut Dice, world: &mut World) -> Vec<u8> {
     let kind = kind(dice, &world.weights);
-    let mut bytes = match kind {
-        1 => write(&view(dice, world)),
-        2 => write(&Record::Commit {
-            node: dice.pick(&world.nodes),
-            index: dice.below(world.reach + 1),
-        }),
-        3 => write(&terms(dice, world)),
-        4 => write(&election(dice, world)),
-        5 => write(&Record::Check),
-        _ => write(&rows(dice, world)),
+    let record = match kind {
+        1 => view(dice, world),
+        2 => commit(dice, world),
+        3 => terms(dice, world),
+        4 => election(dice, world),
+        5 => Record::Check,
+        _ => rows(dice, world),
     };
+    let bytes = write(&record);
     if dice.chance(world.damage) {
-        bytes = damaged(dice, bytes, kind);
+        return damaged(dice, bytes, kind);
+    }
+    if let Record::View { node, entries } = &record {
+        let front = (1..).zip(entries).take_while(|(place, entry)| entry.index == *place);
+        world.fronts[*node as usize] = front.count() as u32;
     }
     bytes
+}
+
+/// Mostly a node that shows something.
+fn node(dice: &mut Dice, world: &World) -> u32 {
+    let showing = |node: &u32| world.fronts[*node as usize] > 0;
+    let shown: Vec<u32> = world.nodes.iter().copied().filter(showing).collect();
+    if shown.is_empty() || dice.chance(10) {
+        return dice.pick(&world.nodes);
+    }
+    dice.pick(&shown)
+}
+
+fn commit(dice: &mut Dice, world: &World) -> Record {
+    let node = node(dice, world);
+    let front = world.fronts[node as usize];
+    let index = match dice.below(10) {
+        0 => dice.below(world.reach + 1),
+        1..4 => front,
+        _ => dice.below(front + 1),
+    };
+    Record::Commit { node, index }
 }
 
 fn kind(dice: &mut Dice, weights: &[u32; 6]) -> u32 {
@@ -295,13 +336,16 @@ fn terms(dice: &mut Dice, world: &World) -> Record {
 }
 
 fn election(dice: &mut Dice, world: &World) -> Record {
-    let length = match dice.below(4) {
-        0 => None,
-        1 => Some(dice.below(2)),
-        _ => Some(dice.below(world.reach.min(12) + 1)),
+    let leader = node(dice, world);
+    let front = world.fronts[leader as usize];
+    let length = match dice.below(10) {
+        0 => Some(dice.below(world.reach + 1)),
+        1..3 => None,
+        3..6 => Some(front),
+        _ => Some(dice.below(front + 1)),
     };
     Record::Election {
-        leader: dice.pick(&world.nodes),
+        leader,
         term: dice.pick(&world.terms),
         length,
     }

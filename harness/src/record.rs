@@ -56,11 +56,12 @@ impl Reader<'_> {
         if self.next + width > 8 * self.bytes.len() {
             return Err(2);
         }
-        let mut value = 0;
-        for bit in self.next..self.next + width {
-            value = value << 1 | u32::from(self.bytes[bit / 8] >> (7 - bit % 8) & 1);
-        }
-        self.next += width;
+        let end = self.next + width;
+        // At most five bytes hold the field; the bits after it are shifted out.
+        let held = &self.bytes[self.next / 8..end.div_ceil(8)];
+        let value = held.iter().fold(0_u64, |all, byte| all << 8 | u64::from(*byte));
+        let value = (value >> (8 * end.div_ceil(8) - end) & ((1 << width) - 1)) as u32;
+        self.next = end;
         if value > limit {
             return Err(4);
         }
@@ -101,7 +102,7 @@ impl Reader<'_> {
     fn view(&mut self) -> Result<Record, u32> {
         let node = self.node()?;
         let count = self.index()?;
-        let mut entries = Vec::new();
+        let mut entries = Vec::with_capacity(count as usize);
         let mut before = 0;
         for _ in 0..count {
             let index = self.index()?;
@@ -114,13 +115,15 @@ impl Reader<'_> {
             before = index;
             let term = self.term()?;
             let length = self.field(6, CONTENT_LIMIT)?;
-            let content = (0..length)
-                .map(|_| self.field(8, ANY).map(|byte| byte as u8))
-                .collect::<Result<Vec<u8>, u32>>()?;
+            let mut content = [0; CONTENT_LIMIT as usize];
+            let content = &mut content[..length as usize];
+            for byte in content.iter_mut() {
+                *byte = self.field(8, ANY)? as u8;
+            }
             entries.push(Entry {
                 index,
                 term,
-                content: content.into(),
+                content: Arc::from(&*content),
             });
         }
         Ok(Record::View { node, entries })

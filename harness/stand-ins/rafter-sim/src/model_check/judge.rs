@@ -1,9 +1,9 @@
 //! The driver: one record at a time, as decoded fields, through the Rust.
 //!
-//! Nothing here decides anything. Each function makes the cluster of the
-//! nodes that the record names, calls the Rust's function for it and hands
-//! back what the Rust answered. A caller that wants to take a record back
-//! runs it on a clone.
+//! Nothing here decides anything. A `Call` is the cluster of the nodes that
+//! the record names, or the numbers that the Rust's function takes; `run`
+//! calls that function and hands back what the Rust answered. A caller that
+//! wants to take a record back runs it on a clone.
 
 use std::collections::BTreeMap;
 
@@ -53,59 +53,112 @@ pub struct Histories {
     elections: ElectionHistory,
 }
 
-impl Histories {
-    pub fn view(&mut self, node: u64, entries: Vec<ViewEntry>) {
-        let log = entries
-            .into_iter()
-            .map(|entry| BootstrapLogEntry {
-                index: LogIndex(entry.index),
-                term: Term(entry.term),
-                kind: LogEntryKind {
-                    content: entry.content,
-                },
-            })
-            .collect();
+/// One record, ready to be run.
+pub struct Call(Kind);
+
+enum Kind {
+    View(Cluster),
+    Commit(Cluster),
+    Terms(LogIndex, LogIndex, Term),
+    Election(NodeId, Term, Option<LogIndex>),
+    Check,
+    Rows(Box<ExplorationState>),
+}
+
+impl Call {
+    pub fn view(node: u64, entries: impl Iterator<Item = ViewEntry>) -> Self {
+        let log = entries.map(|entry| BootstrapLogEntry {
+            index: LogIndex(entry.index),
+            term: Term(entry.term),
+            kind: LogEntryKind {
+                content: entry.content,
+            },
+        });
         let shown = Node {
-            log,
+            log: log.collect(),
             ..Node::default()
         };
-        self.logs.observe_one(&one_node(node, shown));
+        Self(Kind::View(one_node(node, shown)))
     }
 
-    /// Flags 1 and 2.
-    pub fn commit(&mut self, node: u64, index: u64) -> u64 {
+    pub fn commit(node: u64, index: u64) -> Self {
         let shown = Node {
             commit_index: LogIndex(index),
             ..Node::default()
         };
-        let cluster = one_node(node, shown);
-        flags(self.commits.observe_commit(&cluster, &self.logs))
+        Self(Kind::Commit(one_node(node, shown)))
     }
 
-    /// Panics where `old` exceeds `new`, with the list already lengthened.
-    pub fn commit_terms(&mut self, old: u64, new: u64, term: u64) {
-        self.commits
-            .commit_terms(LogIndex(old), LogIndex(new), Term(term));
+    pub fn commit_terms(old: u64, new: u64, term: u64) -> Self {
+        Self(Kind::Terms(LogIndex(old), LogIndex(new), Term(term)))
     }
 
-    /// The file that records elections is not at hand, so the certificate is
-    /// put where `record_leader_completeness` looks for it. False, and
-    /// nothing done, where the leader's view does not give such a log.
-    pub fn election(&mut self, leader: u64, term: u64, length: Option<u64>) -> bool {
-        let log = match length {
-            None => None,
-            Some(length) => match self.logs.front_through(NodeId(leader), LogIndex(length)) {
-                None => return false,
-                log => log,
-            },
-        };
-        self.elections.elect(NodeId(leader), Term(term), log);
-        true
+    pub fn election(leader: u64, term: u64, length: Option<u64>) -> Self {
+        let length = length.map(LogIndex);
+        Self(Kind::Election(NodeId(leader), Term(term), length))
     }
 
-    /// Flag 4.
-    pub fn check(&mut self) -> u64 {
-        flags(self.commits.check_leaders(&self.elections))
+    pub fn check() -> Self {
+        Self(Kind::Check)
+    }
+
+    pub fn rows(rows: impl Iterator<Item = RowFields>) -> Self {
+        let mut nodes = BTreeMap::new();
+        let mut commit_floors = BTreeMap::new();
+        let mut configuration_floors = BTreeMap::new();
+        for row in rows {
+            let node = Node {
+                commit_index: LogIndex(row.commit),
+                last_log_index: LogIndex(row.last),
+                committed_configuration: configuration(row.actual_configuration),
+                ..Node::default()
+            };
+            nodes.insert(NodeId(row.node), node);
+            commit_floors.insert(NodeId(row.node), LogIndex(row.floor));
+            configuration_floors.insert(NodeId(row.node), configuration(row.floor_configuration));
+        }
+        let cluster = Cluster::of(nodes);
+        let state = ExplorationState::of_rows(cluster, commit_floors, configuration_floors);
+        Self(Kind::Rows(Box::new(state)))
+    }
+}
+
+impl Histories {
+    /// The flags or the rule, and the node of a failing row. Nothing, and
+    /// nothing done, for an election whose leader's view gives no such log.
+    /// Panics for commit terms with old above new, the list lengthened already.
+    pub fn run(&mut self, call: &Call) -> Option<(u64, u64)> {
+        match &call.0 {
+            Kind::View(cluster) => {
+                self.logs.observe_one(cluster);
+                Some((0, 0))
+            }
+            Kind::Commit(cluster) => {
+                let marks = self.commits.observe_commit(cluster, &self.logs);
+                Some((flags(marks), 0))
+            }
+            Kind::Terms(old, new, term) => {
+                self.commits.commit_terms(*old, *new, *term);
+                Some((0, 0))
+            }
+            Kind::Election(leader, term, None) => {
+                self.elections.elect(*leader, *term, None);
+                Some((0, 0))
+            }
+            Kind::Election(leader, term, Some(length)) => {
+                let log = self.logs.front_through(*leader, *length)?;
+                self.elections.elect(*leader, *term, Some(log));
+                Some((0, 0))
+            }
+            Kind::Check => Some((flags(self.commits.check_leaders(&self.elections)), 0)),
+            Kind::Rows(state) => Some(match check_commit_safety(state, &[]) {
+                Ok(()) => (0, 0),
+                Err(failure) => (
+                    rule(failure.invariant(), failure.message()),
+                    digits(failure.message())[0],
+                ),
+            }),
+        }
     }
 
     /// The violations since the last call. They are only ever inserted, so
@@ -138,32 +191,6 @@ impl Histories {
         let prefix = self.commits.committed_prefix.as_ref()?;
         let owner = self.commits.owner()?;
         Some((prefix.through().0, owner.0))
-    }
-}
-
-/// Rule and node of the first failing row of the first failing rule.
-pub fn rows(rows: &[RowFields]) -> (u64, u64) {
-    let mut nodes = BTreeMap::new();
-    let mut commit_floors = BTreeMap::new();
-    let mut configuration_floors = BTreeMap::new();
-    for row in rows {
-        let node = Node {
-            commit_index: LogIndex(row.commit),
-            last_log_index: LogIndex(row.last),
-            committed_configuration: configuration(row.actual_configuration),
-            ..Node::default()
-        };
-        nodes.insert(NodeId(row.node), node);
-        commit_floors.insert(NodeId(row.node), LogIndex(row.floor));
-        configuration_floors.insert(NodeId(row.node), configuration(row.floor_configuration));
-    }
-    let state = ExplorationState::of_rows(Cluster::of(nodes), commit_floors, configuration_floors);
-    match check_commit_safety(&state, &[]) {
-        Ok(()) => (0, 0),
-        Err(failure) => (
-            rule(failure.invariant(), failure.message()),
-            digits(failure.message())[0],
-        ),
     }
 }
 
