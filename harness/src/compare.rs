@@ -1,6 +1,7 @@
 //! Two subjects side by side, record by record, and the smallest chain on
 //! which they part.
 
+use crate::ledger::Ledger;
 use crate::record::{read, write, Record};
 use crate::subject::{Answer, Lists, Subject};
 
@@ -29,6 +30,10 @@ pub struct Counts {
     pub flags: [u64; 8],
     /// Failing rows by rule.
     pub rules: [u64; 5],
+    /// Accepted checks whose leader list the ledger had to have as well, and
+    /// those of them where it was not empty.
+    pub ledger_checks: u64,
+    pub ledger_leaders: u64,
 }
 
 impl Counts {
@@ -58,8 +63,9 @@ impl Counts {
     }
 }
 
-/// The answer and all lists after every record; and where a record is
-/// refused, every byte that the second subject holds.
+/// The answer and all lists after every record; where a record is refused,
+/// every byte that the second subject holds; and at accepted checks, while all
+/// commit terms are known, the Rust's leader list with the plain ledger's.
 pub fn compare(
     oracle: &mut dyn Subject,
     subject: &mut dyn Subject,
@@ -70,6 +76,7 @@ pub fn compare(
     subject.fresh();
     let mut before = Vec::new();
     let mut after = Vec::new();
+    let mut ledger = Ledger::default();
     let mut expected = oracle.lists().sorted();
     for (number, record) in (1..).zip(chain) {
         let part = |what| {
@@ -88,6 +95,18 @@ pub fn compare(
         let lists = subject.lists().sorted();
         if judged.refusal == 0 {
             expected = oracle.lists().sorted();
+            if let Ok(record) = read(record) {
+                let check = record == Record::Check;
+                ledger.take(record);
+                if check && ledger.known {
+                    counts.ledger_checks += 1;
+                    counts.ledger_leaders += u64::from(!expected.leaders.is_empty());
+                    let leaders = ledger.leaders();
+                    if leaders != expected.leaders {
+                        return part(format!("the ledger has {leaders:?}, the Rust {expected:?}"));
+                    }
+                }
+            }
         } else {
             subject.bytes(&mut after);
             if before != after {

@@ -2,6 +2,7 @@
 
 pub mod compare;
 pub mod figures;
+pub mod ledger;
 pub mod library;
 pub mod limits;
 pub mod model;

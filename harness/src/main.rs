@@ -222,6 +222,10 @@ fn print_counts(counts: &Counts) {
         "  chains that end with unseen: {}, with unknown: {}",
         counts.unseen, counts.unknown
     );
+    println!(
+        "  leader lists held against the plain ledger: {}, not empty: {}",
+        counts.ledger_checks, counts.ledger_leaders
+    );
 }
 
 /// Each mistake must be noticed; this says how soon and shows the smallest chain.

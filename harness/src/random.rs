@@ -55,6 +55,8 @@ struct World {
     /// The length of the front that each node showed last, so that commits
     /// and elections mostly stay within it.
     fronts: [u32; 64],
+    /// What comes before the random records.
+    start: Vec<Vec<u8>>,
 }
 
 pub fn chain(seed: u64, number: u64) -> Vec<Vec<u8>> {
@@ -63,11 +65,15 @@ pub fn chain(seed: u64, number: u64) -> Vec<Vec<u8>> {
         0..430 => tiny(&mut dice),
         430..730 => logs(&mut dice),
         730..880 => wide(&mut dice),
-        880..993 => elections(&mut dice),
-        993..995 => crowd(&mut dice),
+        880..988 => elections(&mut dice),
+        988..990 => crowd(&mut dice),
+        990..993 => brim_of_findings(&mut dice),
+        993..995 => brim_of_prefixes(&mut dice),
         _ => full(&mut dice),
     };
-    (0..world.records).map(|_| record(&mut dice, &mut world)).collect()
+    let mut chain = std::mem::take(&mut world.start);
+    chain.extend((0..world.records).map(|_| record(&mut dice, &mut world)));
+    chain
 }
 
 /// Few nodes, terms and contents, so that everything meets everything.
@@ -83,6 +89,7 @@ fn tiny(dice: &mut Dice) -> World {
         weights: [30, 20, 17, 15, 15, 3],
         records: 1 + dice.below(14),
         fronts: [0; 64],
+        start: Vec::new(),
     }
 }
 
@@ -112,6 +119,7 @@ fn logs(dice: &mut Dice) -> World {
         weights: [32, 22, 16, 14, 14, 2],
         records: 4 + dice.below(16),
         fronts: [0; 64],
+        start: Vec::new(),
     }
 }
 
@@ -133,6 +141,7 @@ fn wide(dice: &mut Dice) -> World {
         weights: [30, 15, 15, 15, 10, 15],
         records: 1 + dice.below(10),
         fronts: [0; 64],
+        start: Vec::new(),
     }
 }
 
@@ -154,6 +163,7 @@ fn elections(dice: &mut Dice) -> World {
         weights: [12, 12, 26, 25, 25, 0],
         records: 10 + dice.below(30),
         fronts: [0; 64],
+        start: Vec::new(),
     }
 }
 
@@ -164,6 +174,50 @@ fn crowd(dice: &mut Dice) -> World {
         records: 70 + dice.below(40),
         ..elections(dice)
     }
+}
+
+/// Almost, or just, as many findings as there is room for, and then small
+/// records that bring one or two more, or the same again.
+fn brim_of_findings(dice: &mut Dice) -> World {
+    let length = 120 + dice.below(9);
+    let of_one_term = |first: &[u8]| {
+        let entry = |index| Entry {
+            index,
+            term: 1,
+            content: if index == 1 { first.into() } else { [].into() },
+        };
+        (1..=length).map(entry).collect::<Vec<_>>()
+    };
+    let (one, other) = (of_one_term(b"a"), of_one_term(b"b"));
+    let mut world = World {
+        logs: vec![one[..3].to_vec(), other[..3].to_vec(), other[..2].to_vec()],
+        nodes: vec![0, 1, 2],
+        reach: 4,
+        records: 6 + dice.below(16),
+        weights: [25, 30, 12, 15, 18, 0],
+        ..elections(dice)
+    };
+    for (node, entries) in [(0, one), (1, other)] {
+        world.start.push(write(&Record::View { node, entries }));
+        world.fronts[node as usize] = length;
+    }
+    world
+}
+
+/// Almost, or just, as many prefixes as there is room for.
+fn brim_of_prefixes(dice: &mut Dice) -> World {
+    let mut world = tiny(dice);
+    for (node, length) in [(0, 256), (1, 250 + dice.below(7))] {
+        let entries = (1..=length).map(|index| Entry {
+            index,
+            term: 10 + node,
+            content: [].into(),
+        });
+        let entries = entries.collect();
+        world.start.push(write(&Record::View { node, entries }));
+        world.fronts[node as usize] = length;
+    }
+    world
 }
 
 /// Long logs that part early: the limits of prefixes and findings come near.
@@ -194,6 +248,7 @@ fn full(dice: &mut Dice) -> World {
         weights: [45, 20, 10, 12, 13, 0],
         records: 8 + dice.below(24),
         fronts: [0; 64],
+        start: Vec::new(),
     }
 }
 
