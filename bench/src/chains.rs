@@ -80,13 +80,19 @@ fn certificates() -> Vec<Record> {
     chain
 }
 
-/// The accepted records of 2,000 random chains.
+/// The accepted records of 2,000 random chains, those with long logs left out.
 fn mixed() -> Vec<Vec<Vec<u8>>> {
     let mut oracle = Oracle::default();
-    let small = (0..).map(|number| random::chain(7, number)).filter(|chain| chain.len() <= 20);
+    let is_small = |chain: &Vec<Vec<u8>>| chain.iter().map(Vec::len).sum::<usize>() <= 600;
+    let small = (0..)
+        .map(|number| random::chain(7, number))
+        .filter(is_small);
     let mut accepted = |chain: Vec<Vec<u8>>| {
         oracle.fresh();
-        chain.into_iter().filter(|record| oracle.submit(record).refusal == 0).collect()
+        chain
+            .into_iter()
+            .filter(|record| oracle.submit(record).refusal == 0)
+            .collect()
     };
     small.take(2000).map(&mut accepted).collect()
 }
@@ -100,7 +106,9 @@ fn full() -> Vec<Record> {
         entries.extend((kept + 1..=kept + 16).map(|index| entry(index, 1 + number as u8)));
         // Only a few forks keep the terms, so that findings stay within 128.
         if number >= 5 {
-            entries[kept as usize..].iter_mut().for_each(|e| e.term += 100 + number);
+            entries[kept as usize..]
+                .iter_mut()
+                .for_each(|e| e.term += 100 + number);
         }
         view(1 + number, entries)
     };
@@ -117,7 +125,11 @@ fn full() -> Vec<Record> {
     });
     // Four leaders of forks, and twelve with the log that was committed.
     for number in 0..16 {
-        let (leader, length) = if number < 4 { (1 + number, 15 * number + 16) } else { (0, 256) };
+        let (leader, length) = if number < 4 {
+            (1 + number, 15 * number + 16)
+        } else {
+            (0, 256)
+        };
         chain.push(Record::Election {
             leader,
             term: 41 + number,
@@ -130,7 +142,11 @@ fn full() -> Vec<Record> {
         for node in 0..17 {
             chain.push(Record::Commit {
                 node,
-                index: if node == 0 { 241 + turn } else { 15 * (node - 1) + 1 },
+                index: if node == 0 {
+                    241 + turn
+                } else {
+                    15 * (node - 1) + 1
+                },
             });
         }
         chain.push(Record::Terms {

@@ -1,11 +1,12 @@
 //! Times per record of the Rust's functions on five kinds of chains, and the
-//! place where the library's `submit` goes beside them. See ../README.md.
+//! place where the library's `submit` goes beside them. See harness/README.md.
 
 mod chains;
 
 use std::hint::black_box;
 use std::time::{Duration, Instant};
 
+use harness::library::subject;
 use harness::oracle::{call, hush_refusal_8, Oracle};
 use harness::record::read;
 use harness::subject::Subject;
@@ -28,12 +29,18 @@ fn main() {
         "chain", "records", "Rust alone", "with reading", other, "/alone", "/reading"
     );
     for workload in workloads() {
-        assert_accepted(&workload);
+        assert_accepted(&mut Oracle::default(), &workload);
+        if let Some((_, subject)) = &mut column {
+            assert_accepted(subject.as_mut(), &workload);
+        }
         let records = workload.chains.iter().map(Vec::len).sum::<usize>();
         let per_record = |time: Duration| time.as_nanos() as f64 / records as f64;
         let alone = per_record(rust_alone(&workload));
         let reading = per_record(rust_with_reading(&workload));
-        let library = column.as_mut().map(|(_, subject)| per_record(submit(subject.as_mut(), &workload)));
+        let library = column
+            .as_mut()
+            .map(|(_, subject)| submit(subject.as_mut(), &workload));
+        let library = library.map(per_record);
         let shown = |number: Option<f64>, digits| {
             number.map_or("-".to_string(), |number| format!("{number:.digits$}"))
         };
@@ -47,19 +54,18 @@ fn main() {
     }
 }
 
-/// The library, once it is linked (`harness::library`). Until then there is
-/// nothing to time: the model is made for reading, not for speed.
+/// The library, once it is linked. Until then there is nothing to time: the
+/// model is made for reading, not for speed.
 fn column() -> Option<Column> {
-    None
+    cfg!(history).then(subject)
 }
 
 /// Both sides do the whole work for each record only if none is refused.
-fn assert_accepted(workload: &Workload) {
-    let mut oracle = Oracle::default();
+fn assert_accepted(subject: &mut dyn Subject, workload: &Workload) {
     for chain in &workload.chains {
-        oracle.fresh();
+        subject.fresh();
         for record in chain {
-            assert_eq!(oracle.submit(record).refusal, 0, "{}", workload.name);
+            assert_eq!(subject.submit(record).refusal, 0, "{}", workload.name);
         }
     }
 }

@@ -88,7 +88,11 @@ pub fn figures() -> Vec<Figure> {
         elect(0, 8, 10),
         Record::Check,
     ];
-    figures.push(Figure::new("7: every follower log is possible", &seven, &[]));
+    figures.push(Figure::new(
+        "7: every follower log is possible",
+        &seven,
+        &[],
+    ));
     // (f) could never win term 8: its log lacks what was committed.
     seven.extend([elect(6, 8, 11), Record::Check]);
     figures.push(Figure::new("7: (f) wins term 8", &seven, &[(5, 6, 9, 8)]));
@@ -139,7 +143,11 @@ pub fn figures() -> Vec<Figure> {
     wrong.extend(overwritten);
     wrong.extend([in_term(1, 2, 5), commit(5, 2)]);
     let lost = [(4, 5, 2, 0), (5, 5, 2, 5)];
-    figures.push(Figure::new("8 (d): entry 2 was committed by count", &wrong, &lost));
+    figures.push(Figure::new(
+        "8 (d): entry 2 was committed by count",
+        &wrong,
+        &lost,
+    ));
 
     story.extend([
         log(2, &[1, 2, 4]),
@@ -154,6 +162,10 @@ pub fn figures() -> Vec<Figure> {
     figures.push(Figure::new("8 (e): entry 3 commits entry 2", &story, &[]));
     // "S5 cannot win an election" then; had it won, it would be named.
     story.extend([elect(5, 6, 2), Record::Check]);
-    figures.push(Figure::new("8 (e): S5 wins term 6", &story, &[(5, 5, 3, 6)]));
+    figures.push(Figure::new(
+        "8 (e): S5 wins term 6",
+        &story,
+        &[(5, 5, 3, 6)],
+    ));
     figures
 }

@@ -42,8 +42,11 @@ impl Ledger {
     pub fn take(&mut self, record: Record) {
         match record {
             Record::View { node, entries } => {
-                let front = (1..).zip(entries).take_while(|(place, entry)| entry.index == *place);
-                self.fronts.insert(node, front.map(|(_, entry)| entry).collect());
+                let front = (1..)
+                    .zip(entries)
+                    .take_while(|(place, entry)| entry.index == *place);
+                self.fronts
+                    .insert(node, front.map(|(_, entry)| entry).collect());
             }
             Record::Commit { node, index } => {
                 let front = self.front(node);
@@ -82,12 +85,21 @@ impl Ledger {
     pub fn leaders(&self) -> Vec<(u32, u32)> {
         let lacking = self.elections.iter().filter(|election| {
             (1..=self.committed.len()).any(|index| {
-                let earlier = self.terms.get(&(index as u32)).is_some_and(|t| *t < election.term);
+                let earlier = self
+                    .terms
+                    .get(&(index as u32))
+                    .is_some_and(|t| *t < election.term);
                 let through = &self.committed[..index];
-                earlier && !election.log.as_ref().is_some_and(|log| log.starts_with(through))
+                earlier
+                    && !election
+                        .log
+                        .as_ref()
+                        .is_some_and(|log| log.starts_with(through))
             })
         });
-        let once: BTreeSet<_> = lacking.map(|election| (election.term, election.leader)).collect();
+        let once: BTreeSet<_> = lacking
+            .map(|election| (election.term, election.leader))
+            .collect();
         once.into_iter().collect()
     }
 }

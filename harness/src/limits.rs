@@ -210,7 +210,11 @@ fn certificates() -> Limit {
 fn certificates_of_one_term() -> Limit {
     let mut story = Story::default().ok(log(0, 3, 1, b"a"));
     for number in 0..64 {
-        story = story.ok(elect(number % 3, 7, (number % 3 == 0).then_some(number % 4)));
+        story = story.ok(elect(
+            number % 3,
+            7,
+            (number % 3 == 0).then_some(number % 4),
+        ));
     }
     story
         .meets(10, elect(0, 7, None))
@@ -277,7 +281,9 @@ fn contents() -> Limit {
 fn counts() -> Limit {
     let mut whole = log(5, 256, 9, b"w");
     if let Record::View { entries, .. } = &mut whole {
-        entries.iter_mut().for_each(|entry| entry.content = [7; 32].into());
+        entries
+            .iter_mut()
+            .for_each(|entry| entry.content = [7; 32].into());
     }
     let mut cut = write(&whole);
     cut.pop();

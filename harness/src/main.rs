@@ -142,7 +142,10 @@ impl Runner {
             let found = self.oracle.lists().findings;
             if found != figure.findings {
                 self.differences += 1;
-                println!("DIFFERENCE at figure {}: the Rust finds {found:?}", figure.name);
+                println!(
+                    "DIFFERENCE at figure {}: the Rust finds {found:?}",
+                    figure.name
+                );
             }
         }
     }
@@ -151,8 +154,11 @@ impl Runner {
         for limit in limits() {
             self.chain(&|| format!("limit {}", limit.name), &limit.chain);
             self.oracle.fresh();
-            let met: Vec<u32> =
-                limit.chain.iter().map(|record| self.oracle.submit(record).refusal).collect();
+            let met: Vec<u32> = limit
+                .chain
+                .iter()
+                .map(|record| self.oracle.submit(record).refusal)
+                .collect();
             if met != limit.refusals {
                 self.differences += 1;
                 println!("DIFFERENCE at limit {}: refusals {met:?}", limit.name);
@@ -181,7 +187,10 @@ fn run(options: &[&str]) -> Verdict {
     for dozen in small::dozens() {
         let start = Instant::now();
         for (number, chain) in small::chains(&dozen, depth).enumerate() {
-            runner.chain(&|| format!("small chain {number} of {}", dozen.name), &chain);
+            runner.chain(
+                &|| format!("small chain {number} of {}", dozen.name),
+                &chain,
+            );
         }
         println!(
             "all {} chains of at most {depth} of a dozen, {}: {:.1?}",
@@ -208,8 +217,13 @@ fn run(options: &[&str]) -> Verdict {
 
 fn print_counts(counts: &Counts) {
     let listed = |name: &str, numbers: &[u64]| {
-        let pairs = numbers.iter().enumerate().filter(|(_, number)| **number > 0);
-        let words: Vec<String> = pairs.map(|(which, number)| format!("{which}: {number}")).collect();
+        let pairs = numbers
+            .iter()
+            .enumerate()
+            .filter(|(_, number)| **number > 0);
+        let words: Vec<String> = pairs
+            .map(|(which, number)| format!("{which}: {number}"))
+            .collect();
         println!("  {name}: {}", words.join(", "));
     };
     println!("{} records in {} chains", counts.records, counts.chains);
@@ -236,15 +250,11 @@ fn mistakes(options: &[&str]) -> Verdict {
     for mistake in MISTAKES {
         let mut oracle = Oracle::default();
         let mut model = Model::with(mistake);
-        let named = limits().into_iter().map(|limit| limit.chain);
-        let chains = (0..most).map(|number| random::chain(seed, number)).chain(named);
-        let mut noticed = None;
-        for (number, chain) in chains.enumerate() {
-            if compare(&mut oracle, &mut model, &chain, &mut Counts::default()).is_some() {
-                noticed = Some((number, chain));
-                break;
-            }
-        }
+        let noticed = (0..most).find_map(|number| {
+            let chain = random::chain(seed, number);
+            compare(&mut oracle, &mut model, &chain, &mut Counts::default())?;
+            Some((number, chain))
+        });
         match noticed {
             None => {
                 unnoticed += 1;
@@ -259,7 +269,10 @@ fn mistakes(options: &[&str]) -> Verdict {
                 } else {
                     shown
                 };
-                println!("{mistake:?}: chain {number}, record {}: {shown}", difference.record);
+                println!(
+                    "{mistake:?}: chain {number}, record {}: {shown}",
+                    difference.record
+                );
             }
         }
     }

@@ -177,7 +177,11 @@ impl Subject for Model {
             }
         }
         leaders.sort();
-        let mut unseen: Vec<_> = self.unseen.iter().map(|(n, i)| (*n as u32, *i as u32)).collect();
+        let mut unseen: Vec<_> = self
+            .unseen
+            .iter()
+            .map(|(n, i)| (*n as u32, *i as u32))
+            .collect();
         unseen.sort();
         let known = |index: &usize| self.terms.get(index - 1).is_some_and(|term| *term != 0);
         let unknown = (1..=self.committed.len()).filter(|index| !known(index));
@@ -219,7 +223,9 @@ impl Subject for Model {
         }
         put(self.certificates.len() as u64);
         for f in &self.findings {
-            [f.name, f.node, f.index, f.term].iter().for_each(|n| put(u64::from(*n)));
+            [f.name, f.node, f.index, f.term]
+                .iter()
+                .for_each(|n| put(u64::from(*n)));
         }
         put(self.findings.len() as u64);
     }
@@ -285,8 +291,10 @@ impl Model {
                 missing.push(prefix.to_vec());
             }
             let term = front[length - 1].term;
-            let remembered =
-                self.stored.iter().find(|p| p.len() == length && p[length - 1].term == term);
+            let remembered = self
+                .stored
+                .iter()
+                .find(|p| p.len() == length && p[length - 1].term == term);
             if remembered.is_some_and(|first| !self.same(first, prefix)) {
                 found.push(Finding {
                     name: 3,
@@ -495,10 +503,14 @@ impl Model {
             }
         }
         if self.is(Mistake::RefusedCheckMovesMarks) {
-            moved.iter().for_each(|place| self.certificates[*place].mark = end);
+            moved
+                .iter()
+                .for_each(|place| self.certificates[*place].mark = end);
         }
         self.findings = self.with_findings(&found)?;
-        moved.iter().for_each(|place| self.certificates[*place].mark = end);
+        moved
+            .iter()
+            .for_each(|place| self.certificates[*place].mark = end);
         Ok((value, 0))
     }
 
@@ -535,7 +547,9 @@ impl Bits {
     fn take(&mut self, width: usize) -> Result<u64, u32> {
         let bits = self.all.get(self.at..self.at + width).ok_or(2_u32)?;
         self.at += width;
-        Ok(bits.iter().fold(0, |number, bit| 2 * number + u64::from(*bit)))
+        Ok(bits
+            .iter()
+            .fold(0, |number, bit| 2 * number + u64::from(*bit)))
     }
 
     fn up_to(&mut self, width: usize, limit: u64) -> Result<u64, u32> {

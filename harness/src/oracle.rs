@@ -19,7 +19,9 @@ use crate::subject::{Answer, Finding, Lists, Subject};
 pub fn hush_refusal_8() {
     let before = panic::take_hook();
     panic::set_hook(Box::new(move |info| {
-        let expected = info.location().is_some_and(|at| at.file().ends_with("commit/prefix.rs"));
+        let expected = info
+            .location()
+            .is_some_and(|at| at.file().ends_with("commit/prefix.rs"));
         if !expected {
             before(info);
         }
@@ -65,7 +67,10 @@ impl Subject for Oracle {
         Lists {
             findings,
             leaders: leaders.into_iter().collect(),
-            unseen: unseen.into_iter().map(|(n, i)| (n as u32, i as u32)).collect(),
+            unseen: unseen
+                .into_iter()
+                .map(|(n, i)| (n as u32, i as u32))
+                .collect(),
             unknown: unknown.into_iter().map(|i| i as u32).collect(),
             committed: (length as u32, owner as u32),
         }

@@ -293,7 +293,9 @@ fn record(dice: &mut Dice, world: &mut World) -> Vec<u8> {
         return damaged(dice, bytes, kind);
     }
     if let Record::View { node, entries } = &record {
-        let front = (1..).zip(entries).take_while(|(place, entry)| entry.index == *place);
+        let front = (1..)
+            .zip(entries)
+            .take_while(|(place, entry)| entry.index == *place);
         world.fronts[*node as usize] = front.count() as u32;
     }
     bytes
@@ -348,7 +350,9 @@ fn view(dice: &mut Dice, world: &World) -> Record {
         let highest = entries[entries.len() - 1].index;
         let skip = 1 + dice.below(3.min(256 - highest).max(1));
         if highest + skip <= 256 {
-            entries[place..].iter_mut().for_each(|entry| entry.index += skip);
+            entries[place..]
+                .iter_mut()
+                .for_each(|entry| entry.index += skip);
         }
     }
     // Now and then a log that is alike but for one entry.
@@ -490,7 +494,9 @@ fn beyond(dice: &mut Dice, kind: u32) -> Vec<u8> {
             w.put(dice.below(64), 6).put(count, 10);
             for _ in 0..count.min(3) {
                 let length = dice.pick(&[0, 0, 1, 32, 33, 63]);
-                w.put(dice.pick(&INDEXES), 10).put(dice.below(3), 32).put(length, 6);
+                w.put(dice.pick(&INDEXES), 10)
+                    .put(dice.below(3), 32)
+                    .put(length, 6);
                 for _ in 0..length {
                     w.put(dice.below(2), 8);
                 }
@@ -500,7 +506,9 @@ fn beyond(dice: &mut Dice, kind: u32) -> Vec<u8> {
             w.put(dice.below(64), 6).put(dice.pick(&INDEXES), 10);
         }
         3 => {
-            w.put(dice.pick(&INDEXES), 10).put(dice.pick(&INDEXES), 10).put(dice.below(3), 32);
+            w.put(dice.pick(&INDEXES), 10)
+                .put(dice.pick(&INDEXES), 10)
+                .put(dice.below(3), 32);
         }
         4 => {
             w.put(dice.below(64), 6).put(dice.below(3), 32);
@@ -516,7 +524,8 @@ fn beyond(dice: &mut Dice, kind: u32) -> Vec<u8> {
                 }
                 for _ in 0..2 {
                     w.put(dice.below(2), 1);
-                    w.put(dice.pick(&[0, 0, 0, 1, 257]), 10).put(dice.pick(&[0, 0, 0, 1]), 32);
+                    w.put(dice.pick(&[0, 0, 0, 1, 257]), 10)
+                        .put(dice.pick(&[0, 0, 0, 1]), 32);
                 }
             }
         }

@@ -25,10 +25,24 @@ pub struct Row {
 
 #[derive(Clone, Debug, Eq, PartialEq)]
 pub enum Record {
-    View { node: u32, entries: Vec<Entry> },
-    Commit { node: u32, index: u32 },
-    Terms { old: u32, new: u32, term: u32 },
-    Election { leader: u32, term: u32, length: Option<u32> },
+    View {
+        node: u32,
+        entries: Vec<Entry>,
+    },
+    Commit {
+        node: u32,
+        index: u32,
+    },
+    Terms {
+        old: u32,
+        new: u32,
+        term: u32,
+    },
+    Election {
+        leader: u32,
+        term: u32,
+        length: Option<u32>,
+    },
     Check,
     Rows(Vec<Row>),
 }
@@ -59,7 +73,9 @@ impl Reader<'_> {
         let end = self.next + width;
         // At most five bytes hold the field; the bits after it are shifted out.
         let held = &self.bytes[self.next / 8..end.div_ceil(8)];
-        let value = held.iter().fold(0_u64, |all, byte| all << 8 | u64::from(*byte));
+        let value = held
+            .iter()
+            .fold(0_u64, |all, byte| all << 8 | u64::from(*byte));
         let value = (value >> (8 * end.div_ceil(8) - end) & ((1 << width) - 1)) as u32;
         self.next = end;
         if value > limit {

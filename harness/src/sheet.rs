@@ -55,7 +55,11 @@ pub fn sheet(subject: &mut dyn Subject, recording: &[u8]) -> String {
                     refusal => refusal.to_string(),
                 };
                 let kind = record[0] >> 4;
-                let _ = writeln!(out, "{number} {kind} {verdict} {} {}", answer.value, answer.node);
+                let _ = writeln!(
+                    out,
+                    "{number} {kind} {verdict} {} {}",
+                    answer.value, answer.node
+                );
             }
             Piece::Whole(_) | Piece::Cut => {
                 let _ = writeln!(out, "{number} 0 2 0 0");

@@ -177,7 +177,10 @@ impl Histories {
     /// Commits that no view reached: node, index.
     pub fn unseen(&self) -> Vec<(u64, u64)> {
         let marks = &self.commits.unwitnessed_committed_prefixes;
-        marks.iter().map(|(node, index)| (node.0, index.0)).collect()
+        marks
+            .iter()
+            .map(|(node, index)| (node.0, index.0))
+            .collect()
     }
 
     /// Committed indexes without a commit term.

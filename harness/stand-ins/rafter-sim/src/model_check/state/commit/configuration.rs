@@ -11,7 +11,12 @@ pub(crate) struct ConfigurationProposalWitness;
 impl CommitHistory {
     /// Panics where `old` exceeds `new`: refusal 8. (The Rust's own entrance,
     /// `record_seeded_commit_authority`, drops term zero and will not do.)
-    pub(in crate::model_check) fn commit_terms(&mut self, old: LogIndex, new: LogIndex, term: Term) {
+    pub(in crate::model_check) fn commit_terms(
+        &mut self,
+        old: LogIndex,
+        new: LogIndex,
+        term: Term,
+    ) {
         self.record_commit_terms(old, new, term);
     }
 

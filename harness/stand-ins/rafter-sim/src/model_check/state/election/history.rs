@@ -25,6 +25,9 @@ impl ElectionHistory {
             last_log_term: Term::default(),
             logical_prefix_at_election: log,
         };
-        self.elected_by_term.entry(term).or_default().push(certificate);
+        self.elected_by_term
+            .entry(term)
+            .or_default()
+            .push(certificate);
     }
 }
