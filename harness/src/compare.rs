@@ -64,8 +64,9 @@ impl Counts {
 }
 
 /// The answer and all lists after every record; where a record is refused,
-/// every byte that the second subject holds; and at accepted checks, while all
-/// commit terms are known, the Rust's leader list with the plain ledger's.
+/// every byte that the second subject holds; at accepted checks, while all
+/// commit terms are known, the Rust's leader list with the plain ledger's; and
+/// at the end the lists in printed order.
 pub fn compare(
     oracle: &mut dyn Subject,
     subject: &mut dyn Subject,
@@ -118,7 +119,11 @@ pub fn compare(
         }
     }
     counts.end(&expected);
-    None
+    let (expected, lists) = (oracle.lists(), subject.lists());
+    (expected != lists).then(|| Difference {
+        record: chain.len(),
+        what: format!("the Rust prints {expected:?}, the other {lists:?}"),
+    })
 }
 
 /// Drops records, then entries and rows, for as long as the two still part.

@@ -18,6 +18,8 @@ harness sheets DIR              the sheets of all DIR/*.records against DIR/*.sh
 harness run [--seed S] [--chains N] [--from K] [--depth D]
                                 figures, limits, all chains of at most D small records, N random chains
 harness mistakes [--seed S]     each mistake of the model on purpose, and the smallest chain that shows it
+harness write DIR [--seed S] [--chains N]
+                                recordings of the figures, the limits and N random chains, with their sheets by the Rust
 harness chain S K               the recording of random chain K of seed S, in hexadecimal";
 
 fn main() -> ExitCode {
@@ -29,6 +31,7 @@ fn main() -> ExitCode {
         ["sheets", directory] => check_sheets(directory),
         ["run", options @ ..] => run(options),
         ["mistakes", options @ ..] => mistakes(options),
+        ["write", directory, options @ ..] => write_recordings(directory, options),
         ["chain", seed, number] => print_chain(seed, number),
         _ => Err(USAGE.to_string()),
     };
@@ -57,6 +60,41 @@ fn print_chain(seed: &str, number: &str) -> Verdict {
     let number_of = |word: &str| word.parse().map_err(|_| USAGE.to_string());
     let chain = random::chain(number_of(seed)?, number_of(number)?);
     println!("{}", hex(&sheet::recording(&chain)));
+    Ok(true)
+}
+
+/// Recordings with their sheets, for a replay with no Rust at hand.
+fn write_recordings(directory: &str, options: &[&str]) -> Verdict {
+    let seed = option(options, "--seed", 1)?;
+    let chains = option(options, "--chains", 0)?;
+    let dashed = |name: &str| {
+        let words = name.split(|c: char| !c.is_ascii_alphanumeric());
+        words
+            .filter(|w| !w.is_empty())
+            .collect::<Vec<_>>()
+            .join("-")
+    };
+    let figures = figures().into_iter().map(|figure| {
+        let name = format!("figure-{}", dashed(figure.name));
+        (name, figure.chain)
+    });
+    let limits = limits().into_iter().map(|limit| {
+        let name = format!("limit-{}", dashed(limit.name));
+        (name, limit.chain)
+    });
+    let random = (0..chains).map(|number| {
+        let name = format!("random-{seed}-{number}");
+        (name, random::chain(seed, number))
+    });
+    fs::create_dir_all(directory).map_err(|error| format!("{directory}: {error}"))?;
+    for (name, chain) in figures.chain(limits).chain(random) {
+        let recording = sheet::recording(&chain);
+        let printed = sheet::sheet(&mut Oracle::default(), &recording);
+        for (ending, bytes) in [("records", recording), ("sheet", printed.into_bytes())] {
+            let file = format!("{directory}/{name}.{ending}");
+            fs::write(&file, bytes).map_err(|error| format!("{file}: {error}"))?;
+        }
+    }
     Ok(true)
 }
 

@@ -1,10 +1,12 @@
 //! Stand-in, and the door to `last_views_by_node`, private to the parent.
 
+use std::collections::BTreeMap;
+
 use rafter::{LogIndex, NodeId};
 
 use crate::Cluster;
 
-use super::{LogPrefixWitness, LogicalLogHistory};
+use super::{LogPrefixWitness, LogicalLogHistory, LogicalLogView};
 
 impl LogicalLogHistory {
     /// `observe_cluster` on a cluster of one node. It replaces the views of
@@ -16,16 +18,18 @@ impl LogicalLogHistory {
         self.last_views_by_node = views;
     }
 
-    /// The first `length` entries of the node's view, or nothing where it
-    /// has a gap or ends before. A node without a view has the empty one.
+    /// `prefix_from_view` on the node's view: nothing where it has a gap or
+    /// ends before. A node without a view has the empty one.
     pub(in crate::model_check) fn front_through(
         &self,
         node: NodeId,
         length: LogIndex,
     ) -> Option<LogPrefixWitness> {
-        match self.last_views_by_node.get(&node) {
-            Some(view) => self.prefix_from_view(view, length),
-            None => (length == LogIndex::ZERO).then(LogPrefixWitness::default),
-        }
+        let empty = LogicalLogView {
+            snapshot: None,
+            entries: BTreeMap::new(),
+        };
+        let view = self.last_views_by_node.get(&node).unwrap_or(&empty);
+        self.prefix_from_view(view, length)
     }
 }
