@@ -14,8 +14,9 @@ use rafter_sim::model_check::judge::{Call, Histories};
 
 use chains::{workloads, Workload};
 
-/// Passes that are timed, after one that is not; the median counts.
-const PASSES: usize = 15;
+/// Passes that are timed, after one that is not. The shortest counts: what
+/// makes a pass longer is other work on the machine.
+const PASSES: usize = 31;
 
 /// Another subject's column: its name, and what takes the records.
 type Column = (&'static str, Box<dyn Subject>);
@@ -70,11 +71,9 @@ fn assert_accepted(subject: &mut dyn Subject, workload: &Workload) {
     }
 }
 
-fn median(mut pass: impl FnMut() -> Duration) -> Duration {
+fn shortest(mut pass: impl FnMut() -> Duration) -> Duration {
     pass();
-    let mut times: Vec<Duration> = (0..PASSES).map(|_| pass()).collect();
-    times.sort();
-    times[PASSES / 2]
+    (0..PASSES).map(|_| pass()).min().unwrap_or_default()
 }
 
 /// The functions alone, on clusters that were made before.
@@ -84,7 +83,7 @@ fn rust_alone(workload: &Workload) -> Duration {
         .iter()
         .map(|chain| chain.iter().map(|record| made(record)).collect())
         .collect();
-    median(|| {
+    shortest(|| {
         let mut histories = vec![Histories::default(); prepared.len()];
         let start = Instant::now();
         for (history, chain) in histories.iter_mut().zip(&prepared) {
@@ -98,7 +97,7 @@ fn rust_alone(workload: &Workload) -> Duration {
 
 /// From the record's bytes: reading them, making the cluster, the function.
 fn rust_with_reading(workload: &Workload) -> Duration {
-    median(|| {
+    shortest(|| {
         let mut histories = vec![Histories::default(); workload.chains.len()];
         let start = Instant::now();
         for (history, chain) in histories.iter_mut().zip(&workload.chains) {
@@ -116,7 +115,7 @@ fn made(record: &[u8]) -> Call {
 
 /// The library on one lent buffer. Making it fresh is not timed.
 fn submit(subject: &mut dyn Subject, workload: &Workload) -> Duration {
-    median(|| {
+    shortest(|| {
         let mut total = Duration::ZERO;
         for chain in &workload.chains {
             subject.fresh();
