@@ -1,0 +1,3 @@
+//! Stand-in: an empty shell.
+
+pub(super) struct ElectionSafetyExplorer;

@@ -1,0 +1,1 @@
+//! Stand-in: an empty shell, no record reaches it.
