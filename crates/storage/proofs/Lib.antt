@@ -1,0 +1,4 @@
+pub mod ListLaws
+pub mod WordLaws
+pub mod PartLaws
+pub mod RuleLaws

@@ -1,0 +1,141 @@
+// The table of prefixes, in the order stored. Row k holds the prefix of number k + 1: the prefix of a smaller number, 0 for the
+// empty one, with one entry more.
+ghost use mathlib.Core.Path.{_≡_};
+ghost use Prim.Native.Nat.{_+_, _-_, _*_, _≤_, _<_};
+ghost use mathlib.Core.List.{[]};
+ghost use lib.ListN.{length};
+ghost use Rattle.storage.specs.Lists.{tabulate};
+ghost use Rattle.storage.specs.Words.{Word, wordAt, bytesAt};
+ghost use Rattle.storage.specs.Tables.{prefixRow, prefixRows};
+ghost use Rattle.storage.specs.Rules.{sameBytes, sameRow, isAmong, prefixRight, prefixesRightAfter};
+ghost use Rattle.storage.specs.Values.{Index};
+use crate::layout::PREFIX_WIDTH;
+use crate::words::get8;
+use crate::words::get16;
+use crate::words::get32;
+use units::CONTENT_LIMIT;
+use units::INDEX_LIMIT;
+
+pub fn parent_at(prefixes: &[u8], k: usize) -> usize
+    requires { ⌜ (k < 512) × (length (now prefixes) ≡ 20992) ⌝ }
+    ensures { λ r. ⌜ Word (now (prefixes .entry)) (k * 41) 2 r ⌝ }
+{
+    get16(prefixes, k * PREFIX_WIDTH)
+}
+
+pub fn index_at(prefixes: &[u8], k: usize) -> usize
+    requires { ⌜ (k < 512) × (length (now prefixes) ≡ 20992) ⌝ }
+    ensures { λ r. ⌜ Word (now (prefixes .entry)) (k * 41 + 2) 2 r ⌝ }
+{
+    get16(prefixes, k * PREFIX_WIDTH + 2)
+}
+
+pub fn term_at(prefixes: &[u8], k: usize) -> u32
+    requires { ⌜ (k < 512) × (length (now prefixes) ≡ 20992) ⌝ }
+    ensures { λ r. ⌜ r ≡ wordAt (now (prefixes .entry)) (k * 41 + 4) 4 ⌝ }
+{
+    get32(prefixes, k * PREFIX_WIDTH + 4)
+}
+
+pub fn size_at(prefixes: &[u8], k: usize) -> usize
+    requires { ⌜ (k < 512) × (length (now prefixes) ≡ 20992) ⌝ }
+    ensures { λ r. ⌜ Word (now (prefixes .entry)) (k * 41 + 8) 1 r ⌝ }
+{
+    get8(prefixes, k * PREFIX_WIDTH + 8)
+}
+
+// The index of a number's prefix; the empty one has 0.
+pub fn index_of(prefixes: &[u8], p: usize) -> usize
+    requires { ⌜ (p ≤ 512) × (length (now prefixes) ≡ 20992) ⌝ }
+    ensures { λ r. ⌜ Index (now (prefixes .entry)) p r ⌝ }
+{
+    if p == 0 {
+        return 0;
+    }
+    index_at(prefixes, p - 1)
+}
+
+// The n bytes at a are those at b.
+fn same_bytes(t: &[u8], a: usize, b: usize, n: usize) -> bool
+    requires { ⌜ (a + n ≤ length (now t)) × (b + n ≤ length (now t)) ⌝ }
+    ensures { λ r. ⌜ r ≡ sameBytes (bytesAt (now (t .entry)) a n) (bytesAt (now (t .entry)) b n) ⌝ }
+{
+    let mut i = 0;
+    while i < n {
+        if t[a + i] != t[b + i] {
+            return false;
+        }
+        i += 1;
+    }
+    true
+}
+
+// Rows j and k store the same prefix.
+fn same_row(prefixes: &[u8], j: usize, k: usize) -> bool
+    requires { ⌜ (j < 512) × (k < 512) × (length (now prefixes) ≡ 20992) × (wordAt (now prefixes) (k * 41 + 8) 1 ≤ 32) ⌝ }
+    ensures { λ r. ⌜ r ≡ sameRow (prefixRow (now (prefixes .entry)) j) (prefixRow (now (prefixes .entry)) k) ⌝ }
+{
+    if parent_at(prefixes, j) != parent_at(prefixes, k) {
+        return false;
+    }
+    if term_at(prefixes, j) != term_at(prefixes, k) {
+        return false;
+    }
+    let n = size_at(prefixes, k);
+    if size_at(prefixes, j) != n {
+        return false;
+    }
+    same_bytes(prefixes, j * PREFIX_WIDTH + 9, k * PREFIX_WIDTH + 9, n)
+}
+
+// One of the rows from `start` on, before k, stores the same prefix as k.
+fn is_among(prefixes: &[u8], start: usize, k: usize) -> bool
+    requires { ⌜ (start ≤ k) × (k < 512) × (length (now prefixes) ≡ 20992) × (wordAt (now prefixes) (k * 41 + 8) 1 ≤ 32) ⌝ }
+    ensures { λ r. ⌜ r ≡ isAmong (prefixRow (now (prefixes .entry)) k) (tabulate (prefixRow (now (prefixes .entry))) start (k - start)) ⌝ }
+{
+    let mut j = start;
+    while j < k {
+        if same_row(prefixes, j, k) {
+            return true;
+        }
+        j += 1;
+    }
+    false
+}
+
+// The storage rules of row k, by the rows before it.
+fn prefix_right(prefixes: &[u8], k: usize) -> bool
+    requires { ⌜ (k < 512) × (length (now prefixes) ≡ 20992) ⌝ }
+    ensures { λ r. ⌜ r ≡ prefixRight (prefixRows (now (prefixes .entry)) k) (prefixRow (now (prefixes .entry)) k) ⌝ }
+{
+    let p = parent_at(prefixes, k);
+    if k < p {
+        return false;
+    }
+    let i = index_at(prefixes, k);
+    if i != index_of(prefixes, p) + 1 {
+        return false;
+    }
+    if INDEX_LIMIT < i {
+        return false;
+    }
+    if CONTENT_LIMIT < size_at(prefixes, k) {
+        return false;
+    }
+    !is_among(prefixes, p, k)
+}
+
+// The storage rules of every one of n rows.
+pub fn prefixes_right(prefixes: &[u8], n: usize) -> bool
+    requires { ⌜ (n ≤ 512) × (length (now prefixes) ≡ 20992) ⌝ }
+    ensures { λ r. ⌜ r ≡ prefixesRightAfter [] (prefixRows (now (prefixes .entry)) n) ⌝ }
+{
+    let mut k = 0;
+    while k < n {
+        if !prefix_right(prefixes, k) {
+            return false;
+        }
+        k += 1;
+    }
+    true
+}

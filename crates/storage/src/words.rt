@@ -1,0 +1,62 @@
+// Numbers in bytes, high byte first, at an offset: 8, 16 and 32 bits, read and written.
+ghost use mathlib.Core.Path.{_≡_};
+ghost use Prim.Native.Nat.{_+_, _≤_, _<_};
+ghost use lib.ListN.{length};
+ghost use Rattle.storage.specs.Words.{Word, wordAt, wordBytes, putBytes};
+
+fn wide(x: u8) -> usize
+    ensures { λ r. ⌜ (r ≡ x) × (r < 256) ⌝ }
+{
+    x as usize
+}
+
+pub fn get8(t: &[u8], o: usize) -> usize
+    requires { ⌜ o + 1 ≤ length (now t) ⌝ }
+    ensures { λ r. ⌜ Word (now (t .entry)) o 1 r ⌝ }
+{
+    wide(t[o])
+}
+
+pub fn get16(t: &[u8], o: usize) -> usize
+    requires { ⌜ o + 2 ≤ length (now t) ⌝ }
+    ensures { λ r. ⌜ Word (now (t .entry)) o 2 r ⌝ }
+{
+    wide(t[o]) * 256 + wide(t[o + 1])
+}
+
+pub fn get32(t: &[u8], o: usize) -> u32
+    requires { ⌜ o + 4 ≤ length (now t) ⌝ }
+    ensures { λ r. ⌜ r ≡ wordAt (now (t .entry)) o 4 ⌝ }
+{
+    let high = get16(t, o);
+    let low = get16(t, o + 2);
+    (high * 65536 + low) as u32
+}
+
+pub fn put8(t: &mut [u8], o: usize, v: usize)
+    requires { ⌜ o + 1 ≤ length (now t) ⌝ }
+    ensures { λ r. ⌜ now (t .exit) ≡ putBytes (now (t .entry)) o (wordBytes 1 v) ⌝ }
+{
+    t[o] = (v % 256) as u8;
+}
+
+pub fn put16(t: &mut [u8], o: usize, v: usize)
+    requires { ⌜ o + 2 ≤ length (now t) ⌝ }
+    ensures { λ r. ⌜ now (t .exit) ≡ putBytes (now (t .entry)) o (wordBytes 2 v) ⌝ }
+{
+    t[o] = (v / 256 % 256) as u8;
+    t[o + 1] = (v % 256) as u8;
+}
+
+pub fn put32(t: &mut [u8], o: usize, v: u32)
+    requires { ⌜ o + 4 ≤ length (now t) ⌝ }
+    ensures { λ r. ⌜ now (t .exit) ≡ putBytes (now (t .entry)) o (wordBytes 4 v) ⌝ }
+{
+    let second = o + 1;
+    let third = second + 1;
+    let fourth = third + 1;
+    t[o] = (v / 256 / 256 / 256 % 256) as u8;
+    t[second] = (v / 256 / 256 % 256) as u8;
+    t[third] = (v / 256 % 256) as u8;
+    t[fourth] = (v % 256) as u8;
+}
