@@ -2,3 +2,4 @@ pub mod ListLaws
 pub mod WordLaws
 pub mod PartLaws
 pub mod RuleLaws
+pub mod FreshLaws

@@ -5,3 +5,4 @@ pub mod Tables
 pub mod Decode
 pub mod Rules
 pub mod Values
+pub mod Fresh

@@ -2,6 +2,7 @@
 // fresh history. docs/LAYOUT.md has the layout.
 pub mod certificates;
 pub mod findings;
+pub mod fresh;
 pub mod head;
 pub mod layout;
 pub mod nodes;
