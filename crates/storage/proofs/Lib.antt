@@ -3,3 +3,5 @@ pub mod WordLaws
 pub mod PartLaws
 pub mod RuleLaws
 pub mod FreshLaws
+pub mod RowLaws
+pub mod TableLaws

@@ -1,13 +1,13 @@
 -- Laws of numbers in bytes: reading back what was written, and what a write leaves alone. One law for every width.
 -- Assumes nothing.
-use Prim.Native.Nat.{ℕ, zero, suc, _+_, _*_, _/_, _%_, _≤_, _<_}
-use native.Mathlib.Nat.{add-zero, zero-add, add-assoc, not-suc-le-zero}
+use Prim.Native.Nat.{ℕ, zero, suc, _+_, _*_, _/_, _%_, _^_, _≤_, _<_}
+use native.Mathlib.Nat.{add-zero, zero-add, add-assoc, not-suc-le-zero, div-add-mod'}
 use native.Mathlib.Numerals.{add-one}
 use native.Mathlib.Omega.{arith}
 use mathlib.Core.Path.{_≡_, refl, ap, sym, _∙_}
 use mathlib.Core.List.{[], _∷_, _++_}
-use lib.ListN.{length, getD, set, length-set, length-append}
-use lib.Seq.{getD-set-same, getD-set-other}
+use lib.ListN.{length, getD, set, length-set, length-append, List·getD-append}
+use lib.Seq.{getD-set-same, getD-set-other, getD-at}
 use Rattle.model.specs.Sizes.{Bytes}
 use Rattle.storage.specs.Lists.{tabulate}
 use Rattle.storage.specs.Words.{wordAt, wordBytes, bytesAt, putBytes}
@@ -123,3 +123,17 @@ pub word-halves : (t : Bytes) (o : ℕ) → wordAt t o 4 ≡ wordAt t o 2 * 6553
 word-halves t o =
     let e : getD t (o + 2 + 1) 0 ≡ getD t (o + 3) 0 = ap (λ (k : ℕ). getD t k 0) (omega arith) in
     omega (arith, word-four t o, word-two t o, word-two t (o + 2))
+
+-- a number is read back from its own bytes
+pub word-back : (n v : ℕ) → v < 256 ^ n → wordAt (wordBytes n v) 0 n ≡ v
+unfolding wordAt wordBytes
+word-back zero v h = omega arith
+word-back (suc n) v h =
+    let xs = wordBytes n (v / 256) in
+    let l : length xs ≡ n = word-bytes-length n (v / 256) in
+    let low : wordAt (xs ++ (v % 256 ∷ [])) 0 n ≡ v / 256
+    = word-agree (xs ++ (v % 256 ∷ [])) xs 0 n (λ i a b. List·getD-append xs (v % 256 ∷ []) 0 i (omega (arith, l)))
+    ∙ word-back n (v / 256) (omega arith) in
+    let last : getD (xs ++ (v % 256 ∷ [])) (0 + n) 0 ≡ v % 256
+    = ap (λ (k : ℕ). getD (xs ++ (v % 256 ∷ [])) k 0) (zero-add n) ∙ getD-at xs (v % 256) [] 0 n l in
+    (λ i. low i * 256 + last i) ∙ div-add-mod' v 256

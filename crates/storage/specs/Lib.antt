@@ -6,3 +6,4 @@ pub mod Decode
 pub mod Rules
 pub mod Values
 pub mod Fresh
+pub mod Writes

@@ -2,7 +2,8 @@
 -- A row past its table's count is not in the table, so its bytes do not matter; nor do content bytes past the row's size.
 -- Assumes nothing.
 use Prim.Native.Nat.{ℕ, _+_, _*_, min}
-use mathlib.Core.List.{List}
+use mathlib.Core.List.{List, [], _∷_, _++_}
+use lib.ListN.{set}
 use Rattle.model.specs.Sizes.{Bytes, nodes, contentLimit}
 use Rattle.model.specs.History.{Finding}
 use Rattle.storage.specs.Lists.{tabulate}
@@ -154,3 +155,77 @@ tablesIn head ns ts cs fs ps =
 -- the tables of a history
 abbrev pub tablesOf : Bytes → Tables
 tablesOf h = tablesIn (headPart h) (nodesPart h) (termsPart h) (certificatesPart h) (findingsPart h) (prefixesPart h)
+
+-- ---- tables with one thing changed
+
+abbrev pub withRow : Tables → PrefixRow → Tables
+withRow t x =
+    record {
+      rows = t .rows ++ (x ∷ []);
+      nodes = t .nodes;
+      committed = t .committed;
+      owner = t .owner;
+      terms = t .terms;
+      certificates = t .certificates;
+      findings = t .findings;
+    }
+
+abbrev pub withNode : Tables → ℕ → NodeRow → Tables
+withNode t k x =
+    record {
+      rows = t .rows;
+      nodes = set (t .nodes) k x;
+      committed = t .committed;
+      owner = t .owner;
+      terms = t .terms;
+      certificates = t .certificates;
+      findings = t .findings;
+    }
+
+abbrev pub withCommitted : Tables → ℕ → ℕ → Tables
+withCommitted t p n =
+    record {
+      rows = t .rows;
+      nodes = t .nodes;
+      committed = p;
+      owner = n;
+      terms = t .terms;
+      certificates = t .certificates;
+      findings = t .findings;
+    }
+
+abbrev pub withTerms : Tables → List ℕ → Tables
+withTerms t ts =
+    record {
+      rows = t .rows;
+      nodes = t .nodes;
+      committed = t .committed;
+      owner = t .owner;
+      terms = ts;
+      certificates = t .certificates;
+      findings = t .findings;
+    }
+
+abbrev pub withCertificates : Tables → List CertificateRow → Tables
+withCertificates t cs =
+    record {
+      rows = t .rows;
+      nodes = t .nodes;
+      committed = t .committed;
+      owner = t .owner;
+      terms = t .terms;
+      certificates = cs;
+      findings = t .findings;
+    }
+
+abbrev pub withFindings : Tables → List Finding → Tables
+withFindings t fs =
+    record {
+      rows = t .rows;
+      nodes = t .nodes;
+      committed = t .committed;
+      owner = t .owner;
+      terms = t .terms;
+      certificates = t .certificates;
+      findings = fs;
+    }
