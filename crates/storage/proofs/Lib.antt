@@ -5,3 +5,4 @@ pub mod RuleLaws
 pub mod FreshLaws
 pub mod RowLaws
 pub mod TableLaws
+pub mod WriteLaws

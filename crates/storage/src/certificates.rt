@@ -1,15 +1,23 @@
 // The table of certificates, by term, then arrival. A log is the prefix of that number, where it is present.
 ghost use mathlib.Core.Path.{_≡_};
-ghost use Prim.Native.Nat.{_≤_, _<_};
+ghost use Prim.Native.Nat.{_+_, _*_, _≤_, _<_};
+ghost use mathlib.Core.List.{_++_};
 ghost use lib.ListN.{length};
 ghost use Rattle.storage.specs.Lists.{every};
 ghost use Rattle.storage.specs.Tables.{certificateRow, certificateRows};
 ghost use Rattle.storage.specs.Rules.{certificateRight, follows as followsRow, numbered as numberedRows};
 ghost use Rattle.storage.specs.Values.{certificateValue};
+ghost use Rattle.storage.specs.Words.{wordBytes, putBytes};
+ghost use Rattle.storage.specs.Writes.{certificateBytes};
 use crate::layout::CERTIFICATE_WIDTH;
+use crate::layout::CERTIFICATES_LENGTH;
+use crate::layout::CERTIFICATES_START;
 use crate::words::get8;
 use crate::words::get16;
 use crate::words::get32;
+use crate::words::put8;
+use crate::words::put16;
+use crate::words::put32;
 use units::INDEX_LIMIT;
 use units::LogIndex;
 use units::NODE_LIMIT;
@@ -40,6 +48,44 @@ pub fn certificate_at(certificates: &[u8], k: usize) -> Certificate
         number: get8(certificates, o + 9),
         present: get8(certificates, o + 10),
     }
+}
+
+fn put_log(t: &mut [u8], o: usize, c: Certificate)
+    requires { ⌜ o + 11 ≤ length (now t) ⌝ }
+    ensures { λ r. ⌜ now (t .exit) ≡ putBytes (now (t .entry)) o (wordBytes 4 (c .term .0) ++ wordBytes 2 (c .log) ++ wordBytes 2 (c .mark .0)) ⌝ }
+{
+    put32(&mut t[..], o, c.term.0);
+    put16(&mut t[..], o + 4, c.log);
+    put16(&mut t[..], o + 6, c.mark.0);
+}
+
+fn put_leader(t: &mut [u8], o: usize, c: Certificate)
+    requires { ⌜ o + 11 ≤ length (now t) ⌝ }
+    ensures { λ r. ⌜ now (t .exit) ≡ putBytes (now (t .entry)) (o + 8) (wordBytes 1 (c .leader .0) ++ wordBytes 1 (c .number) ++ wordBytes 1 (c .present)) ⌝ }
+{
+    put8(&mut t[..], o + 8, c.leader.0 as usize);
+    put8(&mut t[..], o + 9, c.number);
+    put8(&mut t[..], o + 10, c.present);
+}
+
+// A row written in the table.
+pub fn put_certificate(certificates: &mut [u8], k: usize, c: Certificate)
+    requires { ⌜ (k < 64) × (length (now certificates) ≡ 704) ⌝ }
+    ensures { λ r. ⌜ now (certificates .exit) ≡ putBytes (now (certificates .entry)) (k * 11) (certificateBytes (certificateValue c)) ⌝ }
+{
+    let o = k * CERTIFICATE_WIDTH;
+    put_log(&mut certificates[..], o, c);
+    put_leader(&mut certificates[..], o, c);
+}
+
+// The same in the whole history, of which only the table is lent.
+pub fn set_certificate(history: &mut [u8], k: usize, c: Certificate)
+    requires { ⌜ (k < 64) × (length (now history) ≡ 24137) ⌝ }
+    ensures { λ r. ⌜ now (history .exit) ≡ putBytes (now (history .entry)) (1417 + k * 11) (certificateBytes (certificateValue c)) ⌝ }
+{
+    let a = CERTIFICATES_START;
+    let e = a + CERTIFICATES_LENGTH;
+    put_certificate(&mut history[a..e], k, c);
 }
 
 // The storage rules of one row by itself, where n prefixes are stored.

@@ -1,15 +1,23 @@
 // The table of findings, in the order found.
 ghost use mathlib.Core.Path.{_≡_};
-ghost use Prim.Native.Nat.{_≤_, _<_};
+ghost use Prim.Native.Nat.{_+_, _*_, _≤_, _<_};
+ghost use mathlib.Core.List.{_++_};
 ghost use lib.ListN.{length};
 ghost use Rattle.storage.specs.Lists.{every};
 ghost use Rattle.storage.specs.Tables.{findingRow, findingRows};
 ghost use Rattle.storage.specs.Rules.{findingRight};
 ghost use Rattle.storage.specs.Values.{findingValue};
+ghost use Rattle.storage.specs.Words.{wordBytes, putBytes};
+ghost use Rattle.storage.specs.Writes.{findingBytes};
 use crate::layout::FINDING_WIDTH;
+use crate::layout::FINDINGS_LENGTH;
+use crate::layout::FINDINGS_START;
 use crate::words::get8;
 use crate::words::get16;
 use crate::words::get32;
+use crate::words::put8;
+use crate::words::put16;
+use crate::words::put32;
 use units::INDEX_LIMIT;
 use units::LogIndex;
 use units::NODE_LIMIT;
@@ -35,6 +43,36 @@ pub fn finding_at(findings: &[u8], k: usize) -> Found
         index: LogIndex(get16(findings, o + 2)),
         term: Term(get32(findings, o + 4)),
     }
+}
+
+// Its name and node.
+fn put_name(t: &mut [u8], o: usize, f: Found)
+    requires { ⌜ o + 8 ≤ length (now t) ⌝ }
+    ensures { λ r. ⌜ now (t .exit) ≡ putBytes (now (t .entry)) o (wordBytes 1 (f .name) ++ wordBytes 1 (f .node .0)) ⌝ }
+{
+    put8(&mut t[..], o, f.name);
+    put8(&mut t[..], o + 1, f.node.0 as usize);
+}
+
+// A row written in the table.
+pub fn put_finding(findings: &mut [u8], k: usize, f: Found)
+    requires { ⌜ (k < 128) × (length (now findings) ≡ 1024) ⌝ }
+    ensures { λ r. ⌜ now (findings .exit) ≡ putBytes (now (findings .entry)) (k * 8) (findingBytes (findingValue f)) ⌝ }
+{
+    let o = k * FINDING_WIDTH;
+    put_name(&mut findings[..], o, f);
+    put16(&mut findings[..], o + 2, f.index.0);
+    put32(&mut findings[..], o + 4, f.term.0);
+}
+
+// The same in the whole history, of which only the table is lent.
+pub fn set_finding(history: &mut [u8], k: usize, f: Found)
+    requires { ⌜ (k < 128) × (length (now history) ≡ 24137) ⌝ }
+    ensures { λ r. ⌜ now (history .exit) ≡ putBytes (now (history .entry)) (2121 + k * 8) (findingBytes (findingValue f)) ⌝ }
+{
+    let a = FINDINGS_START;
+    let e = a + FINDINGS_LENGTH;
+    put_finding(&mut history[a..e], k, f);
 }
 
 // The storage rules of one row.

@@ -2,19 +2,28 @@
 // empty one, with one entry more.
 ghost use mathlib.Core.Path.{_≡_};
 ghost use Prim.Native.Nat.{_+_, _-_, _*_, _≤_, _<_};
-ghost use mathlib.Core.List.{[]};
+ghost use mathlib.Core.List.{[], _++_};
 ghost use lib.ListN.{length};
 ghost use Rattle.storage.specs.Lists.{tabulate};
-ghost use Rattle.storage.specs.Words.{Word, wordAt, bytesAt};
+ghost use Rattle.storage.specs.Words.{Word, wordAt, bytesAt, wordBytes, putBytes};
+ghost use Rattle.storage.specs.Writes.{prefixBytes};
 ghost use Rattle.storage.specs.Tables.{prefixRow, prefixRows};
 ghost use Rattle.storage.specs.Rules.{sameBytes, sameRow, isAmong, prefixRight, prefixesRightAfter};
 ghost use Rattle.storage.specs.Values.{Index};
 use crate::layout::PREFIX_WIDTH;
+use crate::layout::PREFIXES_LENGTH;
+use crate::layout::PREFIXES_START;
 use crate::words::get8;
 use crate::words::get16;
 use crate::words::get32;
+use crate::words::put_bytes;
+use crate::words::put8;
+use crate::words::put16;
+use crate::words::put32;
 use units::CONTENT_LIMIT;
 use units::INDEX_LIMIT;
+use units::LogIndex;
+use units::Term;
 
 pub fn parent_at(prefixes: &[u8], k: usize) -> usize
     requires { ⌜ (k < 512) × (length (now prefixes) ≡ 20992) ⌝ }
@@ -53,6 +62,53 @@ pub fn index_of(prefixes: &[u8], p: usize) -> usize
         return 0;
     }
     index_at(prefixes, p - 1)
+}
+
+// A row's parent, index and term.
+fn put_key(t: &mut [u8], o: usize, parent: usize, index: LogIndex, term: Term)
+    requires { ⌜ o + 41 ≤ length (now t) ⌝ }
+    ensures { λ r. ⌜ now (t .exit) ≡ putBytes (now (t .entry)) o (wordBytes 2 parent ++ wordBytes 2 (index .0) ++ wordBytes 4 (term .0)) ⌝ }
+{
+    put16(&mut t[..], o, parent);
+    put16(&mut t[..], o + 2, index.0);
+    put32(&mut t[..], o + 4, term.0);
+}
+
+// A row written in the table. Its content is the first `size` of the 32 bytes.
+pub fn put_prefix(
+    prefixes: &mut [u8],
+    k: usize,
+    parent: usize,
+    index: LogIndex,
+    term: Term,
+    size: usize,
+    content: &[u8],
+)
+    requires { ⌜ (k < 512) × (length (now prefixes) ≡ 20992) × (length (now content) ≡ 32) ⌝ }
+    ensures { λ r. ⌜ now (prefixes .exit) ≡ putBytes (now (prefixes .entry)) (k * 41) (prefixBytes parent (index .0) (term .0) size (now (content .entry))) ⌝ }
+{
+    let o = k * PREFIX_WIDTH;
+    put_key(&mut prefixes[..], o, parent, index, term);
+    put8(&mut prefixes[..], o + 8, size);
+    put_bytes(&mut prefixes[..], o + 9, content);
+}
+
+// The same in the whole history, of which only the table is lent.
+pub fn set_prefix(
+    history: &mut [u8],
+    k: usize,
+    parent: usize,
+    index: LogIndex,
+    term: Term,
+    size: usize,
+    content: &[u8],
+)
+    requires { ⌜ (k < 512) × (length (now history) ≡ 24137) × (length (now content) ≡ 32) ⌝ }
+    ensures { λ r. ⌜ now (history .exit) ≡ putBytes (now (history .entry)) (3145 + k * 41) (prefixBytes parent (index .0) (term .0) size (now (content .entry))) ⌝ }
+{
+    let a = PREFIXES_START;
+    let e = a + PREFIXES_LENGTH;
+    put_prefix(&mut history[a..e], k, parent, index, term, size, content);
 }
 
 // The n bytes at a are those at b.

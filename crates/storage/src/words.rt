@@ -48,6 +48,18 @@ pub fn put16(t: &mut [u8], o: usize, v: usize)
     t[o + 1] = (v % 256) as u8;
 }
 
+// All bytes of vs, from o on.
+pub fn put_bytes(t: &mut [u8], o: usize, vs: &[u8])
+    requires { ⌜ o + length (now vs) ≤ length (now t) ⌝ }
+    ensures { λ r. ⌜ now (t .exit) ≡ putBytes (now (t .entry)) o (now (vs .entry)) ⌝ }
+{
+    let mut i = 0;
+    while i < vs.len() {
+        t[o + i] = vs[i];
+        i += 1;
+    }
+}
+
 pub fn put32(t: &mut [u8], o: usize, v: u32)
     requires { ⌜ o + 4 ≤ length (now t) ⌝ }
     ensures { λ r. ⌜ now (t .exit) ≡ putBytes (now (t .entry)) o (wordBytes 4 v) ⌝ }
