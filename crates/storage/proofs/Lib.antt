@@ -6,3 +6,4 @@ pub mod FreshLaws
 pub mod RowLaws
 pub mod TableLaws
 pub mod WriteLaws
+pub mod RowFacts
