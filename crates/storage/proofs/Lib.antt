@@ -7,3 +7,4 @@ pub mod RowLaws
 pub mod TableLaws
 pub mod WriteLaws
 pub mod RowFacts
+pub mod DecodeLaws

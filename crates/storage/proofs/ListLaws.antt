@@ -7,9 +7,14 @@ use native.Mathlib.Omega.{arith}
 use mathlib.Core.Logic.{_≢_}
 use mathlib.Core.Path.{_≡_, refl, ap, sym, _∙_}
 use mathlib.Core.Bool.{Bool, true, false, _&&_}
-use mathlib.Core.List.{List, [], _∷_, _++_}
-use lib.ListN.{length, getD, set, drop, replicate}
+use mathlib.Core.List.{List, [], _∷_, _++_, map}
+use lib.ListN.{length, getD, set, take, drop, replicate}
 use Rattle.storage.specs.Lists.{tabulate, every}
+
+-- both halves of a test that passes
+pub both : (a b : Bool) → (a && b) ≡ true → (a ≡ true) × (b ≡ true)
+both true b e = (refl, e)
+both false b e = (e, absurd (let z : _≡_ {A = ℕ} 0 1 = cc in omega arith))
 
 module _ {A : Type 0} where
   pub tabulate-length : (f : ℕ → A) (i n : ℕ) → length (tabulate f i n) ≡ n
@@ -95,19 +100,8 @@ module _ {A : Type 0} where
   pub every-at : (test : A → Bool) (xs : List A) (k : ℕ) (d : A) → every test xs ≡ true → k < length xs → test (getD xs k d) ≡ true
   unfolding every
   every-at test [] k d e h = absurd (not-suc-le-zero h)
-  every-at test (x ∷ xs) zero d e h = first (test x) e
-    where
-      first : (b : Bool) → (b && every test xs) ≡ true → b ≡ true
-      first true q = refl
-      first false q = q
-  every-at test (x ∷ xs) (suc k) d e h = every-at test xs k d (second (test x) e) (omega arith)
-    where
-      second : (b : Bool) → (b && every test xs) ≡ true → every test xs ≡ true
-      second true q = q
-      second false q = absurd (false≢true′ q)
-        where
-          false≢true′ : false ≡ true → ⊥
-          false≢true′ p = let z : _≡_ {A = ℕ} 0 1 = cc in omega arith
+  every-at test (x ∷ xs) zero d e h = both (test x) (every test xs) e .0
+  every-at test (x ∷ xs) (suc k) d e h = every-at test xs k d (both (test x) (every test xs) e .1) (omega arith)
 
   -- ---- a loop that tests the rows of f, from 0 to n: `b` is the answer, `v` the value of the test at row i
 
@@ -127,3 +121,71 @@ module _ {A : Type 0} where
   -- the rows from 0 to n, as a loop that starts at 0 has them
   pub from-zero : {B : Type 0} (g : List A → B) (f : ℕ → A) (n : ℕ) → g (tabulate f 0 n) ≡ g (tabulate f 0 (n - 0))
   from-zero g f n = let e : n ≡ n - 0 = omega arith in ap (λ (k : ℕ). g (tabulate f 0 k)) e
+
+  -- a weaker test passes too
+  pub every-weaker : (test other : A → Bool) (xs : List A) → ((x : A) → test x ≡ true → other x ≡ true) → every test xs ≡ true → every other xs ≡ true
+  unfolding every
+  every-weaker test other [] h e = refl
+  every-weaker test other (x ∷ xs) h e =
+      let p = both (test x) (every test xs) e in
+      ap (λ (b : Bool). b && every other xs) (h x (p .0)) ∙ every-weaker test other xs h (p .1)
+
+  -- a member set to one that passes
+  pub every-set : (test : A → Bool) (xs : List A) (k : ℕ) (x : A) → test x ≡ true → every test xs ≡ true → every test (set xs k x) ≡ true
+  unfolding every
+  every-set test [] k x t e = e
+  every-set test (y ∷ ys) zero x t e =
+      ap (λ (b : Bool). b && every test ys) t ∙ (both (test y) (every test ys) e .1)
+  every-set test (y ∷ ys) (suc k) x t e =
+      let p = both (test y) (every test ys) e in
+      ap (λ (b : Bool). b && every test (set ys k x)) (p .0) ∙ every-set test ys k x t (p .1)
+
+  pub map-set : {B : Type 0} (f : A → B) (xs : List A) (k : ℕ) (x : A) → map f (set xs k x) ≡ set (map f xs) k (f x)
+  map-set f [] k x = refl
+  map-set f (y ∷ ys) zero x = refl
+  map-set f (y ∷ ys) (suc k) x = ap (λ (l : List _). f y ∷ l) (map-set f ys k x)
+
+  -- equal results of every member that passes
+  pub map-every : {B : Type 0} (test : A → Bool) (f g : A → B) (xs : List A) → ((x : A) → test x ≡ true → f x ≡ g x) → every test xs ≡ true → map f xs ≡ map g xs
+  unfolding every
+  map-every test f g [] h e = refl
+  map-every test f g (x ∷ xs) h e =
+      let p = both (test x) (every test xs) e in
+      λ i. h x (p .0) i ∷ map-every test f g xs h (p .1) i
+
+  -- ---- rows moved up by one, and one put in their place
+
+  pub tabulate-append : (f : ℕ → A) (i n m : ℕ) → tabulate f i (n + m) ≡ tabulate f i n ++ tabulate f (i + n) m
+  unfolding tabulate
+  tabulate-append f i zero m = λ j. tabulate f (let e : i ≡ i + 0 = omega arith in e j) (let e : 0 + m ≡ m = omega arith in e j)
+  tabulate-append f i (suc n) m =
+      ap (tabulate f i) (let e : suc n + m ≡ suc (n + m) = omega arith in e)
+      ∙ ap (λ (l : List A). f i ∷ l)
+      (tabulate-append f (i + 1) n m ∙ ap (λ (k : ℕ). tabulate f (i + 1) n ++ tabulate f k m) (let e : i + 1 + n ≡ i + suc n = omega arith in e))
+
+  pub tabulate-shift : (f g : ℕ → A) (i n : ℕ) → ((k : ℕ) → i ≤ k → k < i + n → g (k + 1) ≡ f k) → tabulate g (i + 1) n ≡ tabulate f i n
+  unfolding tabulate
+  tabulate-shift f g i zero h = refl
+  tabulate-shift f g i (suc n) h =
+      λ j. h i (omega arith) (omega arith) j ∷ tabulate-shift f g (i + 1) n (λ k a b. h k (omega arith) (omega arith)) j
+
+  pub tabulate-take : (f : ℕ → A) (i n k : ℕ) → k ≤ n → take k (tabulate f i n) ≡ tabulate f i k
+  unfolding tabulate
+  tabulate-take f i n zero h = refl
+  tabulate-take f i zero (suc k) h = absurd (not-suc-le-zero h)
+  tabulate-take f i (suc n) (suc k) h = ap (λ (l : List A). f i ∷ l) (tabulate-take f (i + 1) n k (omega arith))
+
+  pub tabulate-insert : (f g : ℕ → A) (n k : ℕ) (x : A) → k ≤ n → ((j : ℕ) → j < k → g j ≡ f j) → g k ≡ x
+      → ((j : ℕ) → k ≤ j → j < n → g (j + 1) ≡ f j)
+      → tabulate g 0 (n + 1) ≡ take k (tabulate f 0 n) ++ (x ∷ drop k (tabulate f 0 n))
+  unfolding tabulate
+  tabulate-insert f g n k x h low at high =
+      let e : n + 1 ≡ k + suc (n - k) = omega arith in
+      let d : drop k (tabulate f 0 n) ≡ tabulate f k (n - k)
+      = tabulate-drop f 0 n k h ∙ ap (λ (q : ℕ). tabulate f q (n - k)) (let z : 0 + k ≡ k = omega arith in z) in
+      ap (tabulate g 0) e
+      ∙ tabulate-append g 0 k (suc (n - k))
+      ∙ ap (λ (q : ℕ). tabulate g 0 k ++ tabulate g q (suc (n - k))) (let z : 0 + k ≡ k = omega arith in z)
+      ∙ (λ j.
+      (tabulate-same g f 0 k (λ q a b. low q (omega arith)) ∙ sym (tabulate-take f 0 n k h)) j
+      ++ (at j ∷ (tabulate-shift f g k (n - k) (λ q a b. high q a (omega arith)) ∙ sym d) j))

@@ -19,8 +19,7 @@ use Rattle.storage.specs.Tables.{PrefixRow, prefixRow, prefixRows}
 use Rattle.storage.specs.Words.{bytesAt, wordAt}
 use Rattle.storage.specs.Decode.{prefixAt, entryOf, extended, resolveFrom, resolve}
 use Rattle.storage.specs.Rules.{indexAmong, sameBytes, sameRow, isAmong, prefixRight, prefixesRightAfter}
-use Rattle.storage.proofs.ListLaws.{tabulate-length, tabulate-at}
-use Rattle.storage.proofs.RuleLaws.{both}
+use Rattle.storage.proofs.ListLaws.{both, tabulate-length, tabulate-at}
 
 -- ---- lists numbered from 1, 0 standing for the default
 

@@ -1,23 +1,23 @@
 -- Laws of the tables: a row is read back as it was written, and a write at place k sets the k-th row or, past the last one,
 -- appends it. One law for every table, over the width of its rows.
 -- Assumes nothing.
-use Prim.Native.Nat.{ℕ, _+_, _*_, _^_, _≤_, _<_, min}
+use Prim.Native.Nat.{ℕ, _+_, _-_, _*_, _^_, _≤_, _<_, min}
 use native.Mathlib.Nat.{add-zero, zero-add, mul-le-mul-right, min-eq-left}
 use native.Mathlib.Decide.{decLt}
 use native.Mathlib.Omega.{arith}
 use mathlib.Core.Logic.{_≢_}
 use mathlib.Core.Path.{_≡_, refl, ap, sym, _∙_}
 use mathlib.Core.List.{[], _∷_, _++_}
-use lib.ListN.{length, getD, set, take}
+use lib.ListN.{length, getD, set, take, drop}
 use lib.Seq.{ext-getD, getD-take, length-take-le, getD-append-add}
 use Rattle.model.specs.Sizes.{Bytes}
 use Rattle.model.specs.History.{Finding}
 use Rattle.storage.specs.Lists.{tabulate}
 use Rattle.storage.specs.Words.{wordAt, wordBytes, bytesAt, putBytes}
-use Rattle.storage.specs.Tables.{NodeRow, CertificateRow, nodeRow, termRow, certificateRow, findingRow, prefixRow}
-use Rattle.storage.specs.Writes.{nodeBytes, certificateBytes, findingBytes, prefixBytes, prefixOf, NodeFits, CertificateFits, FindingFits, PrefixFits}
-use Rattle.storage.proofs.ListLaws.{tabulate-same, tabulate-snoc, tabulate-set, tabulate-length, tabulate-at}
-use Rattle.storage.proofs.WordLaws.{Agree, word-agree, bytes-agree, word-put, bytes-put, bytes-shift, put-before, put-after, word-bytes-length, word-back}
+use Rattle.storage.specs.Tables.{NodeRow, CertificateRow, nodeRow, termRow, certificateRow, certificateRows, findingRow, prefixRow}
+use Rattle.storage.specs.Writes.{certificateInserted, nodeBytes, certificateBytes, findingBytes, prefixBytes, prefixOf, NodeFits, CertificateFits, FindingFits, PrefixFits}
+use Rattle.storage.proofs.ListLaws.{tabulate-insert, tabulate-same, tabulate-snoc, tabulate-set, tabulate-length, tabulate-at}
+use Rattle.storage.proofs.WordLaws.{word-shift, put-in, put-length, Agree, word-agree, bytes-agree, word-put, bytes-put, bytes-shift, put-before, put-after, word-bytes-length, word-back}
 
 -- ---- any table: rows are w wide, and a row depends on its own bytes only
 
@@ -242,3 +242,68 @@ word-before r o vs p m h = word-agree (putBytes r o vs) r p m (λ i a b. put-bef
 
 pub word-after : (r : Bytes) (o : ℕ) (vs : Bytes) (p m : ℕ) → o + length vs ≤ p → wordAt (putBytes r o vs) p m ≡ wordAt r p m
 word-after r o vs p m h = word-agree (putBytes r o vs) r p m (λ i a b. put-after r o vs i (omega arith))
+
+-- ---- a certificate put in its place, those behind it moved up
+
+-- a row that has the bytes of another
+certificate-moved : (t u : Bytes) (k j : ℕ) → ((i : ℕ) → i < 11 → getD t (k * 11 + i) 0 ≡ getD u (j * 11 + i) 0) → certificateRow t k ≡ certificateRow u j
+certificate-moved t u k j h =
+    λ i.
+    record {
+      term = word-shift t u (k * 11) (j * 11) 4 (λ m l. h m (omega arith)) i;
+      log = word-shift t u (k * 11 + 4) (j * 11 + 4) 2 (λ m l. at 4 m (omega arith)) i;
+      mark = word-shift t u (k * 11 + 6) (j * 11 + 6) 2 (λ m l. at 6 m (omega arith)) i;
+      leader = word-shift t u (k * 11 + 8) (j * 11 + 8) 1 (λ m l. at 8 m (omega arith)) i;
+      number = word-shift t u (k * 11 + 9) (j * 11 + 9) 1 (λ m l. at 9 m (omega arith)) i;
+      present = word-shift t u (k * 11 + 10) (j * 11 + 10) 1 (λ m l. at 10 m (omega arith)) i;
+    }
+  where
+    at : (f m : ℕ) → f + m < 11 → getD t (k * 11 + f + m) 0 ≡ getD u (j * 11 + f + m) 0
+    at f m l =
+        ap (λ (n : ℕ). getD t n 0) (let e : k * 11 + f + m ≡ k * 11 + (f + m) = omega arith in e)
+        ∙ h (f + m) l
+        ∙ ap (λ (n : ℕ). getD u n 0) (let e : j * 11 + (f + m) ≡ j * 11 + f + m = omega arith in e)
+
+bytes-at : (t : Bytes) (o n i : ℕ) → i < n → getD (bytesAt t o n) i 0 ≡ getD t (o + i) 0
+unfolding bytesAt
+bytes-at t o n i h = tabulate-at (λ j. getD t j 0) o n i 0 h
+
+bytes-length : (t : Bytes) (o n : ℕ) → length (bytesAt t o n) ≡ n
+unfolding bytesAt
+bytes-length t o n = tabulate-length (λ j. getD t j 0) o n
+
+pub certificates-inserted : (r : Bytes) (n k : ℕ) (x : CertificateRow) → k ≤ n → n < 64 → length r ≡ 704 → CertificateFits x
+    → certificateRows (certificateInserted r n k x) (n + 1) ≡ take k (certificateRows r n) ++ (x ∷ drop k (certificateRows r n))
+unfolding certificateInserted
+certificates-inserted r n k x h l long f =
+    tabulate-insert (certificateRow r) (certificateRow u) n k x h
+    (λ j b. row-other 11 certificateRow certificate-own m (certificateBytes x) k j (certificate-length x) (omega arith) ∙ low j b)
+    (certificate-back m k x f (omega (arith, put-length r (k * 11 + 11) vs)))
+    (λ j a b. row-other 11 certificateRow certificate-own m (certificateBytes x) k (j + 1) (certificate-length x) (omega arith) ∙ high j a b)
+  where
+    vs : Bytes
+    vs = bytesAt r (k * 11) ((n - k) * 11)
+
+    m : Bytes
+    m = putBytes r (k * 11 + 11) vs
+
+    u : Bytes
+    u = putBytes m (k * 11) (certificateBytes x)
+
+    long-vs : length vs ≡ (n - k) * 11
+    long-vs = bytes-length r (k * 11) ((n - k) * 11)
+
+    low : (j : ℕ) → j < k → certificateRow m j ≡ certificateRow r j
+    low j b = certificate-own m r j (λ i a c. put-before r (k * 11 + 11) vs i (omega arith))
+
+    high : (j : ℕ) → k ≤ j → j < n → certificateRow m (j + 1) ≡ certificateRow r j
+    high j a b =
+        certificate-moved m r (j + 1) j
+        (λ i c.
+        let d = (j - k) * 11 + i in
+        let e : (j + 1) * 11 + i ≡ k * 11 + 11 + d = omega arith in
+        let g : d < (n - k) * 11 = omega arith in
+        ap (λ (q : ℕ). getD m q 0) e
+        ∙ put-in r (k * 11 + 11) vs d (omega (arith, long-vs)) (omega (arith, long-vs))
+        ∙ bytes-at r (k * 11) ((n - k) * 11) d g
+        ∙ ap (λ (q : ℕ). getD r q 0) (let z : k * 11 + d ≡ j * 11 + i = omega arith in z))

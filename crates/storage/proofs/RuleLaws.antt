@@ -17,7 +17,7 @@ use Rattle.storage.specs.Words.{wordAt, bytesAt}
 use Rattle.storage.specs.Tables.{PrefixRow, CertificateRow, prefixRow, prefixRows, nodeRows, termRow, certificateRow, certificateRows, findingRow, findingRows, headPart, nodesPart, termsPart, certificatesPart, findingsPart, prefixesPart, tablesIn}
 use Rattle.storage.specs.Rules.{follows, numberedAfter, numbered, sameBytes, sameRow, isAmong, indexAmong, prefixRight, prefixesRightAfter, nodeRight, certificateRight, findingRight, withinLimits, committedRight, tablesRight, wellFormed}
 use Rattle.storage.specs.Values.{numberIndex}
-use Rattle.storage.proofs.ListLaws.{tabulate-length, tabulate-at, tabulate-cons, tabulate-none, tabulate-snoc, tabulate-drop}
+use Rattle.storage.proofs.ListLaws.{both, tabulate-length, tabulate-at, tabulate-cons, tabulate-none, tabulate-snoc, tabulate-drop}
 
 -- ---- certificates
 
@@ -205,10 +205,6 @@ stop b e = ap (λ (v : Bool). v && b) e
 
 pub pass : {a : Bool} (b : Bool) → a ≡ true → (a && b) ≡ b
 pass b e = ap (λ (v : Bool). v && b) e
-
-pub both : (a b : Bool) → (a && b) ≡ true → (a ≡ true) × (b ≡ true)
-both true b e = (refl, e)
-both false b e = (e, absurd (let z : _≡_ {A = ℕ} 0 1 = cc in omega arith))
 
 pub record Limited (ps ts cs fs : ℕ) : Type 0 where
   pub prefixes : ps ≤ 512

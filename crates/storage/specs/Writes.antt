@@ -1,14 +1,14 @@
 -- The bytes of each row, as they are written: at place k of a table of rows w wide, row x is `putBytes region (k * w) (bytes x)`.
 -- A row is read back as it was written where each of its numbers fits its field.
 -- Assumes nothing.
-use Prim.Native.Nat.{ℕ, _<_, _≤_}
+use Prim.Native.Nat.{ℕ, _+_, _-_, _*_, _<_, _≤_}
 use mathlib.Core.Path.{_≡_}
 use mathlib.Core.List.{_++_}
 use lib.ListN.{length, take}
 use Rattle.model.specs.Sizes.{Bytes}
 use Rattle.model.specs.History.{Finding}
-use Rattle.storage.specs.Words.{wordBytes}
-use Rattle.storage.specs.Tables.{PrefixRow, NodeRow, CertificateRow}
+use Rattle.storage.specs.Words.{wordAt, wordBytes, bytesAt, putBytes}
+use Rattle.storage.specs.Tables.{PrefixRow, NodeRow, CertificateRow, certificatesPart}
 
 unfoldable pub nodeBytes : NodeRow → Bytes
 unfolding wordBytes
@@ -63,3 +63,44 @@ pub record PrefixFits (p i t s : ℕ) (c : Bytes) : Type 0 where
 abbrev pub prefixOf : ℕ → ℕ → ℕ → ℕ → Bytes → PrefixRow
 prefixOf parent index term size padded =
     record { parent = parent; index = index; term = term; size = size; content = take size padded }
+
+-- ---- the writes of a whole history that are more than one row's
+
+-- one more prefix: its row, and the count
+unfoldable pub prefixAppended : Bytes → ℕ → ℕ → ℕ → ℕ → Bytes → Bytes
+unfolding wordAt putBytes prefixBytes
+prefixAppended h p i t s c =
+    let n = wordAt h 0 2 in
+    putBytes (putBytes h (3145 + n * 41) (prefixBytes p i t s c)) 0 (wordBytes 2 (n + 1))
+
+-- one more finding
+unfoldable pub findingAppended : Bytes → Finding → Bytes
+unfolding wordAt putBytes findingBytes
+findingAppended h x =
+    let n = wordAt h 7 1 in
+    putBytes (putBytes h (2121 + n * 8) (findingBytes x)) 7 (wordBytes 1 (n + 1))
+
+-- one more commit term
+unfoldable pub termAppended : Bytes → ℕ → Bytes
+unfolding wordAt putBytes
+termAppended h v =
+    let n = wordAt h 2 2 in
+    putBytes (putBytes h (393 + n * 4) (wordBytes 4 v)) 2 (wordBytes 2 (n + 1))
+
+-- the committed prefix's number and owner
+unfoldable pub committedSet : Bytes → ℕ → ℕ → Bytes
+unfolding putBytes wordBytes
+committedSet h p o = putBytes (putBytes h 4 (wordBytes 2 p)) 8 (wordBytes 1 o)
+
+-- a certificate at place k of a table of n: those from k on move up by one row
+unfoldable pub certificateInserted : Bytes → ℕ → ℕ → CertificateRow → Bytes
+unfolding bytesAt putBytes certificateBytes
+certificateInserted r n k x =
+    putBytes (putBytes r (k * 11 + 11) (bytesAt r (k * 11) ((n - k) * 11))) (k * 11) (certificateBytes x)
+
+-- one more certificate in a whole history, at place k: the table, and the count
+unfoldable pub certificateAdded : Bytes → ℕ → CertificateRow → Bytes
+unfolding wordAt putBytes certificateInserted
+certificateAdded h k x =
+    let n = wordAt h 6 1 in
+    putBytes (putBytes h 1417 (certificateInserted (certificatesPart h) n k x)) 6 (wordBytes 1 (n + 1))

@@ -7,14 +7,17 @@ ghost use Rattle.storage.specs.Lists.{every};
 ghost use Rattle.storage.specs.Tables.{certificateRow, certificateRows};
 ghost use Rattle.storage.specs.Rules.{certificateRight, follows as followsRow, numbered as numberedRows};
 ghost use Rattle.storage.specs.Values.{certificateValue};
-ghost use Rattle.storage.specs.Words.{wordBytes, putBytes};
-ghost use Rattle.storage.specs.Writes.{certificateBytes};
+ghost use Rattle.storage.specs.Words.{wordAt, wordBytes, putBytes};
+ghost use Rattle.storage.specs.Writes.{certificateBytes, certificateInserted, certificateAdded};
+use crate::head::certificate_count;
+use crate::head::set_certificate_count;
 use crate::layout::CERTIFICATE_WIDTH;
 use crate::layout::CERTIFICATES_LENGTH;
 use crate::layout::CERTIFICATES_START;
 use crate::words::get8;
 use crate::words::get16;
 use crate::words::get32;
+use crate::words::move_up;
 use crate::words::put8;
 use crate::words::put16;
 use crate::words::put32;
@@ -86,6 +89,33 @@ pub fn set_certificate(history: &mut [u8], k: usize, c: Certificate)
     let a = CERTIFICATES_START;
     let e = a + CERTIFICATES_LENGTH;
     put_certificate(&mut history[a..e], k, c);
+}
+
+// A row inserted at place k of a table of n: those from k on move up.
+pub fn insert_certificate(certificates: &mut [u8], n: usize, k: usize, c: Certificate)
+    requires { ⌜ (k ≤ n) × (n < 64) × (length (now certificates) ≡ 704) ⌝ }
+    ensures { λ r. ⌜ now (certificates .exit) ≡ certificateInserted (now (certificates .entry)) n k (certificateValue c) ⌝ }
+{
+    let o = k * CERTIFICATE_WIDTH;
+    move_up(
+        &mut certificates[..],
+        o,
+        (n - k) * CERTIFICATE_WIDTH,
+        CERTIFICATE_WIDTH,
+    );
+    put_certificate(&mut certificates[..], k, c);
+}
+
+// One more certificate in the whole history, at place k.
+pub fn add_certificate(history: &mut [u8], k: usize, c: Certificate)
+    requires { ⌜ (k ≤ wordAt (now history) 6 1) × (wordAt (now history) 6 1 < 64) × (length (now history) ≡ 24137) ⌝ }
+    ensures { λ r. ⌜ now (history .exit) ≡ certificateAdded (now (history .entry)) k (certificateValue c) ⌝ }
+{
+    let n = certificate_count(&history[..]);
+    let a = CERTIFICATES_START;
+    let e = a + CERTIFICATES_LENGTH;
+    insert_certificate(&mut history[a..e], n, k, c);
+    set_certificate_count(&mut history[..], n + 1);
 }
 
 // The storage rules of one row by itself, where n prefixes are stored.

@@ -7,8 +7,10 @@ ghost use Rattle.storage.specs.Lists.{every};
 ghost use Rattle.storage.specs.Tables.{findingRow, findingRows};
 ghost use Rattle.storage.specs.Rules.{findingRight};
 ghost use Rattle.storage.specs.Values.{findingValue};
-ghost use Rattle.storage.specs.Words.{wordBytes, putBytes};
-ghost use Rattle.storage.specs.Writes.{findingBytes};
+ghost use Rattle.storage.specs.Words.{wordAt, wordBytes, putBytes};
+ghost use Rattle.storage.specs.Writes.{findingBytes, findingAppended};
+use crate::head::finding_count;
+use crate::head::set_finding_count;
 use crate::layout::FINDING_WIDTH;
 use crate::layout::FINDINGS_LENGTH;
 use crate::layout::FINDINGS_START;
@@ -73,6 +75,16 @@ pub fn set_finding(history: &mut [u8], k: usize, f: Found)
     let a = FINDINGS_START;
     let e = a + FINDINGS_LENGTH;
     put_finding(&mut history[a..e], k, f);
+}
+
+// One more finding.
+pub fn append_finding(history: &mut [u8], f: Found)
+    requires { ⌜ (wordAt (now history) 7 1 < 128) × (length (now history) ≡ 24137) ⌝ }
+    ensures { λ r. ⌜ now (history .exit) ≡ findingAppended (now (history .entry)) (findingValue f) ⌝ }
+{
+    let n = finding_count(&history[..]);
+    set_finding(&mut history[..], n, f);
+    set_finding_count(&mut history[..], n + 1);
 }
 
 // The storage rules of one row.

@@ -4,10 +4,12 @@ ghost use mathlib.Core.Path.{_≡_};
 ghost use Prim.Native.Nat.{_≤_};
 ghost use lib.ListN.{length};
 ghost use Rattle.storage.specs.Words.{Word, wordBytes, putBytes};
+ghost use Rattle.storage.specs.Writes.{committedSet};
 use crate::words::get8;
 use crate::words::get16;
 use crate::words::put8;
 use crate::words::put16;
+use units::NodeId;
 
 pub fn prefix_count(head: &[u8]) -> usize
     requires { ⌜ 9 ≤ length (now head) ⌝ }
@@ -91,4 +93,13 @@ pub fn set_owner_number(head: &mut [u8], n: usize)
     ensures { λ r. ⌜ now (head .exit) ≡ putBytes (now (head .entry)) 8 (wordBytes 1 n) ⌝ }
 {
     put8(&mut head[..], 8, n);
+}
+
+// The committed prefix's number and owner.
+pub fn set_committed(history: &mut [u8], p: usize, owner: NodeId)
+    requires { ⌜ 9 ≤ length (now history) ⌝ }
+    ensures { λ r. ⌜ now (history .exit) ≡ committedSet (now (history .entry)) p (owner .0) ⌝ }
+{
+    set_committed_number(&mut history[..], p);
+    set_owner_number(&mut history[..], owner.0 as usize);
 }

@@ -6,10 +6,12 @@ ghost use mathlib.Core.List.{[], _++_};
 ghost use lib.ListN.{length};
 ghost use Rattle.storage.specs.Lists.{tabulate};
 ghost use Rattle.storage.specs.Words.{Word, wordAt, bytesAt, wordBytes, putBytes};
-ghost use Rattle.storage.specs.Writes.{prefixBytes};
+ghost use Rattle.storage.specs.Writes.{prefixBytes, prefixAppended};
 ghost use Rattle.storage.specs.Tables.{prefixRow, prefixRows};
 ghost use Rattle.storage.specs.Rules.{sameBytes, sameRow, isAmong, prefixRight, prefixesRightAfter};
 ghost use Rattle.storage.specs.Values.{Index};
+use crate::head::prefix_count;
+use crate::head::set_prefix_count;
 use crate::layout::PREFIX_WIDTH;
 use crate::layout::PREFIXES_LENGTH;
 use crate::layout::PREFIXES_START;
@@ -109,6 +111,23 @@ pub fn set_prefix(
     let a = PREFIXES_START;
     let e = a + PREFIXES_LENGTH;
     put_prefix(&mut history[a..e], k, parent, index, term, size, content);
+}
+
+// One more prefix.
+pub fn append_prefix(
+    history: &mut [u8],
+    parent: usize,
+    index: LogIndex,
+    term: Term,
+    size: usize,
+    content: &[u8],
+)
+    requires { ⌜ (wordAt (now history) 0 2 < 512) × (length (now history) ≡ 24137) × (length (now content) ≡ 32) ⌝ }
+    ensures { λ r. ⌜ now (history .exit) ≡ prefixAppended (now (history .entry)) parent (index .0) (term .0) size (now (content .entry)) ⌝ }
+{
+    let n = prefix_count(&history[..]);
+    set_prefix(&mut history[..], n, parent, index, term, size, content);
+    set_prefix_count(&mut history[..], n + 1);
 }
 
 // The n bytes at a are those at b.

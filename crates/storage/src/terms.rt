@@ -3,7 +3,10 @@ ghost use mathlib.Core.Path.{_≡_};
 ghost use Prim.Native.Nat.{_+_, _*_, _<_};
 ghost use lib.ListN.{length};
 ghost use Rattle.storage.specs.Tables.{termRow};
-ghost use Rattle.storage.specs.Words.{wordBytes, putBytes};
+ghost use Rattle.storage.specs.Words.{wordAt, wordBytes, putBytes};
+ghost use Rattle.storage.specs.Writes.{termAppended};
+use crate::head::set_term_count;
+use crate::head::term_count;
 use crate::layout::TERM_WIDTH;
 use crate::layout::TERMS_LENGTH;
 use crate::layout::TERMS_START;
@@ -35,4 +38,14 @@ pub fn set_term(history: &mut [u8], k: usize, t: Term)
     let a = TERMS_START;
     let e = a + TERMS_LENGTH;
     put_term(&mut history[a..e], k, t);
+}
+
+// One more term, for the index after the last.
+pub fn append_term(history: &mut [u8], t: Term)
+    requires { ⌜ (wordAt (now history) 2 2 < 256) × (length (now history) ≡ 24137) ⌝ }
+    ensures { λ r. ⌜ now (history .exit) ≡ termAppended (now (history .entry)) (t .0) ⌝ }
+{
+    let n = term_count(&history[..]);
+    set_term(&mut history[..], n, t);
+    set_term_count(&mut history[..], n + 1);
 }

@@ -2,7 +2,7 @@
 ghost use mathlib.Core.Path.{_≡_};
 ghost use Prim.Native.Nat.{_+_, _≤_, _<_};
 ghost use lib.ListN.{length};
-ghost use Rattle.storage.specs.Words.{Word, wordAt, wordBytes, putBytes};
+ghost use Rattle.storage.specs.Words.{Word, wordAt, wordBytes, bytesAt, putBytes};
 
 fn wide(x: u8) -> usize
     ensures { λ r. ⌜ (r ≡ x) × (r < 256) ⌝ }
@@ -57,6 +57,18 @@ pub fn put_bytes(t: &mut [u8], o: usize, vs: &[u8])
     while i < vs.len() {
         t[o + i] = vs[i];
         i += 1;
+    }
+}
+
+// The n bytes at a moved up by w, the last one first.
+pub fn move_up(t: &mut [u8], a: usize, n: usize, w: usize)
+    requires { ⌜ a + w + n ≤ length (now t) ⌝ }
+    ensures { λ r. ⌜ now (t .exit) ≡ putBytes (now (t .entry)) (a + w) (bytesAt (now (t .entry)) a n) ⌝ }
+{
+    let mut i = n;
+    while 0 < i {
+        i -= 1;
+        t[a + w + i] = t[a + i];
     }
 }
 
