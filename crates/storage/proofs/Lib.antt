@@ -8,3 +8,4 @@ pub mod TableLaws
 pub mod WriteLaws
 pub mod RowFacts
 pub mod DecodeLaws
+pub mod Meanings

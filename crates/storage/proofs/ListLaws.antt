@@ -189,3 +189,17 @@ module _ {A : Type 0} where
       ∙ (λ j.
       (tabulate-same g f 0 k (λ q a b. low q (omega arith)) ∙ sym (tabulate-take f 0 n k h)) j
       ++ (at j ∷ (tabulate-shift f g k (n - k) (λ q a b. high q a (omega arith)) ∙ sym d) j))
+
+  -- one more member at place k
+  pub every-insert : (test : A → Bool) (xs : List A) (k : ℕ) (x : A) → test x ≡ true → every test xs ≡ true → every test (take k xs ++ (x ∷ drop k xs)) ≡ true
+  unfolding every
+  every-insert test xs zero x t e = ap (λ (b : Bool). b && every test xs) t ∙ e
+  every-insert test [] (suc k) x t e = ap (λ (b : Bool). b && true) t
+  every-insert test (y ∷ ys) (suc k) x t e =
+      let p = both (test y) (every test ys) e in
+      ap (λ (b : Bool). b && every test (take k ys ++ (x ∷ drop k ys))) (p .0) ∙ every-insert test ys k x t (p .1)
+
+  pub map-insert : {B : Type 0} (f : A → B) (xs : List A) (k : ℕ) (x : A) → map f (take k xs ++ (x ∷ drop k xs)) ≡ take k (map f xs) ++ (f x ∷ drop k (map f xs))
+  map-insert f xs zero x = refl
+  map-insert f [] (suc k) x = refl
+  map-insert f (y ∷ ys) (suc k) x = ap (λ (l : List _). f y ∷ l) (map-insert f ys k x)

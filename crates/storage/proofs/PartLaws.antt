@@ -10,9 +10,9 @@ use mathlib.Core.List.{[], _∷_, _++_}
 use lib.ListN.{length, getD, set, take, drop, length-take, length-drop}
 use lib.Seq.{getD-take, getD-drop, ext-getD, sets, sets-eq}
 use Rattle.model.specs.Sizes.{Bytes}
-use Rattle.storage.specs.Words.{putBytes}
+use Rattle.storage.specs.Words.{wordAt, putBytes}
 use Rattle.storage.specs.Layout.{part, Part}
-use Rattle.storage.proofs.WordLaws.{put-length, put-before, put-after, put-in}
+use Rattle.storage.proofs.WordLaws.{word-shift, put-length, put-before, put-after, put-in}
 
 pub part-length : (h : Bytes) (a n : ℕ) → a + n ≤ length h → length (part h a n) ≡ n
 unfolding part
@@ -131,3 +131,17 @@ part-put-after h b m o vs r d =
     (part-length (putBytes h o vs) b m (omega (arith, put-length h o vs)) ∙ sym (part-length h b m r))
     (λ i l. let k : i < m = omega (arith, part-length (putBytes h o vs) b m (omega (arith, put-length h o vs))) in
     part-at (putBytes h o vs) b m i k ∙ put-after h o vs (b + i) (omega arith) ∙ sym (part-at h b m i k))
+
+-- a number in a part is a number in the whole
+pub word-part : (h : Bytes) (a n o m : ℕ) → o + m ≤ n → wordAt (part h a n) o m ≡ wordAt h (a + o) m
+word-part h a n o m r =
+    word-shift (part h a n) h o (a + o) m
+    (λ i l. part-at h a n (o + i) (omega arith) ∙ ap (λ (k : ℕ). getD h k 0) (let e : a + (o + i) ≡ a + o + i = omega arith in e))
+
+-- a region written whole is what was written
+pub put-whole : (p r : Bytes) → length r ≡ length p → putBytes p 0 r ≡ r
+put-whole p r l =
+    ext-getD 0 _ _ (put-length p 0 r ∙ sym l)
+    (λ i b.
+    ap (λ (k : ℕ). getD (putBytes p 0 r) k 0) (let e : i ≡ 0 + i = omega arith in e)
+    ∙ put-in p 0 r i (omega arith) (omega (arith, put-length p 0 r)))

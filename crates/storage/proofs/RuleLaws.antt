@@ -8,8 +8,8 @@ use native.Mathlib.Omega.{arith}
 use mathlib.Core.Path.{_≡_, refl, ap, sym, _∙_}
 use mathlib.Core.Bool.{Bool, true, false, not, cond, _&&_, _||_}
 use mathlib.Core.List.{List, [], _∷_, _++_}
-use lib.Dec.{leb, eqb, eqb·suc-suc}
-use lib.ListN.{length, getD, drop, List·getD-map}
+use lib.Dec.{leb, ltb, eqb, eqb·suc-suc}
+use lib.ListN.{length, getD, set, drop, List·getD-map}
 use borrow.Author.Tests.{leb-true, le-leb, lt-leb, eq-eqb, ne-eqb}
 use Rattle.model.specs.Sizes.{Bytes}
 use Rattle.storage.specs.Lists.{tabulate, every}
@@ -257,3 +257,32 @@ rules-in-turn h head ns cs fs ps n m f e eh en ec ef ep n′ m′ f′ =
       tabulate-length (certificateRow cs) 0 m,
       tabulate-length (findingRow fs) 0 f,
     )
+
+-- ---- numbering looks at terms and numbers only
+
+abbrev pub SameKey : CertificateRow → CertificateRow → Type 0
+SameKey c d = (c .term ≡ d .term) × (c .number ≡ d .number)
+
+follows-same : (c c′ d d′ : CertificateRow) → SameKey c c′ → SameKey d d′ → follows c d ≡ follows c′ d′
+unfolding follows
+follows-same c c′ d d′ p q =
+    λ i. cond (eqb (q .0 i) (p .0 i)) (eqb (q .1 i) (p .1 i + 1)) (ltb (p .0 i) (q .0 i) && eqb (q .1 i) 0)
+
+after-same : (c c′ : CertificateRow) (ds : List CertificateRow) → SameKey c c′ → numberedAfter c ds ≡ numberedAfter c′ ds
+unfolding numberedAfter
+after-same c c′ [] p = refl
+after-same c c′ (d ∷ ds) p = ap (λ (b : Bool). b && numberedAfter d ds) (follows-same c c′ d d p (refl, refl))
+
+after-set : (c : CertificateRow) (ds : List CertificateRow) (k : ℕ) (x z : CertificateRow) → SameKey x (getD ds k z)
+    → numberedAfter c (set ds k x) ≡ numberedAfter c ds
+unfolding numberedAfter
+after-set c [] k x z p = refl
+after-set c (d ∷ ds) zero x z p = (λ i. follows-same c c x d (refl, refl) p i && after-same x d ds p i)
+after-set c (d ∷ ds) (suc k) x z p = ap (λ (b : Bool). follows c d && b) (after-set d ds k x z p)
+
+-- a row set to one of the same term and number
+pub numbered-set : (cs : List CertificateRow) (k : ℕ) (x z : CertificateRow) → SameKey x (getD cs k z) → numbered (set cs k x) ≡ numbered cs
+unfolding numbered
+numbered-set [] k x z p = refl
+numbered-set (c ∷ cs) zero x z p = (λ i. eqb (p .1 i) 0 && after-same x c cs p i)
+numbered-set (c ∷ cs) (suc k) x z p = ap (λ (b : Bool). eqb (c .number) 0 && b) (after-set c cs k x z p)

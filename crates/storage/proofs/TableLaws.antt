@@ -6,16 +6,17 @@ use native.Mathlib.Nat.{zero-add}
 use native.Mathlib.Omega.{arith}
 use mathlib.Core.Path.{_≡_, ap, sym, _∙_}
 use mathlib.Core.List.{[], _∷_, _++_}
-use lib.ListN.{length, set}
+use lib.ListN.{length, set, take, drop}
 use Rattle.model.specs.Sizes.{Bytes}
 use Rattle.model.specs.History.{Finding}
 use Rattle.storage.specs.Words.{wordAt, wordBytes, putBytes}
 use Rattle.storage.specs.Layout.{part}
 use Rattle.storage.specs.Tables.{Tables, NodeRow, CertificateRow, HeadRow, headRow, nodeRow, nodeRows, termRow, termRows, certificateRow, certificateRows, findingRow, findingRows, prefixRow, prefixRows, headPart, nodesPart, termsPart, certificatesPart, findingsPart, prefixesPart, tablesIn, tablesOf, withRow, withNode, withCommitted, withTerms, withCertificates, withFindings}
-use Rattle.storage.specs.Writes.{nodeBytes, certificateBytes, findingBytes, prefixBytes, prefixOf, NodeFits, CertificateFits, FindingFits, PrefixFits}
+use Rattle.storage.specs.Writes.{prefixAppended, findingAppended, termAppended, committedSet, certificateInserted, certificateAdded, nodeBytes, certificateBytes, findingBytes, prefixBytes, prefixOf, NodeFits, CertificateFits, FindingFits, PrefixFits}
 use Rattle.storage.proofs.WordLaws.{put-length, word-bytes-length}
-use Rattle.storage.proofs.PartLaws.{part-length, part-put-same, part-put-before, part-put-after}
-use Rattle.storage.proofs.RowLaws.{rows-set, rows-append, node-own, node-length, node-back, term-own, term-back, certificate-own, certificate-length, certificate-back, finding-own, finding-length, finding-back, prefix-own, prefix-length, prefix-back, word-set, word-before, word-after}
+use Rattle.storage.proofs.PartLaws.{word-part, put-whole, part-length, part-put-same, part-put-before, part-put-after}
+use Rattle.storage.proofs.WriteLaws.{inserted-length}
+use Rattle.storage.proofs.RowLaws.{certificates-inserted, rows-set, rows-append, node-own, node-length, node-back, term-own, term-back, certificate-own, certificate-length, certificate-back, finding-own, finding-length, finding-back, prefix-own, prefix-length, prefix-back, word-set, word-before, word-after}
 
 -- ---- a write in one region
 
@@ -484,4 +485,85 @@ module _ (h : Bytes) (right : length h ≡ 24137) where
         certificates = (rows-append 11 certificateRow certificate-own (certificatesPart h) vs n x lv (certificate-back (certificatesPart h) n x f (omega arith))
             ∙ ap (λ (m : ℕ). certificateRows (certificatesPart h) m ++ (x ∷ [])) e) j;
         findings = tablesOf h .findings;
+      })
+
+  -- ---- the writes that are more than one row's
+
+  -- one more prefix
+  pub prefix-appended : (p i t s : ℕ) (c : Bytes) → wordAt h 0 2 < 512 → PrefixFits p i t s c
+      → tablesOf (prefixAppended h p i t s c) ≡ withRow (tablesOf h) (prefixOf p i t s c)
+  unfolding prefixAppended
+  prefix-appended p i t s c l f = append-prefix (wordAt h 0 2) p i t s c (sym (word-part h 0 9 0 2 (omega arith))) l f
+
+  -- one more finding
+  pub finding-appended : (x : Finding) → wordAt h 7 1 < 128 → FindingFits x
+      → tablesOf (findingAppended h x) ≡ withFindings (tablesOf h) (tablesOf h .findings ++ (x ∷ []))
+  unfolding findingAppended
+  finding-appended x l f = append-finding (wordAt h 7 1) x (sym (word-part h 0 9 7 1 (omega arith))) l f
+
+  -- one more commit term
+  pub term-appended : (v : ℕ) → wordAt h 2 2 < 256 → v < 4294967296
+      → tablesOf (termAppended h v) ≡ withTerms (tablesOf h) (tablesOf h .terms ++ (v ∷ []))
+  unfolding termAppended
+  term-appended v l f = append-term (wordAt h 2 2) v (sym (word-part h 0 9 2 2 (omega arith))) l f
+
+  -- the committed prefix and its owner
+  pub committed-set : (p n : ℕ) → p < 65536 → n < 256 → tablesOf (committedSet h p n) ≡ withCommitted (tablesOf h) p n
+  unfolding committedSet
+  committed-set p n lp ln = set-committed p n lp ln
+
+  -- one more certificate, at its place
+  pub certificate-added : (k : ℕ) (x : CertificateRow) → k ≤ wordAt h 6 1 → wordAt h 6 1 < 64 → CertificateFits x
+      → tablesOf (certificateAdded h k x)
+      ≡ withCertificates (tablesOf h) (take k (tablesOf h .certificates) ++ (x ∷ drop k (tablesOf h .certificates)))
+  unfolding certificateAdded tablesIn
+  certificate-added k x b l f =
+      let n = wordAt h 6 1 in
+      let r = certificatesPart h in
+      let q = certificateInserted r n k x in
+      let w = wordBytes 1 (n + 1) in
+      let u = putBytes h 1417 q in
+      let long : length r ≡ 704 = part-length h 1417 704 (omega arith) in
+      let lq : length q ≡ 704 = inserted-length r n k x ∙ long in
+      let ru : length u ≡ 24137 = put-length h 1417 q ∙ right in
+      let e : n ≡ wordAt (headPart h) 6 1 = sym (word-part h 0 9 6 1 (omega arith)) in
+      ap tablesFrom
+      (in-head u 6 w ru (omega (arith, word-bytes-length 1 (n + 1)))
+      ∙ ap (λ (z : Parts). putHead z 6 w) (in-certificates h 0 q right (omega arith)))
+      ∙ by-head (putHead (putCertificates (partsOf h) 0 q) 6 w) _ (head-certificates (headPart h) (n + 1) head-long (omega arith))
+      ∙ (λ j.
+      record {
+        rows = tablesOf h .rows;
+        nodes = tablesOf h .nodes;
+        committed = tablesOf h .committed;
+        owner = tablesOf h .owner;
+        terms = tablesOf h .terms;
+        certificates = (ap (λ (z : Bytes). certificateRows z (n + 1)) (put-whole r q (lq ∙ sym long))
+            ∙ certificates-inserted r n k x b l long f
+            ∙ ap (λ (m : ℕ). take k (certificateRows r m) ++ (x ∷ drop k (certificateRows r m))) e) j;
+        findings = tablesOf h .findings;
+      })
+
+  -- the findings' region written whole, with the count
+  pub findings-written : (fs : Bytes) (m : ℕ) → length fs ≡ 1024 → m < 256
+      → tablesOf (putBytes (putBytes h 2121 fs) 7 (wordBytes 1 m)) ≡ withFindings (tablesOf h) (findingRows fs m)
+  unfolding tablesIn
+  findings-written fs m lf lm =
+      let w = wordBytes 1 m in
+      let u = putBytes h 2121 fs in
+      let long : length (findingsPart h) ≡ 1024 = part-length h 2121 1024 (omega arith) in
+      let ru : length u ≡ 24137 = put-length h 2121 fs ∙ right in
+      ap tablesFrom
+      (in-head u 7 w ru (omega (arith, word-bytes-length 1 m))
+      ∙ ap (λ (z : Parts). putHead z 7 w) (in-findings h 0 fs right (omega arith)))
+      ∙ by-head (putHead (putFindings (partsOf h) 0 fs) 7 w) _ (head-findings (headPart h) m head-long lm)
+      ∙ (λ j.
+      record {
+        rows = tablesOf h .rows;
+        nodes = tablesOf h .nodes;
+        committed = tablesOf h .committed;
+        owner = tablesOf h .owner;
+        terms = tablesOf h .terms;
+        certificates = tablesOf h .certificates;
+        findings = ap (λ (z : Bytes). findingRows z m) (put-whole (findingsPart h) fs (lf ∙ sym long)) j;
       })
