@@ -9,3 +9,5 @@ pub mod WriteLaws
 pub mod RowFacts
 pub mod DecodeLaws
 pub mod Meanings
+pub mod PrefixLaws
+pub mod OrderLaws

@@ -198,20 +198,20 @@ withNoted x fs =
     }
 
 module _ (h : Bytes) (x : History) (s : Stands h x) where
-  long : length h ≡ 24137
+  pub long : length h ≡ 24137
   long = well-formed-parts h (s .right) .0
 
-  kept : Kept (tablesOf h)
+  pub kept : Kept (tablesOf h)
   kept = well-formed-parts h (s .right) .1
 
-  is : historyIn (tablesOf h) ≡ x
+  pub is : historyIn (tablesOf h) ≡ x
   is = sym (decode-is h) ∙ s .decodes
 
-  rows-count : length (tablesOf h .rows) ≡ wordAt h 0 2
+  pub rows-count : length (tablesOf h .rows) ≡ wordAt h 0 2
   unfolding tablesIn
   rows-count = tabulate-length _ 0 _ ∙ word-part h 0 9 0 2 (omega arith)
 
-  certificates-count : length (tablesOf h .certificates) ≡ wordAt h 6 1
+  pub certificates-count : length (tablesOf h .certificates) ≡ wordAt h 6 1
   unfolding tablesIn
   certificates-count = tabulate-length _ 0 _ ∙ word-part h 0 9 6 1 (omega arith)
 
@@ -221,10 +221,10 @@ module _ (h : Bytes) (x : History) (s : Stands h x) where
       tabulate-at (certificateRow (certificatesPart h)) 0 (wordAt (headPart h) 6 1) k d (omega (arith, word-part h 0 9 6 1 (omega arith)))
       ∙ ap (certificateRow (certificatesPart h)) (zero-add k)
 
-  prefixes-is : resolve (tablesOf h .rows) ≡ x .prefixes
+  pub prefixes-is : resolve (tablesOf h .rows) ≡ x .prefixes
   prefixes-is = ap (λ (y : History). y .prefixes) is
 
-  certificates-is : map (certificateIn (x .prefixes)) (tablesOf h .certificates) ≡ x .certificates
+  pub certificates-is : map (certificateIn (x .prefixes)) (tablesOf h .certificates) ≡ x .certificates
   certificates-is =
       ap (λ (ps : List Prefix). map (certificateIn ps) (tablesOf h .certificates)) (sym prefixes-is) ∙ ap (λ (y : History). y .certificates) is
 

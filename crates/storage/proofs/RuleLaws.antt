@@ -81,38 +81,38 @@ cons-at t n i o h =
     let q : o + i + 1 ≡ o + (i + 1) = omega arith in
     ap (λ (k : ℕ). bytesAt t (o + i) k) e ∙ ap (λ (k : ℕ). getD t (o + i) 0 ∷ bytesAt t k (n - (i + 1))) q
 
-pub same-start : (t : Bytes) (a b n : ℕ)
-    → sameBytes (bytesAt t a n) (bytesAt t b n) ≡ sameBytes (bytesAt t (a + 0) (n - 0)) (bytesAt t (b + 0) (n - 0))
-same-start t a b n =
+pub same-start : (t u : Bytes) (a b n : ℕ)
+    → sameBytes (bytesAt t a n) (bytesAt u b n) ≡ sameBytes (bytesAt t (a + 0) (n - 0)) (bytesAt u (b + 0) (n - 0))
+same-start t u a b n =
     let p : a ≡ a + 0 = omega arith in
     let q : b ≡ b + 0 = omega arith in
     let e : n ≡ n - 0 = omega arith in
-    λ i. sameBytes (bytesAt t (p i) (e i)) (bytesAt t (q i) (e i))
+    λ i. sameBytes (bytesAt t (p i) (e i)) (bytesAt u (q i) (e i))
 
-module _ (t : Bytes) (a b n i : ℕ) {r : Bool} where
-  step-bytes : r ≡ sameBytes (bytesAt t (a + i) (n - i)) (bytesAt t (b + i) (n - i)) → i < n
-      → r ≡ (eqb (getD t (a + i) 0) (getD t (b + i) 0) && sameBytes (bytesAt t (a + (i + 1)) (n - (i + 1))) (bytesAt t (b + (i + 1)) (n - (i + 1))))
+module _ (t u : Bytes) (a b n i : ℕ) {r : Bool} where
+  step-bytes : r ≡ sameBytes (bytesAt t (a + i) (n - i)) (bytesAt u (b + i) (n - i)) → i < n
+      → r ≡ (eqb (getD t (a + i) 0) (getD u (b + i) 0) && sameBytes (bytesAt t (a + (i + 1)) (n - (i + 1))) (bytesAt u (b + (i + 1)) (n - (i + 1))))
   unfolding sameBytes
-  step-bytes inv h = inv ∙ (λ j. sameBytes (cons-at t n i a h j) (cons-at t n i b h j))
+  step-bytes inv h = inv ∙ (λ j. sameBytes (cons-at t n i a h j) (cons-at u n i b h j))
 
-  pub same-next : r ≡ sameBytes (bytesAt t (a + i) (n - i)) (bytesAt t (b + i) (n - i)) → i < n
-      → getD t (a + i) 0 ≡ getD t (b + i) 0
-      → r ≡ sameBytes (bytesAt t (a + (i + 1)) (n - (i + 1))) (bytesAt t (b + (i + 1)) (n - (i + 1)))
+  pub same-next : r ≡ sameBytes (bytesAt t (a + i) (n - i)) (bytesAt u (b + i) (n - i)) → i < n
+      → getD t (a + i) 0 ≡ getD u (b + i) 0
+      → r ≡ sameBytes (bytesAt t (a + (i + 1)) (n - (i + 1))) (bytesAt u (b + (i + 1)) (n - (i + 1)))
   same-next inv h e =
       step-bytes inv h
-      ∙ ap (λ (v : Bool). v && sameBytes (bytesAt t (a + (i + 1)) (n - (i + 1))) (bytesAt t (b + (i + 1)) (n - (i + 1)))) (eq-eqb _ _ e)
+      ∙ ap (λ (v : Bool). v && sameBytes (bytesAt t (a + (i + 1)) (n - (i + 1))) (bytesAt u (b + (i + 1)) (n - (i + 1)))) (eq-eqb _ _ e)
 
-  pub same-stop : r ≡ sameBytes (bytesAt t (a + i) (n - i)) (bytesAt t (b + i) (n - i)) → i < n
-      → (getD t (a + i) 0 ≡ getD t (b + i) 0 → ⊥) → r ≡ false
+  pub same-stop : r ≡ sameBytes (bytesAt t (a + i) (n - i)) (bytesAt u (b + i) (n - i)) → i < n
+      → (getD t (a + i) 0 ≡ getD u (b + i) 0 → ⊥) → r ≡ false
   same-stop inv h e =
       step-bytes inv h
-      ∙ ap (λ (v : Bool). v && sameBytes (bytesAt t (a + (i + 1)) (n - (i + 1))) (bytesAt t (b + (i + 1)) (n - (i + 1)))) (ne-eqb _ _ e)
+      ∙ ap (λ (v : Bool). v && sameBytes (bytesAt t (a + (i + 1)) (n - (i + 1))) (bytesAt u (b + (i + 1)) (n - (i + 1)))) (ne-eqb _ _ e)
 
-  pub same-none : r ≡ sameBytes (bytesAt t (a + i) (n - i)) (bytesAt t (b + i) (n - i)) → n ≤ i → r ≡ true
+  pub same-none : r ≡ sameBytes (bytesAt t (a + i) (n - i)) (bytesAt u (b + i) (n - i)) → n ≤ i → r ≡ true
   unfolding sameBytes bytesAt tabulate
   same-none inv h =
       let e : n - i ≡ 0 = omega arith in
-      inv ∙ ap (λ (k : ℕ). sameBytes (bytesAt t (a + i) k) (bytesAt t (b + i) k)) e
+      inv ∙ ap (λ (k : ℕ). sameBytes (bytesAt t (a + i) k) (bytesAt u (b + i) k)) e
 
 -- ---- the search for a row that stores the same prefix
 

@@ -7,3 +7,4 @@ pub mod Rules
 pub mod Values
 pub mod Fresh
 pub mod Writes
+pub mod Order

@@ -9,7 +9,7 @@ ghost use Rattle.storage.specs.Words.{Word, wordAt, bytesAt, wordBytes, 
 ghost use Rattle.storage.specs.Writes.{prefixBytes, prefixAppended};
 ghost use Rattle.storage.specs.Tables.{prefixRow, prefixRows};
 ghost use Rattle.storage.specs.Rules.{sameBytes, sameRow, isAmong, prefixRight, prefixesRightAfter};
-ghost use Rattle.storage.specs.Values.{Index};
+ghost use Rattle.storage.specs.Values.{Index, StoredIs};
 use crate::head::prefix_count;
 use crate::head::set_prefix_count;
 use crate::layout::PREFIX_WIDTH;
@@ -19,6 +19,7 @@ use crate::words::get8;
 use crate::words::get16;
 use crate::words::get32;
 use crate::words::put_bytes;
+use crate::words::same_bytes;
 use crate::words::put8;
 use crate::words::put16;
 use crate::words::put32;
@@ -53,6 +54,26 @@ pub fn size_at(prefixes: &[u8], k: usize) -> usize
     ensures { λ r. ⌜ Word (now (prefixes .entry)) (k * 41 + 8) 1 r ⌝ }
 {
     get8(prefixes, k * PREFIX_WIDTH + 8)
+}
+
+// What a row stores, but for its content: that is the first `size` bytes from k * 41 + 9 on.
+pub struct Stored {
+    pub parent: usize,
+    pub index: LogIndex,
+    pub term: Term,
+    pub size: usize,
+}
+
+pub fn stored_at(prefixes: &[u8], k: usize) -> Stored
+    requires { ⌜ (k < 512) × (length (now prefixes) ≡ 20992) ⌝ }
+    ensures { λ r. ⌜ StoredIs (prefixRow (now (prefixes .entry)) k) r ⌝ }
+{
+    Stored {
+        parent: parent_at(prefixes, k),
+        index: LogIndex(index_at(prefixes, k)),
+        term: Term(term_at(prefixes, k)),
+        size: size_at(prefixes, k),
+    }
 }
 
 // The index of a number's prefix; the empty one has 0.
@@ -130,21 +151,6 @@ pub fn append_prefix(
     set_prefix_count(&mut history[..], n + 1);
 }
 
-// The n bytes at a are those at b.
-fn same_bytes(t: &[u8], a: usize, b: usize, n: usize) -> bool
-    requires { ⌜ (a + n ≤ length (now t)) × (b + n ≤ length (now t)) ⌝ }
-    ensures { λ r. ⌜ r ≡ sameBytes (bytesAt (now (t .entry)) a n) (bytesAt (now (t .entry)) b n) ⌝ }
-{
-    let mut i = 0;
-    while i < n {
-        if t[a + i] != t[b + i] {
-            return false;
-        }
-        i += 1;
-    }
-    true
-}
-
 // Rows j and k store the same prefix.
 fn same_row(prefixes: &[u8], j: usize, k: usize) -> bool
     requires { ⌜ (j < 512) × (k < 512) × (length (now prefixes) ≡ 20992) × (wordAt (now prefixes) (k * 41 + 8) 1 ≤ 32) ⌝ }
@@ -160,7 +166,7 @@ fn same_row(prefixes: &[u8], j: usize, k: usize) -> bool
     if size_at(prefixes, j) != n {
         return false;
     }
-    same_bytes(prefixes, j * PREFIX_WIDTH + 9, k * PREFIX_WIDTH + 9, n)
+    same_bytes(prefixes, j * PREFIX_WIDTH + 9, prefixes, k * PREFIX_WIDTH + 9, n)
 }
 
 // One of the rows from `start` on, before k, stores the same prefix as k.

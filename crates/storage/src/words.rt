@@ -2,6 +2,7 @@
 ghost use mathlib.Core.Path.{_≡_};
 ghost use Prim.Native.Nat.{_+_, _≤_, _<_};
 ghost use lib.ListN.{length};
+ghost use Rattle.storage.specs.Rules.{sameBytes};
 ghost use Rattle.storage.specs.Words.{Word, wordAt, wordBytes, bytesAt, putBytes};
 
 fn wide(x: u8) -> usize
@@ -83,4 +84,19 @@ pub fn put32(t: &mut [u8], o: usize, v: u32)
     t[second] = (v / 256 / 256 % 256) as u8;
     t[third] = (v / 256 % 256) as u8;
     t[fourth] = (v % 256) as u8;
+}
+
+// The n bytes of t at a are those of u at b.
+pub fn same_bytes(t: &[u8], a: usize, u: &[u8], b: usize, n: usize) -> bool
+    requires { ⌜ (a + n ≤ length (now t)) × (b + n ≤ length (now u)) ⌝ }
+    ensures { λ r. ⌜ r ≡ sameBytes (bytesAt (now (t .entry)) a n) (bytesAt (now (u .entry)) b n) ⌝ }
+{
+    let mut i = 0;
+    while i < n {
+        if t[a + i] != u[b + i] {
+            return false;
+        }
+        i += 1;
+    }
+    true
 }
