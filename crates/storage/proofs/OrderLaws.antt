@@ -43,13 +43,14 @@ in-order ps x (c ∷ cs) = go (ltb (x .term) (c .term)) (in-order ps x cs)
   where
     l : List Certificate
     l = map (certificateIn ps) cs
+
     go : (b : Bool)
         → take (placeOf (x .term) cs) (map (certificateIn ps) cs) ++ (certificateIn ps x ∷ drop (placeOf (x .term) cs) (map (certificateIn ps) cs))
-            ≡ inOrder (certificateIn ps x) (map (certificateIn ps) cs)
+        ≡ inOrder (certificateIn ps x) (map (certificateIn ps) cs)
         → take (cond b 0 (suc (placeOf (x .term) cs))) (certificateIn ps c ∷ map (certificateIn ps) cs)
-            ++ (certificateIn ps x ∷ drop (cond b 0 (suc (placeOf (x .term) cs))) (certificateIn ps c ∷ map (certificateIn ps) cs))
+        ++ (certificateIn ps x ∷ drop (cond b 0 (suc (placeOf (x .term) cs))) (certificateIn ps c ∷ map (certificateIn ps) cs))
         ≡ cond b (certificateIn ps x ∷ certificateIn ps c ∷ map (certificateIn ps) cs)
-            (certificateIn ps c ∷ inOrder (certificateIn ps x) (map (certificateIn ps) cs))
+        (certificateIn ps c ∷ inOrder (certificateIn ps x) (map (certificateIn ps) cs))
     go true ih = refl
     go false ih = ap (λ (q : List Certificate). certificateIn ps c ∷ q) ih
 
@@ -90,12 +91,12 @@ unfolding follows Next
 next-follows c d n =
     ⊎-elim
     (λ (p : (c .term ≡ d .term) × (d .number ≡ c .number + 1 + 0)).
-        ap (λ (b : Bool). cond b (eqb (d .number) (c .number + 1)) (ltb (c .term) (d .term) && eqb (d .number) 0)) (eq-eqb _ _ (sym (p .0)))
-        ∙ eq-eqb _ _ (p .1 ∙ add-zero (c .number + 1)))
+    ap (λ (b : Bool). cond b (eqb (d .number) (c .number + 1)) (ltb (c .term) (d .term) && eqb (d .number) 0)) (eq-eqb _ _ (sym (p .0)))
+    ∙ eq-eqb _ _ (p .1 ∙ add-zero (c .number + 1)))
     (λ (p : (c .term < d .term) × (d .number ≡ 0)).
-        ap (λ (b : Bool). cond b (eqb (d .number) (c .number + 1)) (ltb (c .term) (d .term) && eqb (d .number) 0)) (ne-eqb (d .term) (c .term) (λ q. omega (arith, p .0)))
-        ∙ pass _ (lt-ltb _ _ (p .0))
-        ∙ eq-eqb _ _ (p .1))
+    ap (λ (b : Bool). cond b (eqb (d .number) (c .number + 1)) (ltb (c .term) (d .term) && eqb (d .number) 0)) (ne-eqb (d .term) (c .term) (λ q. omega (arith, p .0)))
+    ∙ pass _ (lt-ltb _ _ (p .0))
+    ∙ eq-eqb _ _ (p .1))
     n
 
 -- terms rise
@@ -116,35 +117,41 @@ next-held : (c d x : CertificateRow) (ds : List CertificateRow) → Next c d 0 �
 unfolding Next
 next-held c d x ds n h m =
     elim (ℕ-discrete (d .term) (x .term)) [
-      yes e ↦ inl (e,
-          ⊎-elim
-          (λ (p : (c .term ≡ x .term) × (x .number ≡ c .number + 1 + heldOf (x .term) (d ∷ ds))).
-              ⊎-elim
-              (λ (q : (c .term ≡ d .term) × (d .number ≡ c .number + 1 + 0)). omega (arith, p .1, q .1, held-one (x .term) d ds e))
-              (λ (q : (c .term < d .term) × (d .number ≡ 0)). absurd (omega (arith, p .0, q .0, e)))
-              n)
-          (λ (p : (c .term < x .term) × (x .number ≡ heldOf (x .term) (d ∷ ds))).
-              ⊎-elim
-              (λ (q : (c .term ≡ d .term) × (d .number ≡ c .number + 1 + 0)). absurd (omega (arith, p .0, q .0, e)))
-              (λ (q : (c .term < d .term) × (d .number ≡ 0)). omega (arith, p .1, q .1, held-one (x .term) d ds e))
-              n)
-          m)
-    | no e ↦ inr (omega arith,
-          ⊎-elim
-          (λ (p : (c .term ≡ x .term) × (x .number ≡ c .number + 1 + heldOf (x .term) (d ∷ ds))). absurd (omega (arith, p .0, rise c d 0 n)))
-          (λ (p : (c .term < x .term) × (x .number ≡ heldOf (x .term) (d ∷ ds))). p .1 ∙ held-other (x .term) d ds e)
-          m)
+      | yes e ↦ inl (
+        e,
+        ⊎-elim
+            (λ (p : (c .term ≡ x .term) × (x .number ≡ c .number + 1 + heldOf (x .term) (d ∷ ds))).
+            ⊎-elim
+            (λ (q : (c .term ≡ d .term) × (d .number ≡ c .number + 1 + 0)). omega (arith, p .1, q .1, held-one (x .term) d ds e))
+            (λ (q : (c .term < d .term) × (d .number ≡ 0)). absurd (omega (arith, p .0, q .0, e)))
+            n)
+            (λ (p : (c .term < x .term) × (x .number ≡ heldOf (x .term) (d ∷ ds))).
+            ⊎-elim
+            (λ (q : (c .term ≡ d .term) × (d .number ≡ c .number + 1 + 0)). absurd (omega (arith, p .0, q .0, e)))
+            (λ (q : (c .term < d .term) × (d .number ≡ 0)). omega (arith, p .1, q .1, held-one (x .term) d ds e))
+            n)
+            m,
+      )
+      | no e ↦ inr (
+        omega arith,
+        ⊎-elim
+            (λ (p : (c .term ≡ x .term) × (x .number ≡ c .number + 1 + heldOf (x .term) (d ∷ ds))). absurd (omega (arith, p .0, rise c d 0 n)))
+            (λ (p : (c .term < x .term) × (x .number ≡ heldOf (x .term) (d ∷ ds))). p .1 ∙ held-other (x .term) d ds e)
+            m,
+      )
     ]
 
 -- where a row of an earlier term is put in front of d, d is the first of its term
 first-of : (c d x : CertificateRow) (m : ℕ) → Next c d 0 → Next c x m → x .term < d .term → Next x d 0
 unfolding Next
 first-of c d x m n k h =
-    inr (h,
+    inr (
+      h,
       ⊎-elim
-      (λ (p : (c .term ≡ d .term) × (d .number ≡ c .number + 1 + 0)). absurd (omega (arith, p .0, rise c x m k)))
-      (λ (p : (c .term < d .term) × (d .number ≡ 0)). p .1)
-      n)
+          (λ (p : (c .term ≡ d .term) × (d .number ≡ c .number + 1 + 0)). absurd (omega (arith, p .0, rise c x m k)))
+          (λ (p : (c .term < d .term) × (d .number ≡ 0)). p .1)
+          n,
+    )
 
 abbrev put : CertificateRow → ℕ → List CertificateRow → List CertificateRow
 put x k cs = take k cs ++ (x ∷ drop k cs)
@@ -157,16 +164,16 @@ insert-after c x (d ∷ ds) e n =
     let p = both (follows c d) _ e in
     let cd = follows-next c d (p .0) in
     elim (decLt (x .term) (d .term)) [
-      yes h ↦
-        let z : heldOf (x .term) (d ∷ ds) ≡ 0 = none-held (x .term) d ds (p .1) h in
-        ap (λ (k : ℕ). numberedAfter c (put x k (d ∷ ds))) (place-here (x .term) d ds h)
-        ∙ pass _ (next-follows c x (subst (Next c x) z n))
-        ∙ pass _ (next-follows x d (first-of c d x (heldOf (x .term) (d ∷ ds)) cd n h))
-        ∙ p .1
-    | no h ↦
-        ap (λ (k : ℕ). numberedAfter c (put x k (d ∷ ds))) (place-later (x .term) d ds (omega arith))
-        ∙ pass _ (p .0)
-        ∙ insert-after d x ds (p .1) (next-held c d x ds cd (omega arith) n)
+      | yes h ↦
+          let z : heldOf (x .term) (d ∷ ds) ≡ 0 = none-held (x .term) d ds (p .1) h in
+          ap (λ (k : ℕ). numberedAfter c (put x k (d ∷ ds))) (place-here (x .term) d ds h)
+          ∙ pass _ (next-follows c x (subst (Next c x) z n))
+          ∙ pass _ (next-follows x d (first-of c d x (heldOf (x .term) (d ∷ ds)) cd n h))
+          ∙ p .1
+      | no h ↦
+          ap (λ (k : ℕ). numberedAfter c (put x k (d ∷ ds))) (place-later (x .term) d ds (omega arith))
+          ∙ pass _ (p .0)
+          ∙ insert-after d x ds (p .1) (next-held c d x ds cd (omega arith) n)
     ]
 
 -- a certificate with the next number of its term, put in its place
@@ -178,19 +185,19 @@ numbered-insert x (c ∷ cs) e n =
     let p = both (eqb (c .number) 0) _ e in
     let z : c .number ≡ 0 = eqb-true _ _ (p .0) in
     elim (decLt (x .term) (c .term)) [
-      yes h ↦
-        ap (λ (k : ℕ). numbered (put x k (c ∷ cs))) (place-here (x .term) c cs h)
-        ∙ pass _ (eq-eqb _ _ (n ∙ none-held (x .term) c cs (p .1) h))
-        ∙ pass _ (next-follows x c (inr (h, z)))
-        ∙ p .1
-    | no h ↦
-        ap (λ (k : ℕ). numbered (put x k (c ∷ cs))) (place-later (x .term) c cs (omega arith))
-        ∙ pass _ (p .0)
-        ∙ insert-after c x cs (p .1)
-            (elim (ℕ-discrete (c .term) (x .term)) [
-              yes q ↦ inl (q, (let m = held-one (x .term) c cs q in omega arith))
+      | yes h ↦
+          ap (λ (k : ℕ). numbered (put x k (c ∷ cs))) (place-here (x .term) c cs h)
+          ∙ pass _ (eq-eqb _ _ (n ∙ none-held (x .term) c cs (p .1) h))
+          ∙ pass _ (next-follows x c (inr (h, z)))
+          ∙ p .1
+      | no h ↦
+          ap (λ (k : ℕ). numbered (put x k (c ∷ cs))) (place-later (x .term) c cs (omega arith))
+          ∙ pass _ (p .0)
+          ∙ insert-after c x cs (p .1)
+          (elim (ℕ-discrete (c .term) (x .term)) [
+            | yes q ↦ inl (q, (let m = held-one (x .term) c cs q in omega arith))
             | no q ↦ inr (omega arith, n ∙ held-other (x .term) c cs q)
-            ])
+          ])
     ]
 
 -- the place is within the rows
@@ -215,6 +222,6 @@ election-written h x s c l f g n =
     let within : k ≤ wordAt h 6 1 = omega (arith, place-within (c .term) cs, certificates-count h x s) in
     let e = certificates-is h x s in
     let order : take k (x .certificates) ++ (certificateIn (x .prefixes) c ∷ drop k (x .certificates)) ≡ inOrder (certificateIn (x .prefixes) c) (x .certificates)
-          = subst (λ (q : List Certificate). take k q ++ (certificateIn (x .prefixes) c ∷ drop k q) ≡ inOrder (certificateIn (x .prefixes) c) q) e (in-order (x .prefixes) c cs) in
+    = subst (λ (q : List Certificate). take k q ++ (certificateIn (x .prefixes) c ∷ drop k q) ≡ inOrder (certificateIn (x .prefixes) c) q) e (in-order (x .prefixes) c cs) in
     subst (λ (q : List Certificate). Stands (certificateAdded h k c) (withElections x q)) order
     (certificate-inserted h x s k c within l f g (numbered-insert c cs (kept h x s .numbered) n))

@@ -4,7 +4,7 @@
 use Prim.Native.Nat.{ℕ}
 use mathlib.Core.Path.{_≡_}
 use mathlib.Core.Bool.{cond}
-use lib.ListN.{length, replicate}
+use lib.ListN.{replicate}
 use Rattle.model.specs.Sizes.{Bytes}
 use Rattle.storage.specs.Layout.{historyLength}
 use Rattle.storage.specs.Rules.{rightLength}

@@ -19,10 +19,10 @@ use crate::words::get8;
 use crate::words::get16;
 use crate::words::get32;
 use crate::words::put_bytes;
-use crate::words::same_bytes;
 use crate::words::put8;
 use crate::words::put16;
 use crate::words::put32;
+use crate::words::same_bytes;
 use units::CONTENT_LIMIT;
 use units::INDEX_LIMIT;
 use units::LogIndex;
@@ -166,7 +166,13 @@ fn same_row(prefixes: &[u8], j: usize, k: usize) -> bool
     if size_at(prefixes, j) != n {
         return false;
     }
-    same_bytes(prefixes, j * PREFIX_WIDTH + 9, prefixes, k * PREFIX_WIDTH + 9, n)
+    same_bytes(
+        prefixes,
+        j * PREFIX_WIDTH + 9,
+        prefixes,
+        k * PREFIX_WIDTH + 9,
+        n,
+    )
 }
 
 // One of the rows from `start` on, before k, stores the same prefix as k.
