@@ -10,9 +10,10 @@ use mathlib.Core.List.{List, [], _∷_, _++_, map}
 use lib.ListN.{length, getD, set, take, drop, length-set, length-append, length-map, take-append-drop, List·getD-map}
 use Rattle.model.specs.Sizes.{Bytes}
 use Rattle.model.specs.Entry.{Prefix}
-use Rattle.model.specs.History.{Certificate, Finding, History}
+use Rattle.model.specs.History.{fresh, Certificate, Finding, History}
+use Rattle.storage.specs.Lists.{every}
 use Rattle.storage.specs.Words.{wordAt, wordBytes, putBytes}
-use Rattle.storage.specs.Tables.{NodeRow, CertificateRow, Tables, nodeRow, termRow, certificateRow, findingRow, headPart, nodesPart, termsPart, certificatesPart, findingsPart, tablesIn, tablesOf, withRow, withNode, withCommitted, withTerms, withCertificates, withFindings}
+use Rattle.storage.specs.Tables.{NodeRow, CertificateRow, Tables, nodeRow, termRow, certificateRow, findingRow, findingRows, headPart, nodesPart, termsPart, certificatesPart, findingsPart, tablesIn, tablesOf, withRow, withNode, withCommitted, withTerms, withCertificates, withFindings}
 use Rattle.storage.specs.Decode.{prefixAt, extended, resolve, frontIn, certificateIn, historyIn, decode}
 use Rattle.storage.specs.Rules.{certificateRight, findingRight, numbered, prefixRight, wellFormed}
 use Rattle.storage.specs.Writes.{nodeBytes, certificateBytes, findingBytes, prefixBytes, prefixOf, CertificateFits, PrefixFits, prefixAppended, findingAppended, termAppended, committedSet, certificateInserted, certificateAdded}
@@ -21,7 +22,9 @@ use Rattle.storage.proofs.WordLaws.{put-length}
 use Rattle.storage.proofs.PartLaws.{word-part}
 use Rattle.storage.proofs.RowFacts.{resolve-length}
 use Rattle.storage.proofs.RuleLaws.{within, pass, SameKey, numbered-set}
-use Rattle.storage.proofs.TableLaws.{set-node, set-term, set-certificate, prefix-appended, finding-appended, term-appended, committed-set, certificate-added}
+use Rattle.storage.proofs.TableLaws.{findings-written, set-node, set-term, set-certificate, prefix-appended, finding-appended, term-appended, committed-set, certificate-added}
+use Rattle.storage.specs.Fresh.{freshHistory}
+use Rattle.storage.proofs.FreshLaws.{fresh-well-formed, fresh-decodes}
 use Rattle.storage.proofs.DecodeLaws.{Kept, well-formed-parts, well-formed-of, NodeNamed, CertificateNamed, certificate-test, FindingNamed, finding-test, kept-node, kept-committed, kept-terms, kept-certificates, kept-findings, kept-row, decode-is, history-node, history-row}
 
 -- well-formed bytes that stand for a history
@@ -359,3 +362,17 @@ module _ (h : Bytes) (x : History) (s : Stands h x) where
           unfold certificateAdded in
           put-length (putBytes h 1417 (certificateInserted (certificatesPart h) (wordAt h 6 1) k c)) 6 (wordBytes 1 (wordAt h 6 1 + 1))
           ∙ put-length h 1417 (certificateInserted (certificatesPart h) (wordAt h 6 1) k c)
+
+  -- the findings' region written whole, with the count: a judged copy that is taken over
+  pub findings-taken : (fs : Bytes) (m : ℕ) → length fs ≡ 1024 → m ≤ 128 → every findingRight (findingRows fs m) ≡ true
+      → Stands (putBytes (putBytes h 2121 fs) 7 (wordBytes 1 m)) (withNoted x (findingRows fs m))
+  findings-taken fs m lf lm e =
+      stands (putBytes (putBytes h 2121 fs) 7 (wordBytes 1 m)) (withFindings (tablesOf h) (findingRows fs m)) _
+      (put-length (putBytes h 2121 fs) 7 (wordBytes 1 m) ∙ put-length h 2121 fs ∙ long)
+      (findings-written h long fs m lf (omega arith))
+      (kept-findings (tablesOf h) kept (findingRows fs m) (omega (arith, tabulate-length (findingRow fs) 0 m)) e)
+      (ap (λ (y : History). withNoted y (findingRows fs m)) is)
+
+-- the fresh history
+pub fresh-stands : Stands freshHistory fresh
+fresh-stands = record { right = fresh-well-formed; decodes = fresh-decodes }

@@ -11,7 +11,7 @@ use Rattle.model.specs.Sizes.{Bytes}
 use Rattle.model.specs.History.{Finding}
 use Rattle.storage.specs.Words.{wordAt, wordBytes, putBytes}
 use Rattle.storage.specs.Layout.{part}
-use Rattle.storage.specs.Tables.{Tables, NodeRow, CertificateRow, HeadRow, headRow, nodeRow, nodeRows, termRow, termRows, certificateRow, certificateRows, findingRow, findingRows, prefixRow, prefixRows, headPart, nodesPart, termsPart, certificatesPart, findingsPart, prefixesPart, tablesIn, tablesOf, withRow, withNode, withCommitted, withTerms, withCertificates, withFindings}
+use Rattle.storage.specs.Tables.{Tables, NodeRow, CertificateRow, HeadRow, headRow, nodeRow, nodeRows, termRow, termRows, certificateRow, certificateRows, findingRow, findingRows, prefixRow, prefixRows, headPart, nodesPart, termsPart, certificatesPart, findingsPart, prefixesPart, tablesIn, tablesOf, withRows, withRow, withNodes, withNode, withCommitted, withTerms, withCertificates, withFindings}
 use Rattle.storage.specs.Writes.{prefixAppended, findingAppended, termAppended, committedSet, certificateInserted, certificateAdded, nodeBytes, certificateBytes, findingBytes, prefixBytes, prefixOf, NodeFits, CertificateFits, FindingFits, PrefixFits}
 use Rattle.storage.proofs.WordLaws.{put-length, word-bytes-length}
 use Rattle.storage.proofs.PartLaws.{word-part, put-whole, part-length, part-put-same, part-put-before, part-put-after}
@@ -305,16 +305,7 @@ module _ (h : Bytes) (right : length h ≡ 24137) where
   set-node k x l f =
       let long : length (nodesPart h) ≡ 384 = part-length h 9 384 (omega arith) in
       ap tablesFrom (in-nodes h (k * 6) (nodeBytes x) right (omega (arith, node-length x)))
-      ∙ (λ i.
-      record {
-        rows = tablesOf h .rows;
-        nodes = rows-set 6 nodeRow node-own (nodesPart h) (nodeBytes x) 64 k x (node-length x) (node-back (nodesPart h) k x f (omega arith)) i;
-        committed = tablesOf h .committed;
-        owner = tablesOf h .owner;
-        terms = tablesOf h .terms;
-        certificates = tablesOf h .certificates;
-        findings = tablesOf h .findings;
-      })
+      ∙ ap (withNodes (tablesOf h)) (rows-set 6 nodeRow node-own (nodesPart h) (nodeBytes x) 64 k x (node-length x) (node-back (nodesPart h) k x f (omega arith)))
 
   -- the committed prefix's number and owner
   pub set-committed : (p n : ℕ) → p < 65536 → n < 256
@@ -351,17 +342,8 @@ module _ (h : Bytes) (right : length h ≡ 24137) where
       (in-head u 0 w ru (omega (arith, word-bytes-length 2 (n + 1)))
       ∙ ap (λ (q : Parts). putHead q 0 w) (in-prefixes h (n * 41) vs right (omega arith)))
       ∙ by-head (putHead (putPrefixes (partsOf h) (n * 41) vs) 0 w) _ (head-prefixes (headPart h) (n + 1) head-long (omega arith))
-      ∙ (λ j.
-      record {
-        rows = (rows-append 41 prefixRow prefix-own (prefixesPart h) vs n (prefixOf p i t s c) lv (prefix-back (prefixesPart h) n p i t s c f (omega arith))
-            ∙ ap (λ (m : ℕ). prefixRows (prefixesPart h) m ++ (prefixOf p i t s c ∷ [])) e) j;
-        nodes = tablesOf h .nodes;
-        committed = tablesOf h .committed;
-        owner = tablesOf h .owner;
-        terms = tablesOf h .terms;
-        certificates = tablesOf h .certificates;
-        findings = tablesOf h .findings;
-      })
+      ∙ ap (withRows (tablesOf h)) (rows-append 41 prefixRow prefix-own (prefixesPart h) vs n (prefixOf p i t s c) lv (prefix-back (prefixesPart h) n p i t s c f (omega arith))
+      ∙ ap (λ (m : ℕ). prefixRows (prefixesPart h) m ++ (prefixOf p i t s c ∷ [])) e)
 
   -- one more finding
   pub append-finding : (n : ℕ) (x : Finding) → n ≡ wordAt (headPart h) 7 1 → n < 128 → FindingFits x
@@ -379,17 +361,8 @@ module _ (h : Bytes) (right : length h ≡ 24137) where
       (in-head u 7 w ru (omega (arith, word-bytes-length 1 (n + 1)))
       ∙ ap (λ (q : Parts). putHead q 7 w) (in-findings h (n * 8) vs right (omega arith)))
       ∙ by-head (putHead (putFindings (partsOf h) (n * 8) vs) 7 w) _ (head-findings (headPart h) (n + 1) head-long (omega arith))
-      ∙ (λ j.
-      record {
-        rows = tablesOf h .rows;
-        nodes = tablesOf h .nodes;
-        committed = tablesOf h .committed;
-        owner = tablesOf h .owner;
-        terms = tablesOf h .terms;
-        certificates = tablesOf h .certificates;
-        findings = (rows-append 8 findingRow finding-own (findingsPart h) vs n x lv (finding-back (findingsPart h) n x f (omega arith))
-            ∙ ap (λ (m : ℕ). findingRows (findingsPart h) m ++ (x ∷ [])) e) j;
-      })
+      ∙ ap (withFindings (tablesOf h)) (rows-append 8 findingRow finding-own (findingsPart h) vs n x lv (finding-back (findingsPart h) n x f (omega arith))
+      ∙ ap (λ (m : ℕ). findingRows (findingsPart h) m ++ (x ∷ [])) e)
 
   -- the commit term at a place
   pub set-term : (k v : ℕ) → k < 256 → v < 4294967296
@@ -400,16 +373,7 @@ module _ (h : Bytes) (right : length h ≡ 24137) where
       let lv : length vs ≡ 4 = word-bytes-length 4 v in
       let long : length (termsPart h) ≡ 1024 = part-length h 393 1024 (omega arith) in
       ap tablesFrom (in-terms h (k * 4) vs right (omega arith))
-      ∙ (λ j.
-      record {
-        rows = tablesOf h .rows;
-        nodes = tablesOf h .nodes;
-        committed = tablesOf h .committed;
-        owner = tablesOf h .owner;
-        terms = rows-set 4 termRow term-own (termsPart h) vs (wordAt (headPart h) 2 2) k v lv (term-back (termsPart h) k v f (omega arith)) j;
-        certificates = tablesOf h .certificates;
-        findings = tablesOf h .findings;
-      })
+      ∙ ap (withTerms (tablesOf h)) (rows-set 4 termRow term-own (termsPart h) vs (wordAt (headPart h) 2 2) k v lv (term-back (termsPart h) k v f (omega arith)))
 
   -- one more commit term
   pub append-term : (n v : ℕ) → n ≡ wordAt (headPart h) 2 2 → n < 256 → v < 4294967296
@@ -427,17 +391,8 @@ module _ (h : Bytes) (right : length h ≡ 24137) where
       (in-head u 2 w ru (omega (arith, word-bytes-length 2 (n + 1)))
       ∙ ap (λ (q : Parts). putHead q 2 w) (in-terms h (n * 4) vs right (omega arith)))
       ∙ by-head (putHead (putTerms (partsOf h) (n * 4) vs) 2 w) _ (head-terms (headPart h) (n + 1) head-long (omega arith))
-      ∙ (λ j.
-      record {
-        rows = tablesOf h .rows;
-        nodes = tablesOf h .nodes;
-        committed = tablesOf h .committed;
-        owner = tablesOf h .owner;
-        terms = (rows-append 4 termRow term-own (termsPart h) vs n v lv (term-back (termsPart h) n v f (omega arith))
-            ∙ ap (λ (m : ℕ). termRows (termsPart h) m ++ (v ∷ [])) e) j;
-        certificates = tablesOf h .certificates;
-        findings = tablesOf h .findings;
-      })
+      ∙ ap (withTerms (tablesOf h)) (rows-append 4 termRow term-own (termsPart h) vs n v lv (term-back (termsPart h) n v f (omega arith))
+      ∙ ap (λ (m : ℕ). termRows (termsPart h) m ++ (v ∷ [])) e)
 
   -- a certificate's row
   pub set-certificate : (k : ℕ) (x : CertificateRow) → k < 64 → CertificateFits x
@@ -448,16 +403,7 @@ module _ (h : Bytes) (right : length h ≡ 24137) where
       let lv : length vs ≡ 11 = certificate-length x in
       let long : length (certificatesPart h) ≡ 704 = part-length h 1417 704 (omega arith) in
       ap tablesFrom (in-certificates h (k * 11) vs right (omega arith))
-      ∙ (λ j.
-      record {
-        rows = tablesOf h .rows;
-        nodes = tablesOf h .nodes;
-        committed = tablesOf h .committed;
-        owner = tablesOf h .owner;
-        terms = tablesOf h .terms;
-        certificates = rows-set 11 certificateRow certificate-own (certificatesPart h) vs (wordAt (headPart h) 6 1) k x lv (certificate-back (certificatesPart h) k x f (omega arith)) j;
-        findings = tablesOf h .findings;
-      })
+      ∙ ap (withCertificates (tablesOf h)) (rows-set 11 certificateRow certificate-own (certificatesPart h) vs (wordAt (headPart h) 6 1) k x lv (certificate-back (certificatesPart h) k x f (omega arith)))
 
   -- one more certificate, at the end
   pub append-certificate : (n : ℕ) (x : CertificateRow) → n ≡ wordAt (headPart h) 6 1 → n < 64 → CertificateFits x
@@ -475,17 +421,8 @@ module _ (h : Bytes) (right : length h ≡ 24137) where
       (in-head u 6 w ru (omega (arith, word-bytes-length 1 (n + 1)))
       ∙ ap (λ (q : Parts). putHead q 6 w) (in-certificates h (n * 11) vs right (omega arith)))
       ∙ by-head (putHead (putCertificates (partsOf h) (n * 11) vs) 6 w) _ (head-certificates (headPart h) (n + 1) head-long (omega arith))
-      ∙ (λ j.
-      record {
-        rows = tablesOf h .rows;
-        nodes = tablesOf h .nodes;
-        committed = tablesOf h .committed;
-        owner = tablesOf h .owner;
-        terms = tablesOf h .terms;
-        certificates = (rows-append 11 certificateRow certificate-own (certificatesPart h) vs n x lv (certificate-back (certificatesPart h) n x f (omega arith))
-            ∙ ap (λ (m : ℕ). certificateRows (certificatesPart h) m ++ (x ∷ [])) e) j;
-        findings = tablesOf h .findings;
-      })
+      ∙ ap (withCertificates (tablesOf h)) (rows-append 11 certificateRow certificate-own (certificatesPart h) vs n x lv (certificate-back (certificatesPart h) n x f (omega arith))
+      ∙ ap (λ (m : ℕ). certificateRows (certificatesPart h) m ++ (x ∷ [])) e)
 
   -- ---- the writes that are more than one row's
 
@@ -531,18 +468,9 @@ module _ (h : Bytes) (right : length h ≡ 24137) where
       (in-head u 6 w ru (omega (arith, word-bytes-length 1 (n + 1)))
       ∙ ap (λ (z : Parts). putHead z 6 w) (in-certificates h 0 q right (omega arith)))
       ∙ by-head (putHead (putCertificates (partsOf h) 0 q) 6 w) _ (head-certificates (headPart h) (n + 1) head-long (omega arith))
-      ∙ (λ j.
-      record {
-        rows = tablesOf h .rows;
-        nodes = tablesOf h .nodes;
-        committed = tablesOf h .committed;
-        owner = tablesOf h .owner;
-        terms = tablesOf h .terms;
-        certificates = (ap (λ (z : Bytes). certificateRows z (n + 1)) (put-whole r q (lq ∙ sym long))
-            ∙ certificates-inserted r n k x b l long f
-            ∙ ap (λ (m : ℕ). take k (certificateRows r m) ++ (x ∷ drop k (certificateRows r m))) e) j;
-        findings = tablesOf h .findings;
-      })
+      ∙ ap (withCertificates (tablesOf h)) (ap (λ (z : Bytes). certificateRows z (n + 1)) (put-whole r q (lq ∙ sym long))
+      ∙ certificates-inserted r n k x b l long f
+      ∙ ap (λ (m : ℕ). take k (certificateRows r m) ++ (x ∷ drop k (certificateRows r m))) e)
 
   -- the findings' region written whole, with the count
   pub findings-written : (fs : Bytes) (m : ℕ) → length fs ≡ 1024 → m < 256
@@ -557,13 +485,4 @@ module _ (h : Bytes) (right : length h ≡ 24137) where
       (in-head u 7 w ru (omega (arith, word-bytes-length 1 m))
       ∙ ap (λ (z : Parts). putHead z 7 w) (in-findings h 0 fs right (omega arith)))
       ∙ by-head (putHead (putFindings (partsOf h) 0 fs) 7 w) _ (head-findings (headPart h) m head-long lm)
-      ∙ (λ j.
-      record {
-        rows = tablesOf h .rows;
-        nodes = tablesOf h .nodes;
-        committed = tablesOf h .committed;
-        owner = tablesOf h .owner;
-        terms = tablesOf h .terms;
-        certificates = tablesOf h .certificates;
-        findings = ap (λ (z : Bytes). findingRows z m) (put-whole (findingsPart h) fs (lf ∙ sym long)) j;
-      })
+      ∙ ap (withFindings (tablesOf h)) (ap (λ (z : Bytes). findingRows z m) (put-whole (findingsPart h) fs (lf ∙ sym long)))

@@ -26,4 +26,5 @@ madeNumber WrongLength = 12
 -- what making a fresh history in h answers and leaves
 pub record FreshMade (h : Bytes) (answer : Made) (after : Bytes) : Type 0 where
   pub answers : answer ≡ cond (rightLength h) Fresh WrongLength
+  pub number : madeNumber answer ≡ cond (rightLength h) 0 12
   pub leaves : after ≡ cond (rightLength h) freshHistory h

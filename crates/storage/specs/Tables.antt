@@ -158,10 +158,10 @@ tablesOf h = tablesIn (headPart h) (nodesPart h) (termsPart h) (certificatesPart
 
 -- ---- tables with one thing changed
 
-abbrev pub withRow : Tables → PrefixRow → Tables
-withRow t x =
+abbrev pub withRows : Tables → List PrefixRow → Tables
+withRows t rs =
     record {
-      rows = t .rows ++ (x ∷ []);
+      rows = rs;
       nodes = t .nodes;
       committed = t .committed;
       owner = t .owner;
@@ -170,17 +170,25 @@ withRow t x =
       findings = t .findings;
     }
 
-abbrev pub withNode : Tables → ℕ → NodeRow → Tables
-withNode t k x =
+-- one more prefix
+abbrev pub withRow : Tables → PrefixRow → Tables
+withRow t x = withRows t (t .rows ++ (x ∷ []))
+
+abbrev pub withNodes : Tables → List NodeRow → Tables
+withNodes t ns =
     record {
       rows = t .rows;
-      nodes = set (t .nodes) k x;
+      nodes = ns;
       committed = t .committed;
       owner = t .owner;
       terms = t .terms;
       certificates = t .certificates;
       findings = t .findings;
     }
+
+-- a node's row set
+abbrev pub withNode : Tables → ℕ → NodeRow → Tables
+withNode t k x = withNodes t (set (t .nodes) k x)
 
 abbrev pub withCommitted : Tables → ℕ → ℕ → Tables
 withCommitted t p n =
