@@ -1,0 +1,13 @@
+pub mod ListLaws
+pub mod WordLaws
+pub mod PartLaws
+pub mod RuleLaws
+pub mod FreshLaws
+pub mod RowLaws
+pub mod TableLaws
+pub mod WriteLaws
+pub mod RowFacts
+pub mod DecodeLaws
+pub mod Meanings
+pub mod PrefixLaws
+pub mod OrderLaws

@@ -1,0 +1,378 @@
+-- The writes in the bytes of a well-formed history, in the model's words: each leaves well-formed bytes, and says which
+-- history they stand for. And what the accessors read, in those words.
+-- Assumes nothing.
+use Prim.Native.Nat.{ℕ, _+_, _*_, _≤_, _<_}
+use native.Mathlib.Nat.{zero-add}
+use native.Mathlib.Omega.{arith}
+use mathlib.Core.Path.{_≡_, ap, sym, _∙_, subst}
+use mathlib.Core.Bool.{true}
+use mathlib.Core.List.{List, [], _∷_, _++_, map}
+use lib.ListN.{length, getD, set, take, drop, length-set, length-append, length-map, take-append-drop, List·getD-map}
+use Rattle.model.specs.Sizes.{Bytes}
+use Rattle.model.specs.Entry.{Prefix}
+use Rattle.model.specs.History.{fresh, Certificate, Finding, History}
+use Rattle.storage.specs.Lists.{every}
+use Rattle.storage.specs.Words.{wordAt, wordBytes, putBytes}
+use Rattle.storage.specs.Tables.{NodeRow, CertificateRow, Tables, nodeRow, termRow, certificateRow, findingRow, findingRows, headPart, nodesPart, termsPart, certificatesPart, findingsPart, tablesIn, tablesOf, withRow, withNode, withCommitted, withTerms, withCertificates, withFindings}
+use Rattle.storage.specs.Decode.{prefixAt, extended, resolve, frontIn, certificateIn, historyIn, decode}
+use Rattle.storage.specs.Rules.{certificateRight, findingRight, numbered, prefixRight, wellFormed}
+use Rattle.storage.specs.Writes.{nodeBytes, certificateBytes, findingBytes, prefixBytes, prefixOf, CertificateFits, PrefixFits, prefixAppended, findingAppended, termAppended, committedSet, certificateInserted, certificateAdded}
+use Rattle.storage.proofs.ListLaws.{tabulate-length, tabulate-at, every-snoc, every-set, every-insert, map-set, map-insert}
+use Rattle.storage.proofs.WordLaws.{put-length}
+use Rattle.storage.proofs.PartLaws.{word-part}
+use Rattle.storage.proofs.RowFacts.{resolve-length}
+use Rattle.storage.proofs.RuleLaws.{within, pass, SameKey, numbered-set}
+use Rattle.storage.proofs.TableLaws.{findings-written, set-node, set-term, set-certificate, prefix-appended, finding-appended, term-appended, committed-set, certificate-added}
+use Rattle.storage.specs.Fresh.{freshHistory}
+use Rattle.storage.proofs.FreshLaws.{fresh-well-formed, fresh-decodes}
+use Rattle.storage.proofs.DecodeLaws.{Kept, well-formed-parts, well-formed-of, NodeNamed, CertificateNamed, certificate-test, FindingNamed, finding-test, kept-node, kept-committed, kept-terms, kept-certificates, kept-findings, kept-row, decode-is, history-node, history-row}
+
+-- well-formed bytes that stand for a history
+pub record Stands (h : Bytes) (x : History) : Type 0 where
+  pub right : wellFormed h ≡ true
+  pub decodes : decode h ≡ x
+
+stands : (h : Bytes) (t : Tables) (x : History) → length h ≡ 24137 → tablesOf h ≡ t → Kept t → historyIn t ≡ x → Stands h x
+stands h t x l e k q =
+    record { right = well-formed-of h l (subst Kept (sym e) k); decodes = decode-is h ∙ ap historyIn e ∙ q }
+
+-- ---- what is read
+
+module _ (h : Bytes) where
+  -- how many there are of each
+  pub prefixes-read : length (decode h .prefixes) ≡ wordAt h 0 2
+  unfolding decode tablesIn
+  prefixes-read =
+      resolve-length [] (tablesOf h .rows) ∙ zero-add (length (tablesOf h .rows)) ∙ tabulate-length _ 0 _ ∙ word-part h 0 9 0 2 (omega arith)
+
+  pub terms-read : length (decode h .terms) ≡ wordAt h 2 2
+  unfolding decode tablesIn
+  terms-read = tabulate-length _ 0 _ ∙ word-part h 0 9 2 2 (omega arith)
+
+  pub certificates-read : length (decode h .certificates) ≡ wordAt h 6 1
+  unfolding decode tablesIn
+  certificates-read = length-map (tablesOf h .certificates) _ ∙ tabulate-length _ 0 _ ∙ word-part h 0 9 6 1 (omega arith)
+
+  pub findings-read : length (decode h .findings) ≡ wordAt h 7 1
+  unfolding decode tablesIn
+  findings-read = tabulate-length _ 0 _ ∙ word-part h 0 9 7 1 (omega arith)
+
+  -- the committed prefix and its owner
+  pub committed-read : decode h .committed ≡ prefixAt (decode h .prefixes) (wordAt h 4 2)
+  unfolding decode tablesIn
+  committed-read = ap (prefixAt (decode h .prefixes)) (word-part h 0 9 4 2 (omega arith))
+
+  pub owner-read : decode h .owner ≡ wordAt h 8 1
+  unfolding decode tablesIn
+  owner-read = word-part h 0 9 8 1 (omega arith)
+
+  -- a node's front, last index and unseen mark
+  node-row : (k : ℕ) (d : NodeRow) → k < 64 → getD (tablesOf h .nodes) k d ≡ nodeRow (nodesPart h) k
+  unfolding tablesIn
+  node-row k d l = tabulate-at (nodeRow (nodesPart h)) 0 64 k d l ∙ ap (nodeRow (nodesPart h)) (zero-add k)
+
+  abbrev noNode : NodeRow
+  noNode = record { front = 0; last = 0; unseen = 0 }
+
+  pub front-read : (k : ℕ) → k < 64 → getD (decode h .fronts) k [] ≡ prefixAt (decode h .prefixes) (nodeRow (nodesPart h) k .front)
+  unfolding decode
+  front-read k l =
+      List·getD-map (frontIn (resolve (tablesOf h .rows))) (tablesOf h .nodes) k noNode
+      ∙ ap (frontIn (resolve (tablesOf h .rows))) (node-row k noNode l)
+
+  pub last-read : (k : ℕ) → k < 64 → getD (decode h .lasts) k 0 ≡ nodeRow (nodesPart h) k .last
+  unfolding decode
+  last-read k l =
+      List·getD-map (λ (x : NodeRow). x .last) (tablesOf h .nodes) k noNode ∙ ap (λ (x : NodeRow). x .last) (node-row k noNode l)
+
+  pub unseen-read : (k : ℕ) → k < 64 → getD (decode h .unseen) k 0 ≡ nodeRow (nodesPart h) k .unseen
+  unfolding decode
+  unseen-read k l =
+      List·getD-map (λ (x : NodeRow). x .unseen) (tablesOf h .nodes) k noNode ∙ ap (λ (x : NodeRow). x .unseen) (node-row k noNode l)
+
+  -- a commit term, a certificate and a finding, where there is one
+  pub term-read : (k d : ℕ) → k < wordAt h 2 2 → getD (decode h .terms) k d ≡ termRow (termsPart h) k
+  unfolding decode tablesIn
+  term-read k d l =
+      tabulate-at (termRow (termsPart h)) 0 (wordAt (headPart h) 2 2) k d (omega (arith, word-part h 0 9 2 2 (omega arith)))
+      ∙ ap (termRow (termsPart h)) (zero-add k)
+
+  pub certificate-read : (k : ℕ) (d : CertificateRow) → k < wordAt h 6 1
+      → getD (decode h .certificates) k (certificateIn (decode h .prefixes) d) ≡ certificateIn (decode h .prefixes) (certificateRow (certificatesPart h) k)
+  unfolding decode tablesIn
+  certificate-read k d l =
+      List·getD-map (certificateIn (decode h .prefixes)) (tablesOf h .certificates) k d
+      ∙ ap (certificateIn (decode h .prefixes))
+      (tabulate-at (certificateRow (certificatesPart h)) 0 (wordAt (headPart h) 6 1) k d (omega (arith, word-part h 0 9 6 1 (omega arith)))
+      ∙ ap (certificateRow (certificatesPart h)) (zero-add k))
+
+  pub finding-read : (k : ℕ) (d : Finding) → k < wordAt h 7 1 → getD (decode h .findings) k d ≡ findingRow (findingsPart h) k
+  unfolding decode tablesIn
+  finding-read k d l =
+      tabulate-at (findingRow (findingsPart h)) 0 (wordAt (headPart h) 7 1) k d (omega (arith, word-part h 0 9 7 1 (omega arith)))
+      ∙ ap (findingRow (findingsPart h)) (zero-add k)
+
+-- ---- what is written
+
+-- the histories that single writes lead to
+
+abbrev pub withFront : History → ℕ → Prefix → ℕ → ℕ → History
+withFront x k front last unseen =
+    record {
+      prefixes = x .prefixes;
+      fronts = set (x .fronts) k front;
+      lasts = set (x .lasts) k last;
+      unseen = set (x .unseen) k unseen;
+      committed = x .committed;
+      owner = x .owner;
+      terms = x .terms;
+      certificates = x .certificates;
+      findings = x .findings;
+    }
+
+abbrev pub withPrefixes : History → List Prefix → History
+withPrefixes x ps =
+    record {
+      prefixes = ps;
+      fronts = x .fronts;
+      lasts = x .lasts;
+      unseen = x .unseen;
+      committed = x .committed;
+      owner = x .owner;
+      terms = x .terms;
+      certificates = x .certificates;
+      findings = x .findings;
+    }
+
+abbrev pub withCommittedPrefix : History → Prefix → ℕ → History
+withCommittedPrefix x p o =
+    record {
+      prefixes = x .prefixes;
+      fronts = x .fronts;
+      lasts = x .lasts;
+      unseen = x .unseen;
+      committed = p;
+      owner = o;
+      terms = x .terms;
+      certificates = x .certificates;
+      findings = x .findings;
+    }
+
+abbrev pub withCommitTerms : History → List ℕ → History
+withCommitTerms x ts =
+    record {
+      prefixes = x .prefixes;
+      fronts = x .fronts;
+      lasts = x .lasts;
+      unseen = x .unseen;
+      committed = x .committed;
+      owner = x .owner;
+      terms = ts;
+      certificates = x .certificates;
+      findings = x .findings;
+    }
+
+abbrev pub withElections : History → List Certificate → History
+withElections x cs =
+    record {
+      prefixes = x .prefixes;
+      fronts = x .fronts;
+      lasts = x .lasts;
+      unseen = x .unseen;
+      committed = x .committed;
+      owner = x .owner;
+      terms = x .terms;
+      certificates = cs;
+      findings = x .findings;
+    }
+
+abbrev pub withNoted : History → List Finding → History
+withNoted x fs =
+    record {
+      prefixes = x .prefixes;
+      fronts = x .fronts;
+      lasts = x .lasts;
+      unseen = x .unseen;
+      committed = x .committed;
+      owner = x .owner;
+      terms = x .terms;
+      certificates = x .certificates;
+      findings = fs;
+    }
+
+module _ (h : Bytes) (x : History) (s : Stands h x) where
+  pub long : length h ≡ 24137
+  long = well-formed-parts h (s .right) .0
+
+  pub kept : Kept (tablesOf h)
+  kept = well-formed-parts h (s .right) .1
+
+  pub is : historyIn (tablesOf h) ≡ x
+  is = sym (decode-is h) ∙ s .decodes
+
+  pub rows-count : length (tablesOf h .rows) ≡ wordAt h 0 2
+  unfolding tablesIn
+  rows-count = tabulate-length _ 0 _ ∙ word-part h 0 9 0 2 (omega arith)
+
+  pub certificates-count : length (tablesOf h .certificates) ≡ wordAt h 6 1
+  unfolding tablesIn
+  certificates-count = tabulate-length _ 0 _ ∙ word-part h 0 9 6 1 (omega arith)
+
+  certificate-row : (k : ℕ) (d : CertificateRow) → k < wordAt h 6 1 → getD (tablesOf h .certificates) k d ≡ certificateRow (certificatesPart h) k
+  unfolding tablesIn
+  certificate-row k d l =
+      tabulate-at (certificateRow (certificatesPart h)) 0 (wordAt (headPart h) 6 1) k d (omega (arith, word-part h 0 9 6 1 (omega arith)))
+      ∙ ap (certificateRow (certificatesPart h)) (zero-add k)
+
+  pub prefixes-is : resolve (tablesOf h .rows) ≡ x .prefixes
+  prefixes-is = ap (λ (y : History). y .prefixes) is
+
+  pub certificates-is : map (certificateIn (x .prefixes)) (tablesOf h .certificates) ≡ x .certificates
+  certificates-is =
+      ap (λ (ps : List Prefix). map (certificateIn ps) (tablesOf h .certificates)) (sym prefixes-is) ∙ ap (λ (y : History). y .certificates) is
+
+  certificates-change : (cs : List CertificateRow) → historyIn (withCertificates (tablesOf h) cs) ≡ withElections x (map (certificateIn (x .prefixes)) cs)
+  certificates-change cs = ap (λ (y : History). withElections y (map (certificateIn (y .prefixes)) cs)) is
+
+  -- a node's row
+  pub node-written : (k : ℕ) (n : NodeRow) → k < 64 → NodeNamed (wordAt h 0 2) n
+      → Stands (putBytes h (9 + k * 6) (nodeBytes n)) (withFront x k (prefixAt (x .prefixes) (n .front)) (n .last) (n .unseen))
+  node-written k n l f =
+      let c = within _ _ _ _ (kept .limits) in
+      let r = rows-count in
+      let g : NodeNamed (length (tablesOf h .rows)) n = record { front = omega (arith, f .front); last = f .last; unseen = f .unseen } in
+      stands (putBytes h (9 + k * 6) (nodeBytes n)) (withNode (tablesOf h) k n) _
+      (put-length h (9 + k * 6) (nodeBytes n) ∙ long)
+      (set-node h long k n l (record { front = omega (arith, g .front, c .prefixes); last = omega (arith, f .last); unseen = omega (arith, f .unseen) }))
+      (kept-node (tablesOf h) kept k n g)
+      (history-node (tablesOf h) k n ∙ ap (λ (y : History). withFront y k (prefixAt (y .prefixes) (n .front)) (n .last) (n .unseen)) is)
+
+  -- the committed prefix and its owner
+  pub committed-written : (p o : ℕ) → p ≤ wordAt h 0 2 → o ≤ 63
+      → Stands (committedSet h p o) (withCommittedPrefix x (prefixAt (x .prefixes) p) o)
+  unfolding committedSet
+  committed-written p o a b =
+      let c = within _ _ _ _ (kept .limits) in
+      let r = rows-count in
+      stands (committedSet h p o) (withCommitted (tablesOf h) p o) _
+      (put-length (putBytes h 4 (wordBytes 2 p)) 8 (wordBytes 1 o) ∙ put-length h 4 (wordBytes 2 p) ∙ long)
+      (committed-set h long p o (omega (arith, c .prefixes)) (omega arith))
+      (kept-committed (tablesOf h) kept p o (omega arith) b)
+      (ap (λ (y : History). withCommittedPrefix y (prefixAt (y .prefixes) p) o) is)
+
+  -- one more prefix
+  pub prefix-written : (p i t n : ℕ) (c : Bytes) → wordAt h 0 2 < 512 → PrefixFits p i t n c
+      → prefixRight (tablesOf h .rows) (prefixOf p i t n c) ≡ true
+      → Stands (prefixAppended h p i t n c) (withPrefixes x (x .prefixes ++ (extended (x .prefixes) (prefixOf p i t n c) ∷ [])))
+  unfolding prefixAppended
+  prefix-written p i t n c l f e =
+      let r = rows-count in
+      let m = wordAt h 0 2 in
+      stands (prefixAppended h p i t n c) (withRow (tablesOf h) (prefixOf p i t n c)) _
+      (put-length (putBytes h (3145 + m * 41) (prefixBytes p i t n c)) 0 (wordBytes 2 (m + 1)) ∙ put-length h (3145 + m * 41) (prefixBytes p i t n c) ∙ long)
+      (prefix-appended h long p i t n c l f)
+      (kept-row (tablesOf h) kept (prefixOf p i t n c) (omega arith) e)
+      (history-row (tablesOf h) (prefixOf p i t n c) kept
+      ∙ ap (λ (y : History). withPrefixes y (y .prefixes ++ (extended (y .prefixes) (prefixOf p i t n c) ∷ []))) is)
+
+  -- one more finding
+  pub finding-written : (n : Finding) → wordAt h 7 1 < 128 → FindingNamed n → n .term < 4294967296
+      → Stands (findingAppended h n) (withNoted x (x .findings ++ (n ∷ [])))
+  unfolding findingAppended
+  finding-written n l f t =
+      let m = wordAt h 7 1 in
+      let count : length (tablesOf h .findings) ≡ m = sym (ap (λ (y : History). length (y .findings)) (decode-is h)) ∙ findings-read h in
+      let more : length (tablesOf h .findings ++ (n ∷ [])) ≡ length (tablesOf h .findings) + 1 = length-append (tablesOf h .findings) (n ∷ []) in
+      stands (findingAppended h n) (withFindings (tablesOf h) (tablesOf h .findings ++ (n ∷ []))) _
+      (put-length (putBytes h (2121 + m * 8) (findingBytes n)) 7 (wordBytes 1 (m + 1)) ∙ put-length h (2121 + m * 8) (findingBytes n) ∙ long)
+      (finding-appended h long n l (record { name = omega (arith, f .high); node = omega (arith, f .node); index = omega (arith, f .index); term = t }))
+      (kept-findings (tablesOf h) kept (tablesOf h .findings ++ (n ∷ [])) (omega arith) (every-snoc findingRight (tablesOf h .findings) n ∙ pass _ (kept .findings) ∙ finding-test n f))
+      (ap (λ (y : History). withNoted y (y .findings ++ (n ∷ []))) is)
+
+  -- a commit term set, and one more
+  pub term-written : (k v : ℕ) → k < 256 → v < 4294967296
+      → Stands (putBytes h (393 + k * 4) (wordBytes 4 v)) (withCommitTerms x (set (x .terms) k v))
+  term-written k v l f =
+      let c = within _ _ _ _ (kept .limits) in
+      stands (putBytes h (393 + k * 4) (wordBytes 4 v)) (withTerms (tablesOf h) (set (tablesOf h .terms) k v)) _
+      (put-length h (393 + k * 4) (wordBytes 4 v) ∙ long)
+      (set-term h long k v l f)
+      (kept-terms (tablesOf h) kept (set (tablesOf h .terms) k v) (omega (arith, length-set (tablesOf h .terms) k v, c .terms)))
+      (ap (λ (y : History). withCommitTerms y (set (y .terms) k v)) is)
+
+  pub term-added : (v : ℕ) → wordAt h 2 2 < 256 → v < 4294967296 → Stands (termAppended h v) (withCommitTerms x (x .terms ++ (v ∷ [])))
+  unfolding termAppended
+  term-added v l f =
+      let m = wordAt h 2 2 in
+      let count : length (tablesOf h .terms) ≡ m = sym (ap (λ (y : History). length (y .terms)) (decode-is h)) ∙ terms-read h in
+      let more : length (tablesOf h .terms ++ (v ∷ [])) ≡ length (tablesOf h .terms) + 1 = length-append (tablesOf h .terms) (v ∷ []) in
+      stands (termAppended h v) (withTerms (tablesOf h) (tablesOf h .terms ++ (v ∷ []))) _
+      (put-length (putBytes h (393 + m * 4) (wordBytes 4 v)) 2 (wordBytes 2 (m + 1)) ∙ put-length h (393 + m * 4) (wordBytes 4 v) ∙ long)
+      (term-appended h long v l f)
+      (kept-terms (tablesOf h) kept (tablesOf h .terms ++ (v ∷ [])) (omega arith))
+      (ap (λ (y : History). withCommitTerms y (y .terms ++ (v ∷ []))) is)
+
+  -- a certificate's row set to one of the same term and number, as where only its mark moves
+  pub certificate-written : (k : ℕ) (c : CertificateRow) → k < wordAt h 6 1 → CertificateFits c → CertificateNamed (wordAt h 0 2) c
+      → SameKey c (certificateRow (certificatesPart h) k)
+      → Stands (putBytes h (1417 + k * 11) (certificateBytes c)) (withElections x (set (x .certificates) k (certificateIn (x .prefixes) c)))
+  certificate-written k c l f g key =
+      let lim = within _ _ _ _ (kept .limits) in
+      let r = rows-count in
+      let cs = tablesOf h .certificates in
+      let n = length (tablesOf h .rows) in
+      let count = certificates-count in
+      let named : CertificateNamed n c = record { log = omega (arith, g .log); mark = g .mark; leader = g .leader; present = g .present } in
+      stands (putBytes h (1417 + k * 11) (certificateBytes c)) (withCertificates (tablesOf h) (set cs k c)) _
+      (put-length h (1417 + k * 11) (certificateBytes c) ∙ long)
+      (set-certificate h long k c (omega (arith, lim .certificates)) f)
+      (kept-certificates (tablesOf h) kept (set cs k c) (omega (arith, length-set cs k c, lim .certificates))
+      (every-set (certificateRight n) cs k c (certificate-test n c named) (kept .certificates))
+      (numbered-set cs k c c (subst (SameKey c) (sym (certificate-row k c l)) key) ∙ kept .numbered))
+      (certificates-change (set cs k c) ∙ ap (withElections x) (map-set (certificateIn (x .prefixes)) cs k c ∙ ap (λ (q : List Certificate). set q k (certificateIn (x .prefixes) c)) certificates-is))
+
+  -- one more certificate at place k, where the numbers stay unbroken
+  pub certificate-inserted : (k : ℕ) (c : CertificateRow) → k ≤ wordAt h 6 1 → wordAt h 6 1 < 64 → CertificateFits c → CertificateNamed (wordAt h 0 2) c
+      → numbered (take k (tablesOf h .certificates) ++ (c ∷ drop k (tablesOf h .certificates))) ≡ true
+      → Stands (certificateAdded h k c) (withElections x (take k (x .certificates) ++ (certificateIn (x .prefixes) c ∷ drop k (x .certificates))))
+  certificate-inserted k c b l f g e =
+      let r = rows-count in
+      let cs = tablesOf h .certificates in
+      let n = length (tablesOf h .rows) in
+      let count = certificates-count in
+      let named : CertificateNamed n c = record { log = omega (arith, g .log); mark = g .mark; leader = g .leader; present = g .present } in
+      let more : length (take k cs ++ (c ∷ drop k cs)) ≡ length cs + 1
+      = length-append (take k cs) (c ∷ drop k cs)
+      ∙ (let a = length-append (take k cs) (drop k cs) in
+      let d = ap length (take-append-drop k cs) in
+      omega arith) in
+      stands (certificateAdded h k c) (withCertificates (tablesOf h) (take k cs ++ (c ∷ drop k cs))) _
+      (added-length ∙ long)
+      (certificate-added h long k c b l f)
+      (kept-certificates (tablesOf h) kept (take k cs ++ (c ∷ drop k cs)) (omega arith)
+      (every-insert (certificateRight n) cs k c (certificate-test n c named) (kept .certificates))
+      e)
+      (certificates-change (take k cs ++ (c ∷ drop k cs))
+      ∙ ap (withElections x)
+      (map-insert (certificateIn (x .prefixes)) cs k c
+      ∙ ap (λ (q : List Certificate). take k q ++ (certificateIn (x .prefixes) c ∷ drop k q)) certificates-is))
+    where
+      added-length : length (certificateAdded h k c) ≡ length h
+      added-length =
+          unfold certificateAdded in
+          put-length (putBytes h 1417 (certificateInserted (certificatesPart h) (wordAt h 6 1) k c)) 6 (wordBytes 1 (wordAt h 6 1 + 1))
+          ∙ put-length h 1417 (certificateInserted (certificatesPart h) (wordAt h 6 1) k c)
+
+  -- the findings' region written whole, with the count: a judged copy that is taken over
+  pub findings-taken : (fs : Bytes) (m : ℕ) → length fs ≡ 1024 → m ≤ 128 → every findingRight (findingRows fs m) ≡ true
+      → Stands (putBytes (putBytes h 2121 fs) 7 (wordBytes 1 m)) (withNoted x (findingRows fs m))
+  findings-taken fs m lf lm e =
+      stands (putBytes (putBytes h 2121 fs) 7 (wordBytes 1 m)) (withFindings (tablesOf h) (findingRows fs m)) _
+      (put-length (putBytes h 2121 fs) 7 (wordBytes 1 m) ∙ put-length h 2121 fs ∙ long)
+      (findings-written h long fs m lf (omega arith))
+      (kept-findings (tablesOf h) kept (findingRows fs m) (omega (arith, tabulate-length (findingRow fs) 0 m)) e)
+      (ap (λ (y : History). withNoted y (findingRows fs m)) is)
+
+-- the fresh history
+pub fresh-stands : Stands freshHistory fresh
+fresh-stands = record { right = fresh-well-formed; decodes = fresh-decodes }

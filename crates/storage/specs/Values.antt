@@ -1,0 +1,48 @@
+-- The rows that the code's structs stand for.
+-- Assumes nothing.
+use Prim.Native.Nat.{ℕ, _-_, _<_}
+use mathlib.Core.Path.{_≡_}
+use mathlib.Core.Bool.{cond}
+use lib.Dec.{eqb}
+use Rattle.model.specs.Sizes.{Bytes}
+use Rattle.model.specs.History.{Finding}
+use Rattle.storage.specs.declared.nodes.Node.{Node}
+use Rattle.storage.specs.declared.certificates.Certificate.{Certificate}
+use Rattle.storage.specs.declared.findings.Found.{Found}
+use Rattle.storage.specs.declared.prefixes.Stored.{Stored}
+use Rattle.storage.specs.Words.{wordAt}
+use Rattle.storage.specs.Tables.{PrefixRow, NodeRow, CertificateRow, prefixRow}
+
+abbrev pub nodeValue : Node → NodeRow
+nodeValue x = record { front = x .front; last = x .last .0; unseen = x .unseen .0 }
+
+abbrev pub certificateValue : Certificate → CertificateRow
+certificateValue x =
+    record {
+      term = x .term .0;
+      log = x .log;
+      mark = x .mark .0;
+      leader = x .leader .0;
+      number = x .number;
+      present = x .present;
+    }
+
+abbrev pub findingValue : Found → Finding
+findingValue x = record { name = x .name; node = x .node .0; index = x .index .0; term = x .term .0 }
+
+-- the index of a number's prefix: 0 of the empty one
+unfoldable pub numberIndex : Bytes → ℕ → ℕ
+unfolding wordAt
+numberIndex t p = cond (eqb p 0) 0 (prefixRow t (p - 1) .index)
+
+-- an index read, with its bound
+pub record Index (t : Bytes) (p r : ℕ) : Type 0 where
+  pub is : r ≡ numberIndex t p
+  pub below : r < 65536
+
+-- a stored prefix read, but for its content
+pub record StoredIs (row : PrefixRow) (x : Stored) : Type 0 where
+  pub parent : x .parent ≡ row .parent
+  pub index : x .index .0 ≡ row .index
+  pub term : x .term .0 ≡ row .term
+  pub size : x .size ≡ row .size

@@ -1,0 +1,191 @@
+// The table of certificates, by term, then arrival. A log is the prefix of that number, where it is present.
+ghost use mathlib.Core.Path.{_≡_};
+ghost use Prim.Native.Nat.{_+_, _*_, _≤_, _<_};
+ghost use mathlib.Core.List.{_++_};
+ghost use lib.ListN.{length};
+ghost use Rattle.storage.specs.Lists.{every};
+ghost use Rattle.storage.specs.Tables.{certificateRow, certificateRows};
+ghost use Rattle.storage.specs.Rules.{certificateRight, follows as followsRow, numbered as numberedRows};
+ghost use Rattle.storage.specs.Values.{certificateValue};
+ghost use Rattle.storage.specs.Words.{wordAt, wordBytes, putBytes};
+ghost use Rattle.storage.specs.Writes.{certificateBytes, certificateInserted, certificateAdded};
+use crate::head::certificate_count;
+use crate::head::set_certificate_count;
+use crate::layout::CERTIFICATE_WIDTH;
+use crate::layout::CERTIFICATES_LENGTH;
+use crate::layout::CERTIFICATES_START;
+use crate::words::get8;
+use crate::words::get16;
+use crate::words::get32;
+use crate::words::move_up;
+use crate::words::put8;
+use crate::words::put16;
+use crate::words::put32;
+use units::INDEX_LIMIT;
+use units::LogIndex;
+use units::NODE_LIMIT;
+use units::NodeId;
+use units::Term;
+
+pub struct Certificate {
+    pub term: Term,
+    pub log: usize,
+    pub mark: LogIndex,
+    pub leader: NodeId,
+    // Its number within its term.
+    pub number: usize,
+    // 0 where it has no log, else 1.
+    pub present: usize,
+}
+
+pub fn certificate_at(certificates: &[u8], k: usize) -> Certificate
+    requires { ⌜ (k < 64) × (length (now certificates) ≡ 704) ⌝ }
+    ensures { λ r. ⌜ certificateValue r ≡ certificateRow (now (certificates .entry)) k ⌝ }
+{
+    let o = k * CERTIFICATE_WIDTH;
+    Certificate {
+        term: Term(get32(certificates, o)),
+        log: get16(certificates, o + 4),
+        mark: LogIndex(get16(certificates, o + 6)),
+        leader: NodeId(get8(certificates, o + 8) as u8),
+        number: get8(certificates, o + 9),
+        present: get8(certificates, o + 10),
+    }
+}
+
+fn put_log(t: &mut [u8], o: usize, c: Certificate)
+    requires { ⌜ o + 11 ≤ length (now t) ⌝ }
+    ensures { λ r. ⌜ now (t .exit) ≡ putBytes (now (t .entry)) o (wordBytes 4 (c .term .0) ++ wordBytes 2 (c .log) ++ wordBytes 2 (c .mark .0)) ⌝ }
+{
+    put32(&mut t[..], o, c.term.0);
+    put16(&mut t[..], o + 4, c.log);
+    put16(&mut t[..], o + 6, c.mark.0);
+}
+
+fn put_leader(t: &mut [u8], o: usize, c: Certificate)
+    requires { ⌜ o + 11 ≤ length (now t) ⌝ }
+    ensures { λ r. ⌜ now (t .exit) ≡ putBytes (now (t .entry)) (o + 8) (wordBytes 1 (c .leader .0) ++ wordBytes 1 (c .number) ++ wordBytes 1 (c .present)) ⌝ }
+{
+    put8(&mut t[..], o + 8, c.leader.0 as usize);
+    put8(&mut t[..], o + 9, c.number);
+    put8(&mut t[..], o + 10, c.present);
+}
+
+// A row written in the table.
+pub fn put_certificate(certificates: &mut [u8], k: usize, c: Certificate)
+    requires { ⌜ (k < 64) × (length (now certificates) ≡ 704) ⌝ }
+    ensures { λ r. ⌜ now (certificates .exit) ≡ putBytes (now (certificates .entry)) (k * 11) (certificateBytes (certificateValue c)) ⌝ }
+{
+    let o = k * CERTIFICATE_WIDTH;
+    put_log(&mut certificates[..], o, c);
+    put_leader(&mut certificates[..], o, c);
+}
+
+// The same in the whole history, of which only the table is lent.
+pub fn set_certificate(history: &mut [u8], k: usize, c: Certificate)
+    requires { ⌜ (k < 64) × (length (now history) ≡ 24137) ⌝ }
+    ensures { λ r. ⌜ now (history .exit) ≡ putBytes (now (history .entry)) (1417 + k * 11) (certificateBytes (certificateValue c)) ⌝ }
+{
+    let a = CERTIFICATES_START;
+    let e = a + CERTIFICATES_LENGTH;
+    put_certificate(&mut history[a..e], k, c);
+}
+
+// A row inserted at place k of a table of n: those from k on move up.
+pub fn insert_certificate(certificates: &mut [u8], n: usize, k: usize, c: Certificate)
+    requires { ⌜ (k ≤ n) × (n < 64) × (length (now certificates) ≡ 704) ⌝ }
+    ensures { λ r. ⌜ now (certificates .exit) ≡ certificateInserted (now (certificates .entry)) n k (certificateValue c) ⌝ }
+{
+    let o = k * CERTIFICATE_WIDTH;
+    move_up(
+        &mut certificates[..],
+        o,
+        (n - k) * CERTIFICATE_WIDTH,
+        CERTIFICATE_WIDTH,
+    );
+    put_certificate(&mut certificates[..], k, c);
+}
+
+// One more certificate in the whole history, at place k.
+pub fn add_certificate(history: &mut [u8], k: usize, c: Certificate)
+    requires { ⌜ (k ≤ wordAt (now history) 6 1) × (wordAt (now history) 6 1 < 64) × (length (now history) ≡ 24137) ⌝ }
+    ensures { λ r. ⌜ now (history .exit) ≡ certificateAdded (now (history .entry)) k (certificateValue c) ⌝ }
+{
+    let n = certificate_count(&history[..]);
+    let a = CERTIFICATES_START;
+    let e = a + CERTIFICATES_LENGTH;
+    insert_certificate(&mut history[a..e], n, k, c);
+    set_certificate_count(&mut history[..], n + 1);
+}
+
+// The storage rules of one row by itself, where n prefixes are stored.
+fn certificate_right(n: usize, c: Certificate) -> bool
+    ensures { λ r. ⌜ r ≡ certificateRight n (certificateValue c) ⌝ }
+{
+    if n < c.log {
+        return false;
+    }
+    if INDEX_LIMIT < c.mark.0 {
+        return false;
+    }
+    if NODE_LIMIT < c.leader.0 {
+        return false;
+    }
+    c.present <= 1
+}
+
+// The storage rules of every one of m rows by itself.
+pub fn certificates_right(certificates: &[u8], m: usize, n: usize) -> bool
+    requires { ⌜ (m ≤ 64) × (length (now certificates) ≡ 704) ⌝ }
+    ensures { λ r. ⌜ r ≡ every (certificateRight n) (certificateRows (now (certificates .entry)) m) ⌝ }
+{
+    let mut k = 0;
+    while k < m {
+        let c = certificate_at(certificates, k);
+        if !certificate_right(n, c) {
+            return false;
+        }
+        k += 1;
+    }
+    true
+}
+
+// One number more in the same term, or the first of a later one.
+fn follows(c: Certificate, d: Certificate) -> bool
+    ensures { λ r. ⌜ r ≡ followsRow (certificateValue c) (certificateValue d) ⌝ }
+{
+    if d.term.0 == c.term.0 {
+        if d.number == 0 {
+            return false;
+        }
+        return d.number - 1 == c.number;
+    }
+    if d.term.0 < c.term.0 {
+        return false;
+    }
+    d.number == 0
+}
+
+// The certificates of each term are numbered 0, 1, .. unbroken.
+pub fn numbered(certificates: &[u8], m: usize) -> bool
+    requires { ⌜ (m ≤ 64) × (length (now certificates) ≡ 704) ⌝ }
+    ensures { λ r. ⌜ r ≡ numberedRows (certificateRows (now (certificates .entry)) m) ⌝ }
+{
+    if m == 0 {
+        return true;
+    }
+    let mut c = certificate_at(certificates, 0);
+    if c.number != 0 {
+        return false;
+    }
+    let mut k = 1;
+    while k < m {
+        let d = certificate_at(certificates, k);
+        if !follows(c, d) {
+            return false;
+        }
+        c = d;
+        k += 1;
+    }
+    true
+}

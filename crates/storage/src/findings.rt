@@ -1,0 +1,120 @@
+// The table of findings, in the order found.
+ghost use mathlib.Core.Path.{_≡_};
+ghost use Prim.Native.Nat.{_+_, _*_, _≤_, _<_};
+ghost use mathlib.Core.List.{_++_};
+ghost use lib.ListN.{length};
+ghost use Rattle.storage.specs.Lists.{every};
+ghost use Rattle.storage.specs.Tables.{findingRow, findingRows};
+ghost use Rattle.storage.specs.Rules.{findingRight};
+ghost use Rattle.storage.specs.Values.{findingValue};
+ghost use Rattle.storage.specs.Words.{wordAt, wordBytes, putBytes};
+ghost use Rattle.storage.specs.Writes.{findingBytes, findingAppended};
+use crate::head::finding_count;
+use crate::head::set_finding_count;
+use crate::layout::FINDING_WIDTH;
+use crate::layout::FINDINGS_LENGTH;
+use crate::layout::FINDINGS_START;
+use crate::words::get8;
+use crate::words::get16;
+use crate::words::get32;
+use crate::words::put8;
+use crate::words::put16;
+use crate::words::put32;
+use units::INDEX_LIMIT;
+use units::LogIndex;
+use units::NODE_LIMIT;
+use units::NodeId;
+use units::Term;
+
+pub struct Found {
+    // 3, 4 or 5: LG-03, LG-04 or LG-05.
+    pub name: usize,
+    pub node: NodeId,
+    pub index: LogIndex,
+    pub term: Term,
+}
+
+pub fn finding_at(findings: &[u8], k: usize) -> Found
+    requires { ⌜ (k < 128) × (length (now findings) ≡ 1024) ⌝ }
+    ensures { λ r. ⌜ findingValue r ≡ findingRow (now (findings .entry)) k ⌝ }
+{
+    let o = k * FINDING_WIDTH;
+    Found {
+        name: get8(findings, o),
+        node: NodeId(get8(findings, o + 1) as u8),
+        index: LogIndex(get16(findings, o + 2)),
+        term: Term(get32(findings, o + 4)),
+    }
+}
+
+// Its name and node.
+fn put_name(t: &mut [u8], o: usize, f: Found)
+    requires { ⌜ o + 8 ≤ length (now t) ⌝ }
+    ensures { λ r. ⌜ now (t .exit) ≡ putBytes (now (t .entry)) o (wordBytes 1 (f .name) ++ wordBytes 1 (f .node .0)) ⌝ }
+{
+    put8(&mut t[..], o, f.name);
+    put8(&mut t[..], o + 1, f.node.0 as usize);
+}
+
+// A row written in the table.
+pub fn put_finding(findings: &mut [u8], k: usize, f: Found)
+    requires { ⌜ (k < 128) × (length (now findings) ≡ 1024) ⌝ }
+    ensures { λ r. ⌜ now (findings .exit) ≡ putBytes (now (findings .entry)) (k * 8) (findingBytes (findingValue f)) ⌝ }
+{
+    let o = k * FINDING_WIDTH;
+    put_name(&mut findings[..], o, f);
+    put16(&mut findings[..], o + 2, f.index.0);
+    put32(&mut findings[..], o + 4, f.term.0);
+}
+
+// The same in the whole history, of which only the table is lent.
+pub fn set_finding(history: &mut [u8], k: usize, f: Found)
+    requires { ⌜ (k < 128) × (length (now history) ≡ 24137) ⌝ }
+    ensures { λ r. ⌜ now (history .exit) ≡ putBytes (now (history .entry)) (2121 + k * 8) (findingBytes (findingValue f)) ⌝ }
+{
+    let a = FINDINGS_START;
+    let e = a + FINDINGS_LENGTH;
+    put_finding(&mut history[a..e], k, f);
+}
+
+// One more finding.
+pub fn append_finding(history: &mut [u8], f: Found)
+    requires { ⌜ (wordAt (now history) 7 1 < 128) × (length (now history) ≡ 24137) ⌝ }
+    ensures { λ r. ⌜ now (history .exit) ≡ findingAppended (now (history .entry)) (findingValue f) ⌝ }
+{
+    let n = finding_count(&history[..]);
+    set_finding(&mut history[..], n, f);
+    set_finding_count(&mut history[..], n + 1);
+}
+
+// The storage rules of one row.
+fn finding_right(f: Found) -> bool
+    ensures { λ r. ⌜ r ≡ findingRight (findingValue f) ⌝ }
+{
+    if f.name < 3 {
+        return false;
+    }
+    if 5 < f.name {
+        return false;
+    }
+    if NODE_LIMIT < f.node.0 {
+        return false;
+    }
+    f.index.0 <= INDEX_LIMIT
+}
+
+// The storage rules of every one of m rows.
+pub fn findings_right(findings: &[u8], m: usize) -> bool
+    requires { ⌜ (m ≤ 128) × (length (now findings) ≡ 1024) ⌝ }
+    ensures { λ r. ⌜ r ≡ every findingRight (findingRows (now (findings .entry)) m) ⌝ }
+{
+    let mut k = 0;
+    while k < m {
+        let f = finding_at(findings, k);
+        if !finding_right(f) {
+            return false;
+        }
+        k += 1;
+    }
+    true
+}
