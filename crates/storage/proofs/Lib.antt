@@ -11,3 +11,4 @@ pub mod DecodeLaws
 pub mod Meanings
 pub mod PrefixLaws
 pub mod OrderLaws
+pub mod Resolve
