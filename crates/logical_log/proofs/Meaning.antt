@@ -1,0 +1,345 @@
+-- What observing a view means: on bytes that stand for a history the answer is the model's, accepted bytes stand for the model's
+-- effect, and refused ones are as they were.
+-- Assumes nothing.
+use Prim.Native.Nat.{ℕ, zero, suc, _+_, _-_, _*_, _<_, _≤_}
+use native.Mathlib.Nat.{le-refl}
+use native.Mathlib.Omega.{arith}
+use mathlib.Core.Path.{_≡_, refl, sym, _∙_, ap, subst}
+use mathlib.Core.Bool.{Bool, true, false, cond, _&&_}
+use mathlib.Core.Logic.{_⊎_, inl, inr, ⊎-elim}
+use mathlib.Core.List.{List, [], _∷_, _++_, List·Memᴰ, List·Memᴰ·head, List·Memᴰ·tail, List·Memᴰ·not-nil, List·Memᴰ·cases-cons, List·Memᴰ·append-cases, List·Memᴰ·eq-of-singleton}
+use mathlib.Core.Option.{Option, none, some}
+use lib.Dec.{ltb, eqb}
+use lib.ListN.{length, getD, set}
+use lib.Seq.{set-getD}
+use borrow.Author.Tests.{lt-ltb, le-ltb, ltb-true, ltb-false}
+use Rattle.model.specs.Sizes.{Bytes}
+use Rattle.model.specs.Entry.{Entry, Prefix, prefixes, withAll}
+use Rattle.model.specs.Refusal.{Refusal, prefixesFull, findingsFull}
+use Rattle.model.specs.Record.{Shown, front, lastFrom, lastIndex}
+use Rattle.model.specs.History.{Finding, History, sameFinding, noted}
+use Rattle.model.specs.View.{begunBy, mismatches, stored, viewFindings, viewRefusal, viewEffect}
+use Rattle.model.proofs.Tests.{tf, either, cond-cases, cond-true, cond-false, and-left, and-right, and-both}
+use Rattle.model.proofs.Members.{all-cases}
+use Rattle.records.specs.Places.{Walk, firstEntry, indexAt, nextAt, shownAt, entriesAt}
+use Rattle.records.proofs.Walks.{entries-none, entries-next, next-walk, walk-entered}
+use Rattle.storage.specs.Lists.{every}
+use Rattle.storage.specs.Words.{wordAt, putBytes, wordBytes}
+use Rattle.storage.specs.Tables.{PrefixRow, NodeRow, prefixRow, prefixesPart, headPart, nodeRow, nodesPart, findingRow, findingRows, findingsPart, tablesIn, tablesOf}
+use Rattle.storage.specs.Writes.{nodeBytes, FindingFits}
+use Rattle.storage.specs.Decode.{prefixAt, resolve}
+use Rattle.storage.specs.Rules.{nodeRight, findingRight}
+use Rattle.storage.proofs.ListLaws.{tabulate-length, tabulate-at, every-at}
+use Rattle.storage.proofs.PartLaws.{word-part}
+use Rattle.storage.proofs.DecodeLaws.{NodeNamed, node-named, FindingNamed, finding-test}
+use Rattle.storage.proofs.Resolve.{resolve-length}
+use Rattle.storage.proofs.Meanings.{Stands, withPrefixes, withFront, withNoted, prefixes-is, rows-count, kept, is, unseen-read, node-written, findings-taken}
+use Rattle.logical_log.specs.Observation.{nextNumber, counted, missingFrom, noteOf, notesFrom, other, writtenBytes, writtenCount, writtenNumber, viewReplaced, findingsKept, viewWritten, missingIn, notesIn, heldIn, tableIn, observed, observedBytes}
+use Rattle.logical_log.specs.Violation.{heldAll, bytesAll}
+use Rattle.logical_log.specs.declared.observation.Observed.{Observed}
+use Rattle.logical_log.proofs.Extend.{Fits, extendAll, extends-all}
+use Rattle.logical_log.proofs.Judge.{missing-made, notes-are}
+use Rattle.logical_log.proofs.ViolationLaws.{Holds, all-hold, all-length}
+use Rattle.logical_log.proofs.Whole.{whole-few, findings-long, written-count, table-length}
+use Rattle.logical_log.proofs.Stored.{Sound, front-sound, rows-good, rows-by-place, Whole, front-stands}
+
+-- ---- statement
+
+-- the answer in the model's words
+abbrev pub refusalIs : Observed → Option Refusal
+refusalIs Observed.Accepted = none
+refusalIs Observed.PrefixesFull = some prefixesFull
+refusalIs Observed.FindingsFull = some findingsFull
+
+-- The answer to a view is the model's; an accepted one leaves bytes that stand for the model's effect, a refused one every byte.
+pub record ViewMeans (limit : ℕ) (h : Bytes) (x : History) (s : Bytes) (m node : ℕ) : Type 0 where
+  pub answers : refusalIs (observed limit h s m node) ≡ viewRefusal limit x node (entriesAt s firstEntry m)
+  pub accepted : viewRefusal limit x node (entriesAt s firstEntry m) ≡ none
+      → Stands (observedBytes limit h s m node) (viewEffect x node (entriesAt s firstEntry m))
+  pub refused : (r : Refusal) → viewRefusal limit x node (entriesAt s firstEntry m) ≡ some r → observedBytes limit h s m node ≡ h
+
+-- For every well-formed history and every readable view.
+abbrev pub ViewsMean : Type 0
+ViewsMean =
+    (limit : ℕ) (h : Bytes) (x : History) (s : Bytes) (m node : ℕ)
+    → Stands h x → Walk s firstEntry m → node < 64 → limit ≤ 512 → ViewMeans limit h x s m node
+
+-- ---- lists
+
+every-all : {A : Type 0} (test : A → Bool) (xs : List A) → ((a : A) → List·Memᴰ a xs → test a ≡ true) → every test xs ≡ true
+unfolding every
+every-all test [] f = refl
+every-all test (a ∷ xs) f = and-both (test a) (every test xs) (f a (List·Memᴰ·head refl)) (every-all test xs (λ b m. f b (List·Memᴰ·tail m)))
+
+every-one : {A : Type 0} (test : A → Bool) (xs : List A) → every test xs ≡ true → (a : A) → List·Memᴰ a xs → test a ≡ true
+unfolding every
+every-one test [] e a m = absurd (List·Memᴰ·not-nil m)
+every-one test (b ∷ xs) e a m =
+    ⊎-elim (λ q. ap test q ∙ and-left (test b) (every test xs) e) (λ k. every-one test xs (and-right (test b) (every test xs) e) a k)
+    (List·Memᴰ·cases-cons m)
+
+sound-fits : (es : List Entry) (i : ℕ) → Sound i es → Fits i es
+sound-fits [] i s = tt
+sound-fits (e ∷ es) i s = (s .0, s .1, sound-fits es (i + 1) (s .3))
+
+sound-short : (es : List Entry) (i : ℕ) → Sound i es → (e : Entry) → List·Memᴰ e es → length (e .content) ≤ 32
+sound-short [] i s e m = absurd (List·Memᴰ·not-nil m)
+sound-short (x ∷ es) i s e m =
+    ⊎-elim (λ q. subst (λ (y : Entry). length (y .content) ≤ 32) (sym q) (s .1)) (λ k. sound-short es (i + 1) (s .3) e k) (List·Memᴰ·cases-cons m)
+
+-- ---- a view's LG-03 are within the limits
+
+pub record Noted (node : ℕ) (f : Finding) : Type 0 where
+  pub name : f .name ≡ 3
+  pub isNode : f .node ≡ node
+  pub index : f .index ≤ 256
+  pub term : f .term < 4294967296
+
+notes-noted : (row : ℕ → PrefixRow) (n node : ℕ) (es : List Entry) (k p i : ℕ) → Sound i es
+    → (f : Finding) → List·Memᴰ f (notesFrom row n node k p i es) → Noted node f
+unfolding notesFrom
+notes-noted row n node [] k p i s f m = absurd (List·Memᴰ·not-nil m)
+notes-noted row n node (e ∷ es) k p i s f m =
+    let q = nextNumber row n k p e in
+    ⊎-elim (λ a. one (other row n i (e .term) q) a) (λ b. notes-noted row n node es (counted k q) q (i + 1) (s .3) f b)
+    (List·Memᴰ·append-cases (noteOf (other row n i (e .term) q) node i (e .term)) m)
+  where
+    one : (b : Bool) → List·Memᴰ f (noteOf b node i (e .term)) → Noted node f
+    one false a = absurd (List·Memᴰ·not-nil a)
+    one true a =
+        let x = List·Memᴰ·eq-of-singleton a in
+        record {
+          name = ap (λ (y : Finding). y .name) x;
+          isNode = ap (λ (y : Finding). y .node) x;
+          index = subst (λ (y : Finding). y .index ≤ 256) (sym x) (s .0);
+          term = subst (λ (y : Finding). y .term < 4294967296) (sym x) (s .2);
+        }
+
+-- ---- a view's last index and a node's mark are within the limits
+
+last-small : (n : ℕ) (s : Bytes) (k d : ℕ) → Walk s k n → d ≤ 256 → lastFrom d (entriesAt s k n) ≤ 256
+unfolding lastFrom
+last-small zero s k d w h = subst (λ (es : List Shown). lastFrom d es ≤ 256) (sym (entries-none s k zero (le-refl 0))) h
+last-small (suc n) s k d w h =
+    let one : suc n - 1 ≡ n = omega arith in
+    subst (λ (es : List Shown). lastFrom d es ≤ 256)
+    (sym (entries-next s k (suc n) (omega arith) ∙ ap (λ (j : ℕ). shownAt s k ∷ entriesAt s (nextAt s k) j) one))
+    (last-small n s (nextAt s k) (indexAt s k) (subst (Walk s (nextAt s k)) one (next-walk s k (suc n) w (omega arith)))
+    (walk-entered s k (suc n) w (omega arith) .within))
+
+unseen-small : (h : Bytes) (x : History) → Stands h x → (k : ℕ) → k < 64 → nodeRow (nodesPart h) k .unseen ≤ 256
+unfolding tablesIn
+unseen-small h x st k l =
+    let row = nodeRow (nodesPart h) k in
+    let there : getD (tablesOf h .nodes) k row ≡ row = tabulate-at (nodeRow (nodesPart h)) 0 64 k row l ∙ ap (nodeRow (nodesPart h)) (let z : 0 + k ≡ k = omega arith in z) in
+    node-named _ row (subst (λ (r : NodeRow). nodeRight (length (tablesOf h .rows)) r ≡ true) there
+    (every-at (nodeRight (length (tablesOf h .rows))) (tablesOf h .nodes) k row (kept h x st .nodes) (subst (λ (j : ℕ). k < j) (sym (tabulate-length (nodeRow (nodesPart h)) 0 64)) l))) .unseen
+
+module _ (limit : ℕ) (h : Bytes) (x : History) (s : Bytes) (m node : ℕ) (st : Stands h x) (w : Walk s firstEntry m) (hn : node < 64) (hl : limit ≤ 512) where
+  abbrev E : List Shown
+  E = entriesAt s firstEntry m
+
+  abbrev F : Prefix
+  F = front E
+
+  sound : Sound 1 F
+  sound = front-sound m s firstEntry 1 w
+
+  count : length (tablesOf h .rows) ≡ wordAt h 0 2
+  count = rows-count h x st
+
+  same-prefixes : resolve (tablesOf h .rows) ≡ x .prefixes
+  same-prefixes = prefixes-is h x st
+
+  -- ---- 6
+
+  total : wordAt h 0 2 + missingIn h s m ≡ length (stored (x .prefixes) F)
+  unfolding missingIn stored
+  total =
+      let rs = tablesOf h .rows in
+      let a = extends-all F rs (rows-good h x st) 0 1 (omega arith) refl (sound-fits F 1 sound) in
+      (λ j. sym count j + missingFrom (prefixRow (prefixesPart h)) (sym count j) 0 0 1 F)
+      ∙ missing-made (prefixRow (prefixesPart h)) rs (rows-by-place h x st) F 0 1
+      ∙ sym (resolve-length [] (extendAll rs 0 1 F) ∙ (let z : 0 + length (extendAll rs 0 1 F) ≡ length (extendAll rs 0 1 F) = omega arith in z))
+      ∙ ap length (a .stores)
+      ∙ ap (λ (ps : List Prefix). length (withAll prefixes ps (begunBy F))) same-prefixes
+
+  -- ---- LG-03 and 7
+
+  notes : notesIn h s m node ≡ mismatches (x .prefixes) node (begunBy F)
+  unfolding notesIn
+  notes =
+      let rs = tablesOf h .rows in
+      ap (λ (n : ℕ). notesFrom (prefixRow (prefixesPart h)) n node 0 0 1 F) (sym count)
+      ∙ notes-are (prefixRow (prefixesPart h)) rs (rows-good h x st .known) (rows-by-place h x st) node F [] 0 0 1 refl (inl (refl, omega arith, refl)) (sound-short F 1 sound)
+      ∙ ap (λ (ps : List Prefix). mismatches ps node (begunBy F)) same-prefixes
+
+  noted-in : (f : Finding) → List·Memᴰ f (notesIn h s m node) → Noted node f
+  unfolding notesIn
+  noted-in = notes-noted (prefixRow (prefixesPart h)) (wordAt h 0 2) node F 0 0 1 sound
+
+  held-before : findingRows (findingsPart h) (wordAt h 7 1) ≡ x .findings
+  unfolding tablesIn
+  held-before = ap (findingRows (findingsPart h)) (sym (word-part h 0 9 7 1 (omega arith))) ∙ ap (λ (y : History). y .findings) (is h x st)
+
+  holds : Holds (tableIn h s m node) (heldIn h s m node) (viewFindings x node F)
+  unfolding tableIn heldIn viewFindings
+  holds =
+      subst (λ (gs : List Finding). Holds (bytesAll (findingsPart h) (wordAt h 7 1) (notesIn h s m node)) (heldAll (findingsPart h) (wordAt h 7 1) (notesIn h s m node)) (noted (x .findings) gs)) notes
+      (all-hold (notesIn h s m node) (findingsPart h) (wordAt h 7 1) (x .findings) (findings-long h (st .right))
+      (λ g k. let n = noted-in g k in
+      record { name = (let a = n .name in omega arith); node = (let a = n .isNode in omega arith); index = (let a = n .index in omega arith); term = n .term })
+      (inl (whole-few h (st .right), held-before)))
+
+  same-seven : ltb 128 (heldIn h s m node) ≡ ltb 128 (length (viewFindings x node F))
+  same-seven =
+      ⊎-elim
+      (λ a.
+      let l : length (viewFindings x node F) ≡ heldIn h s m node = sym (ap length (a .1)) ∙ tabulate-length (findingRow (tableIn h s m node)) 0 (heldIn h s m node) in
+      ap (ltb 128) (sym l))
+      (λ b. lt-ltb 128 (heldIn h s m node) (let c = b .0 in omega arith) ∙ sym (lt-ltb 128 (length (viewFindings x node F)) (b .1)))
+      holds
+
+  -- ---- the answer
+
+  answer-is : refusalIs (observed limit h s m node) ≡ viewRefusal limit x node E
+  unfolding observed viewRefusal
+  answer-is =
+      ap refusalIs (λ j. cond (ltb limit (total j)) Observed.PrefixesFull (cond (same-seven j) Observed.FindingsFull Observed.Accepted))
+      ∙ three (ltb limit (length (stored (x .prefixes) F))) (ltb 128 (length (viewFindings x node F)))
+    where
+      three : (a b : Bool) → refusalIs (cond a Observed.PrefixesFull (cond b Observed.FindingsFull Observed.Accepted)) ≡ cond a (some prefixesFull) (cond b (some findingsFull) none)
+      three true b = refl
+      three false true = refl
+      three false false = refl
+
+  -- ---- the bytes
+
+  -- either refused with every byte as it was, or accepted and written
+  refused-bytes : (r : Refusal) → viewRefusal limit x node E ≡ some r → observedBytes limit h s m node ≡ h
+  unfolding viewRefusal observedBytes
+  refused-bytes r e =
+      (λ j. cond (ltb limit (total j)) h (cond (same-seven j) h (viewWritten h (wordAt h 0 2) s m node (tableIn h s m node) (heldIn h s m node))))
+      ∙ go (ltb limit (length (stored (x .prefixes) F))) (ltb 128 (length (viewFindings x node F))) e
+    where
+      go : (a b : Bool) → cond a (some prefixesFull) (cond b (some findingsFull) none) ≡ some r
+          → cond a h (cond b h (viewWritten h (wordAt h 0 2) s m node (tableIn h s m node) (heldIn h s m node))) ≡ h
+      go true b q = refl
+      go false true q = refl
+      go false false q = absurd (let z : _≡_ {A = ℕ} 0 1 = cc in omega arith)
+
+  pub record Fine : Type 0 where
+    pub few : length (stored (x .prefixes) F) ≤ limit
+    pub fewFindings : length (viewFindings x node F) ≤ 128
+    pub bytes : observedBytes limit h s m node ≡ viewWritten h (wordAt h 0 2) s m node (tableIn h s m node) (heldIn h s m node)
+
+  fine : viewRefusal limit x node E ≡ none → Fine
+  unfolding viewRefusal observedBytes
+  fine e = go (ltb limit (length (stored (x .prefixes) F))) (ltb 128 (length (viewFindings x node F))) refl refl e
+    where
+      go : (a b : Bool) → ltb limit (length (stored (x .prefixes) F)) ≡ a → ltb 128 (length (viewFindings x node F)) ≡ b
+          → cond a (some prefixesFull) (cond b (some findingsFull) none) ≡ none → Fine
+      go true b p q r = absurd (let z : _≡_ {A = ℕ} 0 1 = cc in omega arith)
+      go false true p q r = absurd (let z : _≡_ {A = ℕ} 0 1 = cc in omega arith)
+      go false false p q r =
+          record {
+            few = ltb-false limit (length (stored (x .prefixes) F)) p;
+            fewFindings = ltb-false 128 (length (viewFindings x node F)) q;
+            bytes = (λ j. cond ((ap (ltb limit) total ∙ p) j) h (cond ((same-seven ∙ q) j) h (viewWritten h (wordAt h 0 2) s m node (tableIn h s m node) (heldIn h s m node))));
+          }
+
+  module _ (ok : Fine) where
+    held-few : (heldIn h s m node ≤ 128) × (findingRows (tableIn h s m node) (heldIn h s m node) ≡ viewFindings x node F)
+    held-few = ⊎-elim (λ a. a) (λ b. absurd (let c = b .1 in let d = ok .fewFindings in omega arith)) holds
+
+    all-right : every findingRight (findingRows (tableIn h s m node) (heldIn h s m node)) ≡ true
+    unfolding viewFindings noted
+    all-right =
+        subst (λ (fs : List Finding). every findingRight fs ≡ true) (sym (held-few .1))
+        (every-all findingRight (viewFindings x node F)
+        (λ f k. ⊎-elim (λ a. old f a) (λ b. new f (subst (List·Memᴰ f) (sym notes) b))
+        (all-cases sameFinding (x .findings) (mismatches (x .prefixes) node (begunBy F)) f k)))
+      where
+        old : (f : Finding) → List·Memᴰ f (x .findings) → findingRight f ≡ true
+        old f a = every-one findingRight (tablesOf h .findings) (kept h x st .findings) f (subst (List·Memᴰ f) (sym (ap (λ (y : History). y .findings) (is h x st))) a)
+
+        new : (f : Finding) → List·Memᴰ f (notesIn h s m node) → findingRight f ≡ true
+        new f b =
+            let n = noted-in f b in
+            finding-test f (record {
+              low = (let a = n .name in omega arith);
+              high = (let a = n .name in omega arith);
+              node = (let a = n .isNode in omega arith);
+              index = n .index;
+            })
+
+    room : writtenCount h (wordAt h 0 2) 0 1 F ≤ 512
+    unfolding missingIn
+    room = (let a = written-count F h (wordAt h 0 2) 0 1 in let b = total in let c = ok .few in omega arith)
+
+    abbrev h₁ : Bytes
+    h₁ = writtenBytes h (wordAt h 0 2) 0 1 F
+
+    abbrev p₁ : ℕ
+    p₁ = writtenNumber h (wordAt h 0 2) 0 1 F
+
+    whole : Whole h x 0 F h₁ (writtenCount h (wordAt h 0 2) 0 1 F) p₁
+    whole = front-stands F h x st (wordAt h 0 2) 0 1 refl (omega arith) refl sound room
+
+    abbrev x₁ : History
+    x₁ = withPrefixes x (withAll prefixes (x .prefixes) (begunBy F))
+
+    abbrev row : NodeRow
+    row = record { front = p₁; last = lastIndex E; unseen = nodeRow (nodesPart h₁) node .unseen }
+
+    unseen-same : nodeRow (nodesPart h₁) node .unseen ≡ getD (x .unseen) node 0
+    unseen-same = sym (unseen-read h₁ node hn) ∙ ap (λ (y : History). getD (y .unseen) node 0) (whole .stands .decodes)
+
+    named : NodeNamed (wordAt h₁ 0 2) row
+    named =
+        record {
+          front = subst (λ (n : ℕ). p₁ ≤ n) (whole .holds) (whole .within);
+          last = last-small m s firstEntry 0 w (omega arith);
+          unseen = unseen-small h₁ x₁ (whole .stands) node hn;
+        }
+
+    second : Stands (viewReplaced h₁ node p₁ (lastIndex E)) (withFront x₁ node (prefixAt (x₁ .prefixes) p₁) (lastIndex E) (nodeRow (nodesPart h₁) node .unseen))
+    unfolding viewReplaced
+    second = node-written h₁ x₁ (whole .stands) node row hn named
+
+    third : Stands (viewWritten h (wordAt h 0 2) s m node (tableIn h s m node) (heldIn h s m node))
+        (withNoted (withFront x₁ node (prefixAt (x₁ .prefixes) p₁) (lastIndex E) (nodeRow (nodesPart h₁) node .unseen)) (findingRows (tableIn h s m node) (heldIn h s m node)))
+    unfolding viewWritten findingsKept
+    third =
+        findings-taken (viewReplaced h₁ node p₁ (lastIndex E)) _ second (tableIn h s m node) (heldIn h s m node)
+        (table-length h s m node (st .right)) (held-few .0) all-right
+
+    same-history : withNoted (withFront x₁ node (prefixAt (x₁ .prefixes) p₁) (lastIndex E) (nodeRow (nodesPart h₁) node .unseen)) (findingRows (tableIn h s m node) (heldIn h s m node))
+        ≡ viewEffect x node E
+    unfolding viewEffect stored
+    same-history =
+        let fr = whole .is in
+        let un = ap (set (x .unseen) node) unseen-same ∙ set-getD (x .unseen) node 0 in
+        let fi = held-few .1 in
+        λ j. record {
+          prefixes = withAll prefixes (x .prefixes) (begunBy F);
+          fronts = set (x .fronts) node (fr j);
+          lasts = set (x .lasts) node (lastIndex E);
+          unseen = un j;
+          committed = x .committed;
+          owner = x .owner;
+          terms = x .terms;
+          certificates = x .certificates;
+          findings = fi j;
+        }
+
+    accepted-bytes : Stands (observedBytes limit h s m node) (viewEffect x node E)
+    accepted-bytes = subst (λ (u : Bytes). Stands u (viewEffect x node E)) (sym (ok .bytes)) (subst (Stands _) same-history third)
+
+pub views-mean : ViewsMean
+views-mean limit h x s m node st w hn hl =
+    record {
+      answers = answer-is limit h x s m node st w hn hl;
+      accepted = λ e. accepted-bytes limit h x s m node st w hn hl (fine limit h x s m node st w hn hl e);
+      refused = refused-bytes limit h x s m node st w hn hl;
+    }

@@ -1,0 +1,224 @@
+-- A view as a whole: what well-formed storage gives its judging, and how its parts come together.
+-- Assumes nothing.
+use Prim.Native.Nat.{ℕ, zero, suc, _+_, _-_, _*_, _<_, _≤_}
+use native.Mathlib.Omega.{arith}
+use mathlib.Core.Path.{_≡_, refl, sym, _∙_, ap, subst, subst₂}
+use mathlib.Core.Bool.{Bool, true, false, cond}
+use mathlib.Core.List.{List, [], _∷_, _++_}
+use lib.Dec.{ltb, eqb}
+use lib.ListN.{length}
+use borrow.Author.Tests.{lt-ltb, le-ltb, eq-eqb, ne-eqb}
+use Rattle.model.specs.Sizes.{Bytes}
+use Rattle.model.specs.Entry.{Entry}
+use Rattle.model.specs.Record.{front, lastIndex}
+use Rattle.model.proofs.Tests.{cond-true, cond-false}
+use Rattle.records.specs.Places.{Walk, firstEntry, entriesAt}
+use Rattle.storage.specs.Words.{wordAt, putBytes, wordBytes}
+use Rattle.storage.specs.Tables.{prefixRow, prefixRows, prefixesPart, headPart, findingRow, findingsPart, tablesIn, tablesOf}
+use Rattle.storage.specs.Rules.{prefixesRightAfter, wellFormed}
+use Rattle.storage.proofs.ListLaws.{tabulate-length}
+use Rattle.storage.proofs.WordLaws.{put-length}
+use Rattle.storage.proofs.PartLaws.{word-part, part-length, put-whole}
+use Rattle.storage.proofs.RuleLaws.{within}
+use Rattle.storage.proofs.DecodeLaws.{Kept, well-formed-parts}
+use Rattle.logical_log.specs.Table.{Table}
+use Rattle.logical_log.specs.Prefix.{rowOf, searchFrom, find}
+use Rattle.logical_log.specs.Violation.{heldAll, bytesAll}
+use Rattle.logical_log.specs.Observation.{nextNumber, counted, missingFrom, notesFrom, JudgedAs, orNext, extensionIn, appended, extendedBytes, extendedCount, extendedNumber, writtenBytes, writtenCount, writtenNumber, Storing, StoredAs, viewReplaced, findingsKept, viewWritten, missingIn, notesIn, heldIn, tableIn, observed, observedBytes, Observing, ViewJudged}
+use Rattle.logical_log.proofs.Judge.{lost}
+use Rattle.logical_log.proofs.Written.{number-found, number-made, count-found, count-made, bytes-found, bytes-made, bytes-length-one}
+use Rattle.logical_log.proofs.ViolationLaws.{all-length}
+use Rattle.logical_log.specs.declared.observation.Observed.{Observed}
+
+-- ---- what well-formed storage gives
+
+module _ (h : Bytes) (right : wellFormed h ≡ true) where
+  pub whole-long : length h ≡ 24137
+  whole-long = well-formed-parts h right .0
+
+  -- the table of prefixes
+  pub whole-table : Table (prefixesPart h) (wordAt h 0 2)
+  unfolding tablesIn
+  whole-table =
+      let k = well-formed-parts h right .1 in
+      let n = word-part h 0 9 0 2 (omega arith) in
+      let l = within _ _ _ _ (k .limits) .prefixes in
+      let c = tabulate-length (prefixRow (prefixesPart h)) 0 (wordAt (headPart h) 0 2) in
+      record {
+        long = part-length h 3145 20992 (let w = whole-long in omega arith);
+        fits = omega arith;
+        right = subst (λ (m : ℕ). prefixesRightAfter [] (prefixRows (prefixesPart h) m) ≡ true) n (k .rows);
+      }
+
+  pub whole-few : wordAt h 7 1 ≤ 128
+  unfolding tablesIn
+  whole-few =
+      let k = well-formed-parts h right .1 in
+      let n = word-part h 0 9 7 1 (omega arith) in
+      let l = within _ _ _ _ (k .limits) .findings in
+      let c = tabulate-length (findingRow (findingsPart h)) 0 (wordAt (headPart h) 7 1) in
+      omega arith
+
+  pub findings-long : length (findingsPart h) ≡ 1024
+  findings-long = part-length h 2121 1024 (let w = whole-long in omega arith)
+
+-- ---- judging
+
+-- a copy of the findings is the findings
+pub copied : (h t₀ t₁ : Bytes) → wellFormed h ≡ true → length t₀ ≡ 1024 → (q : Bytes) → q ≡ findingsPart h → t₁ ≡ putBytes t₀ 0 q → t₁ ≡ findingsPart h
+copied h t₀ t₁ right l q eq e = e ∙ ap (putBytes t₀ 0) eq ∙ put-whole t₀ (findingsPart h) (findings-long h right ∙ sym l)
+
+pub view-judged : (h s : Bytes) (m node : ℕ) (q t₁ : Bytes) (count held missing held′ : ℕ) (t′ : Bytes)
+    → count ≡ wordAt h 0 2 → held ≡ wordAt h 7 1 → q ≡ prefixesPart h → t₁ ≡ findingsPart h
+    → JudgedAs q count s m node t₁ held missing held′ t′ → ViewJudged h s m node missing held′ t′
+unfolding missingIn heldIn tableIn notesIn
+view-judged h s m node q t₁ count held missing held′ t′ ec eh eq et j =
+    let F = front (entriesAt s firstEntry m) in
+    record {
+      lack = j .lack ∙ (λ i. missingFrom (prefixRow (eq i)) (ec i) 0 0 1 F);
+      most = j .most;
+      holds = j .holds ∙ (λ i. heldAll (et i) (eh i) (notesFrom (prefixRow (eq i)) (ec i) node 0 0 1 F));
+      few = j .few;
+      table = j .table ∙ (λ i. bytesAll (et i) (eh i) (notesFrom (prefixRow (eq i)) (ec i) node 0 0 1 F));
+    }
+
+-- ---- room: as many are made as are missing
+
+-- after one that was made each is made
+all-made : (es : List Entry) (h : Bytes) (n i : ℕ) → writtenCount h n n i es ≡ n + length es
+unfolding writtenCount extendedCount extendedNumber extensionIn find
+all-made [] h n i = omega arith
+all-made (e ∷ es) h n i =
+    let zero-found : extensionIn h n n e ≡ 0 =
+    ap (searchFrom _ n) (let z : n - n ≡ 0 = omega arith in z) ∙ (unfold searchFrom in refl) in
+    let t : eqb (extensionIn h n n e) 0 ≡ true = eq-eqb _ 0 zero-found in
+    (λ j. writtenCount (extendedBytes h n n i e) (count-made h n n e t j) (number-made h n n e t j) (i + 1) es)
+    ∙ all-made es (extendedBytes h n n i e) (n + 1) (i + 1)
+    ∙ (let z : n + 1 + length es ≡ n + suc (length es) = omega arith in z)
+
+cons-count : (h : Bytes) (n p i : ℕ) (e : Entry) (es : List Entry)
+    → writtenCount h n p i (e ∷ es) ≡ writtenCount (extendedBytes h n p i e) (extendedCount h n p e) (extendedNumber h n p e) (i + 1) es
+unfolding writtenCount
+cons-count h n p i e es = refl
+
+cons-missing : (h : Bytes) (n p i : ℕ) (e : Entry) (es : List Entry)
+    → n + missingFrom (prefixRow (prefixesPart h)) n 0 p i (e ∷ es)
+    ≡ n + missingFrom (prefixRow (prefixesPart h)) n (counted 0 (extensionIn h n p e)) (extensionIn h n p e) (i + 1) es
+unfolding missingFrom nextNumber extensionIn
+cons-missing h n p i e es = refl
+
+missing-is : (h s : Bytes) (m : ℕ)
+    → wordAt h 0 2 + missingIn h s m ≡ wordAt h 0 2 + missingFrom (prefixRow (prefixesPart h)) (wordAt h 0 2) 0 0 1 (front (entriesAt s firstEntry m))
+unfolding missingIn
+missing-is h s m = refl
+
+pub written-count : (es : List Entry) (h : Bytes) (n p i : ℕ) → writtenCount h n p i es ≡ n + missingFrom (prefixRow (prefixesPart h)) n 0 p i es
+written-count [] h n p i = (unfold writtenCount missingFrom in omega arith)
+written-count (e ∷ es) h n p i =
+    cons-count h n p i e es
+    ∙ by-extension (extensionIn h n p e) refl (written-count es h n)
+    ∙ sym (cons-missing h n p i e es)
+  where
+    by-extension : (x : ℕ) → extensionIn h n p e ≡ x
+        → ((q j : ℕ) → writtenCount h n q j es ≡ n + missingFrom (prefixRow (prefixesPart h)) n 0 q j es)
+        → writtenCount (extendedBytes h n p i e) (extendedCount h n p e) (extendedNumber h n p e) (i + 1) es
+        ≡ n + missingFrom (prefixRow (prefixesPart h)) n (counted 0 (extensionIn h n p e)) (extensionIn h n p e) (i + 1) es
+    by-extension zero z ih =
+        let t : eqb (extensionIn h n p e) 0 ≡ true = eq-eqb (extensionIn h n p e) 0 z in
+        (λ j. writtenCount (extendedBytes h n p i e) (count-made h n p e t j) (number-made h n p e t j) (i + 1) es)
+        ∙ all-made es (extendedBytes h n p i e) (n + 1) (i + 1)
+        ∙ (let y : n + 1 + length es ≡ n + (1 + length es) = omega arith in y)
+        ∙ ap (λ (k : ℕ). n + k) (sym (lost (prefixRow (prefixesPart h)) n es 1 0 (i + 1) (omega arith)))
+        ∙ sym (ap (λ (x : ℕ). n + missingFrom (prefixRow (prefixesPart h)) n (counted 0 x) x (i + 1) es) z)
+    by-extension (suc y) z ih =
+        let f : eqb (extensionIn h n p e) 0 ≡ false = ne-eqb (extensionIn h n p e) 0 (λ w. let v = z in omega arith) in
+        let c : counted 0 (extensionIn h n p e) ≡ 0 = ap (λ (k : ℕ). 0 + k) (cond-false (eqb (extensionIn h n p e) 0) 1 0 f) in
+        (λ j. writtenCount (bytes-found h n p i e f j) (count-found h n p e f j) (number-found h n p e f j) (i + 1) es)
+        ∙ ih (extensionIn h n p e) (i + 1)
+        ∙ sym (ap (λ (k : ℕ). n + missingFrom (prefixRow (prefixesPart h)) n k (extensionIn h n p e) (i + 1) es) c)
+
+-- ---- written
+
+pub view-written : (h : Bytes) (n : ℕ) (s : Bytes) (m node number last : ℕ) (t : Bytes) (held : ℕ) (h₁ h₂ h₃ : Bytes)
+    → StoredAs h n s m number h₁ → last ≡ lastIndex (entriesAt s firstEntry m) → h₂ ≡ viewReplaced h₁ node number last → h₃ ≡ findingsKept h₂ t held
+    → h₃ ≡ viewWritten h n s m node t held
+unfolding viewWritten
+view-written h n s m node number last t held h₁ h₂ h₃ a b c d =
+    d ∙ ap (λ (x : Bytes). findingsKept x t held) (c ∙ (λ i. viewReplaced (a .bytes i) node (a .is i) (b i)))
+
+pub kept-length : (h : Bytes) (t : Bytes) (n : ℕ) → length (findingsKept h t n) ≡ length h
+unfolding findingsKept
+kept-length h t n = put-length (putBytes h 2121 t) 7 (wordBytes 1 n) ∙ put-length h 2121 t
+
+pub replaced-length : (h : Bytes) (k f l : ℕ) → length (viewReplaced h k f l) ≡ length h
+unfolding viewReplaced
+replaced-length h k f l = put-length h (9 + k * 6) _
+
+-- ---- the answer
+
+module _ (limit : ℕ) (h s : Bytes) (m node missing held count : ℕ) (t : Bytes) (j : ViewJudged h s m node missing held t) (e : count ≡ wordAt h 0 2) where
+  total : count + missing ≡ wordAt h 0 2 + missingIn h s m
+  total = λ i. e i + j .lack i
+
+  abbrev As : Observed → Bytes → Type 0
+  As r u = (r ≡ observed limit h s m node) × (u ≡ observedBytes limit h s m node)
+
+  pub observed-six : limit < count + missing → As Observed.PrefixesFull h
+  unfolding observed observedBytes
+  observed-six l =
+      let b : ltb limit (wordAt h 0 2 + missingIn h s m) ≡ true = lt-ltb limit _ (subst (λ (x : ℕ). limit < x) total l) in
+      (sym (cond-true (ltb limit (wordAt h 0 2 + missingIn h s m)) Observed.PrefixesFull _ b), sym (cond-true (ltb limit (wordAt h 0 2 + missingIn h s m)) h _ b))
+
+  module _ (l : count + missing ≤ limit) where
+    no-six : ltb limit (wordAt h 0 2 + missingIn h s m) ≡ false
+    no-six = le-ltb limit _ (subst (λ (x : ℕ). x ≤ limit) total l)
+
+    pub observed-seven : 128 < held → As Observed.FindingsFull h
+    unfolding observed observedBytes
+    observed-seven g =
+        let b : ltb 128 (heldIn h s m node) ≡ true = lt-ltb 128 _ (subst (λ (x : ℕ). 128 < x) (j .holds) g) in (
+          sym (cond-false (ltb limit (wordAt h 0 2 + missingIn h s m)) Observed.PrefixesFull _ no-six ∙ cond-true (ltb 128 (heldIn h s m node)) Observed.FindingsFull _ b),
+          sym (cond-false (ltb limit (wordAt h 0 2 + missingIn h s m)) h _ no-six ∙ cond-true (ltb 128 (heldIn h s m node)) h _ b),
+        )
+
+    pub observed-ok : held ≤ 128 → (u : Bytes) → u ≡ viewWritten h count s m node t held → As Observed.Accepted u
+    unfolding observed observedBytes
+    observed-ok g u w =
+        let b : ltb 128 (heldIn h s m node) ≡ false = le-ltb 128 _ (subst (λ (x : ℕ). x ≤ 128) (j .holds) g) in (
+          sym (cond-false (ltb limit (wordAt h 0 2 + missingIn h s m)) Observed.PrefixesFull _ no-six ∙ cond-false (ltb 128 (heldIn h s m node)) Observed.FindingsFull _ b),
+          w ∙ (λ i. viewWritten h (e i) s m node (j .table i) (j .holds i))
+              ∙ sym (cond-false (ltb limit (wordAt h 0 2 + missingIn h s m)) h _ no-six ∙ cond-false (ltb 128 (heldIn h s m node)) h _ b),
+        )
+
+    -- there is room for what is missing
+    pub observed-room : Observing h s m node → limit ≤ 512 → Storing h count s m
+    observed-room o g =
+        record {
+          long = whole-long h (o .right);
+          walk = o .walk;
+          fits = (let x = whole-table h (o .right) .fits in omega arith);
+          room = subst (λ (x : ℕ). x ≤ 512) (sym (ap (λ (x : ℕ). writtenCount h x 0 1 (front (entriesAt s firstEntry m))) e ∙ written-count (front (entriesAt s firstEntry m)) h (wordAt h 0 2) 0 1))
+              (subst (λ (x : ℕ). x ≤ 512) (total ∙ missing-in) (omega arith));
+        }
+      where
+        missing-in : wordAt h 0 2 + missingIn h s m ≡ wordAt h 0 2 + missingFrom (prefixRow (prefixesPart h)) (wordAt h 0 2) 0 0 1 (front (entriesAt s firstEntry m))
+        missing-in = missing-is h s m
+
+-- ---- lengths
+
+pub table-for : (h q : Bytes) (n : ℕ) → q ≡ prefixesPart h → n ≡ wordAt h 0 2 → Table (prefixesPart h) (wordAt h 0 2) → Table q n
+table-for h q n eq en t = subst₂ Table (sym eq) (sym en) t
+
+pub table-length : (h s : Bytes) (m node : ℕ) → wellFormed h ≡ true → length (tableIn h s m node) ≡ 1024
+unfolding tableIn
+table-length h s m node right = all-length (notesIn h s m node) (findingsPart h) (wordAt h 7 1) ∙ findings-long h right
+
+front-length : (es : List Entry) (h : Bytes) (n p i : ℕ) → length (writtenBytes h n p i es) ≡ length h
+unfolding writtenBytes
+front-length [] h n p i = refl
+front-length (e ∷ es) h n p i =
+    front-length es (extendedBytes h n p i e) (extendedCount h n p e) (extendedNumber h n p e) (i + 1) ∙ bytes-length-one h n p i e
+
+pub written-length : (h : Bytes) (n : ℕ) (s : Bytes) (m node : ℕ) (t : Bytes) (held : ℕ) → length (viewWritten h n s m node t held) ≡ length h
+unfolding viewWritten
+written-length h n s m node t held = kept-length _ t held ∙ replaced-length _ node _ _ ∙ front-length (front (entriesAt s firstEntry m)) h n 0 1

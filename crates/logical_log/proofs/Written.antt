@@ -1,0 +1,226 @@
+-- The writing walk along a front, turn by turn.
+-- Assumes nothing.
+use Prim.Native.Nat.{ℕ, zero, suc, _+_, _-_, _*_, _<_, _≤_}
+use native.Mathlib.Omega.{arith}
+use mathlib.Core.Path.{_≡_, refl, sym, _∙_, ap, subst}
+use mathlib.Core.Bool.{Bool, true, false, cond}
+use mathlib.Core.Logic.{_⊎_, inl, inr, ⊎-elim}
+use mathlib.Core.List.{List, [], _∷_, _++_}
+use lib.Dec.{eqb}
+use lib.ListN.{length, replicate}
+use borrow.Author.Tests.{eq-eqb, ne-eqb}
+use Rattle.model.specs.Sizes.{Bytes}
+use Rattle.model.specs.Entry.{Entry}
+use Rattle.model.specs.Record.{frontFrom, front}
+use Rattle.records.specs.Places.{Walk, firstEntry, indexAt, lengthAt, contentAt, nextAt, shownAt, entriesAt}
+use Rattle.records.specs.Values.{Here, shownEntry}
+use Rattle.records.proofs.Widths.{bytes-length}
+use Rattle.records.proofs.Walks.{next-walk, walk-entered, here}
+use Rattle.model.proofs.Tests.{either, cond-cases, cond-true, cond-false}
+use Rattle.records.specs.declared.walk.ShownEntry.{ShownEntry}
+use Rattle.storage.specs.Words.{bytesAt, putBytes, wordBytes}
+use Rattle.storage.specs.Tables.{prefixRow, prefixesPart}
+use Rattle.storage.specs.Writes.{prefixBytes}
+use Rattle.storage.proofs.ListLaws.{tabulate-length}
+use Rattle.storage.proofs.WordLaws.{put-length}
+use Rattle.logical_log.proofs.Turns.{entry-read, front-more, front-stop, front-none, find-within}
+use Rattle.logical_log.specs.Table.{entryValue}
+use Rattle.logical_log.specs.Prefix.{rowOf, find}
+use Rattle.logical_log.specs.Observation.{orNext, extensionIn, storedContent, appended, extendedBytes, extendedCount, extendedNumber, Extending, ExtendedAs, writtenBytes, writtenCount, writtenNumber, Storing, StoredAs}
+
+pub value-length : (e : ShownEntry) → length (entryValue e .content) ≡ e .length
+unfolding bytesAt
+value-length e = tabulate-length _ 0 (e .length)
+
+-- ---- found or made
+
+module _ (h : Bytes) (n p : ℕ) (e : Entry) where
+  pub number-found : eqb (extensionIn h n p e) 0 ≡ false → extendedNumber h n p e ≡ extensionIn h n p e
+  unfolding extendedNumber
+  number-found f = cond-false (eqb (extensionIn h n p e) 0) (n + 1) (extensionIn h n p e) f
+
+  pub number-made : eqb (extensionIn h n p e) 0 ≡ true → extendedNumber h n p e ≡ n + 1
+  unfolding extendedNumber
+  number-made t = cond-true (eqb (extensionIn h n p e) 0) (n + 1) (extensionIn h n p e) t
+
+  pub count-found : eqb (extensionIn h n p e) 0 ≡ false → extendedCount h n p e ≡ n
+  unfolding extendedCount
+  count-found f = cond-false (eqb (extensionIn h n p e) 0) (n + 1) n f
+
+  pub count-made : eqb (extensionIn h n p e) 0 ≡ true → extendedCount h n p e ≡ n + 1
+  unfolding extendedCount
+  count-made t = cond-true (eqb (extensionIn h n p e) 0) (n + 1) n t
+
+pub bytes-found : (h : Bytes) (n p i : ℕ) (e : Entry) → eqb (extensionIn h n p e) 0 ≡ false → extendedBytes h n p i e ≡ h
+unfolding extendedBytes
+bytes-found h n p i e f = cond-false (eqb (extensionIn h n p e) 0) (appended h n p i e) h f
+
+pub bytes-made : (h : Bytes) (n p i : ℕ) (e : Entry) → eqb (extensionIn h n p e) 0 ≡ true → extendedBytes h n p i e ≡ appended h n p i e
+unfolding extendedBytes
+bytes-made h n p i e t = cond-true (eqb (extensionIn h n p e) 0) (appended h n p i e) h t
+
+appended-is : (h : Bytes) (n p i : ℕ) (e : Entry) (m : ℕ) (c : Bytes) → length (e .content) ≡ m → c ≡ storedContent e
+    → putBytes (putBytes h (3145 + n * 41) (prefixBytes p i (e .term) m c)) 0 (wordBytes 2 (n + 1)) ≡ appended h n p i e
+unfolding appended
+appended-is h n p i e m c a b =
+    λ j. putBytes (putBytes h (3145 + n * 41) (prefixBytes p i (e .term) (sym a j) (b j))) 0 (wordBytes 2 (n + 1))
+
+module _ (h : Bytes) (n p : ℕ) (e : ShownEntry) (q : Bytes) (eq : q ≡ prefixesPart h) (x : ℕ) (ex : x ≡ find (prefixRow q) n (rowOf p 0 (entryValue e))) where
+  extension-is : x ≡ extensionIn h n p (entryValue e)
+  unfolding extensionIn
+  extension-is = ex ∙ ap (λ (t : Bytes). find (prefixRow t) n (rowOf p 0 (entryValue e))) eq
+
+  pub extend-found : (x ≡ 0 → ⊥) → ExtendedAs h n p e x n h
+  extend-found z = found (subst (λ (y : ℕ). eqb y 0 ≡ false) extension-is (ne-eqb x 0 z))
+    where
+      found : eqb (extensionIn h n p (entryValue e)) 0 ≡ false → ExtendedAs h n p e x n h
+      found f =
+          record {
+            is = extension-is ∙ sym (number-found h n p (entryValue e) f);
+            holds = sym (count-found h n p (entryValue e) f);
+            bytes = sym (bytes-found h n p (e .index .0) (entryValue e) f);
+          }
+
+  module _ (g : Extending h n p e) (z : x ≡ 0) where
+    nowhere : eqb (extensionIn h n p (entryValue e)) 0 ≡ true
+    nowhere = subst (λ (y : ℕ). eqb y 0 ≡ true) extension-is (eq-eqb x 0 z)
+
+    pub extend-room : n < 512
+    extend-room = (let r = g .room in let c = count-made h n p (entryValue e) nowhere in omega arith)
+
+    pub extend-made : (h′ : Bytes)
+        → h′ ≡ putBytes (putBytes h (3145 + n * 41) (prefixBytes p (e .index .0) (e .term .0) (e .length) (e .content))) 0 (wordBytes 2 (n + 1))
+        → ExtendedAs h n p e (n + 1) (n + 1) h′
+    extend-made h′ w =
+        record {
+          is = sym (number-made h n p (entryValue e) nowhere);
+          holds = sym (count-made h n p (entryValue e) nowhere);
+          bytes = w ∙ same-bytes ∙ sym (bytes-made h n p (e .index .0) (entryValue e) nowhere);
+        }
+      where
+        same-bytes : putBytes (putBytes h (3145 + n * 41) (prefixBytes p (e .index .0) (e .term .0) (e .length) (e .content))) 0 (wordBytes 2 (n + 1))
+            ≡ appended h n p (e .index .0) (entryValue e)
+        same-bytes = appended-is h n p (e .index .0) (entryValue e) (e .length) (e .content) (value-length e) (g .padded)
+
+-- ---- the whole front
+
+extension-within : (h : Bytes) (n p : ℕ) (e : Entry) → extensionIn h n p e ≤ n
+unfolding extensionIn
+extension-within h n p e = find-within (prefixRow (prefixesPart h)) n (rowOf p 0 e)
+
+count-grows-one : (h : Bytes) (n p : ℕ) (e : Entry) → n ≤ extendedCount h n p e
+unfolding extendedCount
+count-grows-one h n p e = cond-cases (λ (m : ℕ). n ≤ m) (eqb (extensionIn h n p e) 0) (n + 1) n (λ _. omega arith) (λ _. omega arith)
+
+pub count-grows : (es : List Entry) (h : Bytes) (n p i : ℕ) → n ≤ writtenCount h n p i es
+unfolding writtenCount
+count-grows [] h n p i = omega arith
+count-grows (e ∷ es) h n p i =
+    let a = count-grows-one h n p e in
+    let b = count-grows es (extendedBytes h n p i e) (extendedCount h n p e) (extendedNumber h n p e) (i + 1) in
+    omega arith
+
+number-within : (h : Bytes) (n p : ℕ) (e : Entry) → extendedNumber h n p e ≤ extendedCount h n p e
+number-within h n p e =
+    ⊎-elim (λ t. let a = number-made h n p e t in let b = count-made h n p e t in omega arith)
+    (λ f. let a = number-found h n p e f in let b = count-found h n p e f in let c = extension-within h n p e in omega arith)
+    (either (eqb (extensionIn h n p e) 0))
+
+pub bytes-length-one : (h : Bytes) (n p i : ℕ) (e : Entry) → length (extendedBytes h n p i e) ≡ length h
+unfolding extendedBytes appended
+bytes-length-one h n p i e =
+    cond-cases (λ (u : Bytes). length u ≡ length h) (eqb (extensionIn h n p e) 0) _ h
+    (λ _. put-length _ 0 (wordBytes 2 (n + 1)) ∙ put-length h (3145 + n * 41) _) (λ _. refl)
+
+pub written-cons : (h : Bytes) (n p i : ℕ) (e : Entry) (es : List Entry)
+    → (writtenBytes h n p i (e ∷ es) ≡ writtenBytes (extendedBytes h n p i e) (extendedCount h n p e) (extendedNumber h n p e) (i + 1) es)
+    × (writtenCount h n p i (e ∷ es) ≡ writtenCount (extendedBytes h n p i e) (extendedCount h n p e) (extendedNumber h n p e) (i + 1) es)
+    × (writtenNumber h n p i (e ∷ es) ≡ writtenNumber (extendedBytes h n p i e) (extendedCount h n p e) (extendedNumber h n p e) (i + 1) es)
+unfolding writtenBytes writtenCount writtenNumber
+written-cons h n p i e es = (refl, refl, refl)
+
+-- an entry as it is read has zeros after its content
+pub entry-padded : (s : Bytes) (k : ℕ) (e : ShownEntry) → e ≡ shownEntry s k → lengthAt s k ≤ 32 → e .content ≡ storedContent (entryValue e)
+entry-padded s k e q h =
+    ap (λ (x : ShownEntry). x .content) q
+    ∙ ap (λ (m : ℕ). contentAt s k ++ replicate (32 - m) 0) (sym (bytes-length s (k + 48) (lengthAt s k)))
+    ∙ ap storedContent (sym (entry-read s k e q h))
+
+pub record Written (h₀ : Bytes) (n₀ : ℕ) (s : Bytes) (m : ℕ) (h : Bytes) (at left i p n : ℕ) : Type 0 where
+  pub bytes : writtenBytes h₀ n₀ 0 1 (front (entriesAt s firstEntry m)) ≡ writtenBytes h n p i (frontFrom i (entriesAt s at left))
+  pub counts : writtenCount h₀ n₀ 0 1 (front (entriesAt s firstEntry m)) ≡ writtenCount h n p i (frontFrom i (entriesAt s at left))
+  pub number : writtenNumber h₀ n₀ 0 1 (front (entriesAt s firstEntry m)) ≡ writtenNumber h n p i (frontFrom i (entriesAt s at left))
+  pub walk : Walk s at left
+  pub long : length h ≡ 24137
+  pub within : p ≤ n
+  pub small : i ≤ 257
+
+module _ (h₀ : Bytes) (n₀ : ℕ) (s : Bytes) (m : ℕ) (g : Storing h₀ n₀ s m) where
+  pub writing-starts : Written h₀ n₀ s m h₀ firstEntry m 1 0 n₀
+  writing-starts =
+      record { bytes = refl; counts = refl; number = refl; walk = g .walk; long = g .long; within = omega arith; small = omega arith }
+
+  module _ (h : Bytes) (at left i p n : ℕ) (w : Written h₀ n₀ s m h at left i p n) where
+    done : frontFrom i (entriesAt s at left) ≡ [] → StoredAs h₀ n₀ s m p h
+    unfolding writtenBytes writtenNumber
+    done e =
+        record {
+          is = sym (w .number ∙ ap (writtenNumber h n p i) e);
+          bytes = sym (w .bytes ∙ ap (writtenBytes h n p i) e);
+          long = w .long;
+        }
+
+    pub writing-ends : left ≤ 0 → StoredAs h₀ n₀ s m p h
+    writing-ends l = done (front-none s at left i l)
+
+    pub writing-fits : n ≤ 512
+    writing-fits = (let a = g .room in let b = w .counts in let c = count-grows (frontFrom i (entriesAt s at left)) h n p i in omega arith)
+
+    module _ (l : 0 < left) (e : ShownEntry) (q : e ≡ shownEntry s at) where
+      pub writing-gap : (e .index .0 ≡ i → ⊥) → StoredAs h₀ n₀ s m p h
+      writing-gap x = done (front-stop s at left i l (λ y. x (ap (λ (z : ShownEntry). z .index .0) q ∙ y)))
+
+      stands : Here s at
+      stands = here s at left (w .walk) l
+
+      module _ (x : e .index .0 ≡ i) where
+        read : entryValue e ≡ shownAt s at .entry
+        read = entry-read s at e q (stands .short)
+
+        more : frontFrom i (entriesAt s at left) ≡ shownAt s at .entry ∷ frontFrom (i + 1) (entriesAt s (nextAt s at) (left - 1))
+        more = front-more s at left i l (sym (ap (λ (z : ShownEntry). z .index .0) q) ∙ x)
+
+        steps : frontFrom i (entriesAt s at left) ≡ entryValue e ∷ frontFrom (i + 1) (entriesAt s (e .next) (left - 1))
+        steps = more ∙ (let a = sym read in let b = sym (ap (λ (z : ShownEntry). z .next) q) in λ z. a z ∷ frontFrom (i + 1) (entriesAt s (b z) (left - 1)))
+
+        pub writing-asks : Extending h n p e
+        writing-asks =
+            record {
+              long = w .long;
+              number = w .within;
+              room =
+                  (let a = g .room in
+                  let b = w .counts ∙ ap (writtenCount h n p i) steps ∙ written-cons h n p i (entryValue e) _ .1 in
+                  let c = count-grows (frontFrom (i + 1) (entriesAt s (e .next) (left - 1))) (extendedBytes h n p i (entryValue e)) (extendedCount h n p (entryValue e)) (extendedNumber h n p (entryValue e)) (i + 1) in
+                  omega arith);
+              fits = writing-fits;
+              short = subst (λ (z : ShownEntry). z .length ≤ 32) (sym q) (stands .short);
+              padded = entry-padded s at e q (stands .short);
+            }
+
+        pub writing-next : (p′ n′ : ℕ) (h′ : Bytes) → ExtendedAs h n p e p′ n′ h′ → Written h₀ n₀ s m h′ (e .next) (left - 1) (i + 1) p′ n′
+        writing-next p′ n′ h′ a =
+            let bb : extendedBytes h n p i (entryValue e) ≡ h′ = ap (λ (z : ℕ). extendedBytes h n p z (entryValue e)) (sym x) ∙ sym (a .bytes) in
+            let cc : extendedCount h n p (entryValue e) ≡ n′ = sym (a .holds) in
+            let dd : extendedNumber h n p (entryValue e) ≡ p′ = sym (a .is) in
+            let R = frontFrom (i + 1) (entriesAt s (e .next) (left - 1)) in
+            let u = written-cons h n p i (entryValue e) R in
+            record {
+              bytes = w .bytes ∙ ap (writtenBytes h n p i) steps ∙ u .0 ∙ (λ z. writtenBytes (bb z) (cc z) (dd z) (i + 1) R);
+              counts = w .counts ∙ ap (writtenCount h n p i) steps ∙ u .1 ∙ (λ z. writtenCount (bb z) (cc z) (dd z) (i + 1) R);
+              number = w .number ∙ ap (writtenNumber h n p i) steps ∙ u .2 ∙ (λ z. writtenNumber (bb z) (cc z) (dd z) (i + 1) R);
+              walk = subst (λ (z : ℕ). Walk s z (left - 1)) (sym (ap (λ (z : ShownEntry). z .next) q)) (next-walk s at left (w .walk) l);
+              long = ap length (sym bb) ∙ bytes-length-one h n p i (entryValue e) ∙ w .long;
+              within = (let r = number-within h n p (entryValue e) in let y = a .is in let z = a .holds in omega arith);
+              small = (let y = walk-entered s at left (w .walk) l .within in let z = ap (λ (v : ShownEntry). v .index .0) q in omega arith);
+            }

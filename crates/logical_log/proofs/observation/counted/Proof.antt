@@ -1,0 +1,24 @@
+use Prim.Native.Nat.{ℕ, suc, _+_, _-_, _*_, _≤_, _<_}
+use mathlib.Core.Path.{_≡_, refl, ap, sym, _∙_}
+use mathlib.Core.Bool.{Bool, true, false}
+use mathlib.Core.Logic.{⊎-elim}
+use native.Mathlib.Omega.{arith}
+use lib.ListN.{length, getD, set, length-set}
+use borrow.Author.Tests.{eq-eqb, ne-eqb}
+use borrow.Author.Needs.{needs}
+use Rattle.logical_log.proofs.observation.counted.Statement.{statement}
+use Rattle.logical_log.proofs.observation.counted.Tie as tie
+use Rattle.logical_log.proofs.observation.counted.Reads as reads
+use Rattle.logical_log.proofs.observation.counted.Lts as lts
+
+add-result : tie.Need-add-result
+add-result c = search needs
+
+returns : tie.Need-returns
+returns c = rw (eq-eqb _ _ (c .if1 .taken))
+
+returns-2 : tie.Need-returns-2
+returns-2 c = rw (ne-eqb _ _ (c .if1 .left)) (omega arith)
+
+pub counted-spec : {M : Type 1} → statement M
+counted-spec = tie.close (tie.spec add-result returns returns-2)

@@ -1,0 +1,118 @@
+use Prim.Native.Nat.{ℕ, suc, _+_, _-_, _*_, _≤_, _<_}
+use mathlib.Core.Path.{_≡_, refl, ap, sym, _∙_, subst}
+use mathlib.Core.Bool.{Bool, true, false}
+use mathlib.Core.Logic.{⊎-elim}
+use native.Mathlib.Omega.{arith}
+use lib.ListN.{length, getD, set, length-set}
+use borrow.Author.Needs.{needs}
+use Rattle.records.proofs.Walks.{here}
+use Rattle.logical_log.proofs.Turns.{Judging, judging-starts, judging-ends, judging-gap, judging-next, entry-short, next-within}
+use Rattle.logical_log.proofs.observation.judge.Statement.{statement}
+use Rattle.logical_log.proofs.observation.judge.Tie as tie
+use Rattle.logical_log.proofs.observation.judge.Reads as reads
+use Rattle.logical_log.proofs.observation.judge.Lts as lts
+use Rattle.logical_log.proofs.observation.counted.Reads as counted-reads
+use Rattle.logical_log.proofs.observation.is_other.Reads as is-other-reads
+use Rattle.logical_log.proofs.observation.next_number.Reads as next-number-reads
+use Rattle.logical_log.proofs.observation.note_other.Reads as note-other-reads
+use Rattle.records.proofs.walk.entry_at.Reads as entry-at-reads
+
+abbrev Inv-loop : tie.InvT-loop
+Inv-loop prefixes count view entries node findings₀ held at₀ left₀ i₀ p₀ missing₀ n₀ findings at left i p missing n =
+    Judging prefixes count view entries (node .0) findings₀ held findings at left i p missing n
+
+abbrev μ-loop : tie.MeasureT-loop
+μ-loop prefixes count view entries node findings₀ held at₀ left₀ i₀ p₀ missing₀ n₀ findings at left i p missing n = left
+
+loop-holds : tie.Need-loop-holds Inv-loop μ-loop
+loop-holds c =
+    let s = c .before .before .before in
+    judging-starts (s .args .prefixes .now) (s .args .count) (s .args .view .now) (s .args .entries) (s .args .node .0) (s .args .findings .now) (s .args .held)
+    (s .pre .1) (s .pre .2) (s .pre .3)
+
+entry-at-requires : tie.Need-entry-at-requires Inv-loop μ-loop
+entry-at-requires c κs = here _ _ _ (c .before .loop .inv .walk) (c .loop-test .taken)
+
+next-number-requires : tie.Need-next-number-requires Inv-loop μ-loop
+next-number-requires c κs =
+    let l = c .before .before .before .before in
+    let s = l .before .before .before .before in (
+      s .pre .0 .fits,
+      l .loop .inv .number,
+      s .pre .0 .long,
+      entry-short (s .args .prefixes .now) (s .args .count) (s .args .view .now) (s .args .entries) (s .args .node .0) (s .args .findings .now) (s .args .held) (l .loop .findings) (l .loop .at) (l .loop .left) (l .loop .i) (l .loop .p) (l .loop .missing) (l .loop .n) (l .loop .inv) (c .before .before .before .loop-test .taken) _ (c .before .before .entry-at .ensures),
+    )
+
+is-other-requires : tie.Need-is-other-requires Inv-loop μ-loop
+is-other-requires c κs =
+    let l = c .before .before .before .before .before in
+    let s = l .before .before .before .before in (
+      s .pre .0,
+      subst (λ (x : ℕ). 1 ≤ x) (sym (c .before .if1 .left)) (l .loop .inv .positive),
+      subst (λ (x : ℕ). x ≤ s .args .count) (sym (c .next-number .ensures)) (next-within _ _ _ _ _),
+    )
+
+note-other-requires : tie.Need-note-other-requires Inv-loop μ-loop
+note-other-requires c κs =
+    let l = c .before .before .before .before .before .before .before in
+    (l .loop .inv .few, l .loop .inv .long)
+
+counted-requires : tie.Need-counted-requires Inv-loop μ-loop
+counted-requires c κs = search needs
+
+add-i : tie.Need-add-i Inv-loop μ-loop
+add-i c = search needs
+
+sub-left : tie.Need-sub-left Inv-loop μ-loop
+sub-left c = search needs
+
+loop-less : tie.Need-loop-less Inv-loop μ-loop
+loop-less c = search needs
+
+loop-again : tie.Need-loop-again Inv-loop μ-loop
+loop-again c =
+    let o = c .before .before .before in
+    let e1 = o .before .before .before .before in
+    let l = e1 .before .before .before .before in
+    let s = l .before .before .before .before in
+    judging-next (s .args .prefixes .now) (s .args .count) (s .args .view .now) (s .args .entries) (s .args .node .0) (s .args .findings .now) (s .args .held) (l .loop .findings) (l .loop .at) (l .loop .left) (l .loop .i) (l .loop .p) (l .loop .missing) (l .loop .n) (l .loop .inv) (e1 .before .before .before .loop-test .taken) _ (e1 .before .before .entry-at .ensures) (e1 .if1 .left)
+    _ (o .before .before .before .next-number .ensures) _ (o .before .before .is-other .ensures) _ _ (o .note-other .ensures) _ (c .counted .ensures)
+
+same-length : tie.Need-same-length Inv-loop μ-loop
+same-length c = search needs
+
+returns : tie.Need-returns Inv-loop μ-loop
+returns c =
+    let l = c .before in
+    let s = l .before .before .before .before in
+    judging-ends (s .args .prefixes .now) (s .args .count) (s .args .view .now) (s .args .entries) (s .args .node .0) (s .args .findings .now) (s .args .held) (l .loop .findings) (l .loop .at) (l .loop .left) (l .loop .i) (l .loop .p) (l .loop .missing) (l .loop .n) (l .loop .inv) (c .loop-test .left)
+
+same-length-2 : tie.Need-same-length-2 Inv-loop μ-loop
+same-length-2 c = search needs
+
+returns-2 : tie.Need-returns-2 Inv-loop μ-loop
+returns-2 c =
+    let l = c .before .before .before .before in
+    let s = l .before .before .before .before in
+    judging-gap (s .args .prefixes .now) (s .args .count) (s .args .view .now) (s .args .entries) (s .args .node .0) (s .args .findings .now) (s .args .held) (l .loop .findings) (l .loop .at) (l .loop .left) (l .loop .i) (l .loop .p) (l .loop .missing) (l .loop .n) (l .loop .inv) (c .before .before .before .loop-test .taken) _ (c .before .before .entry-at .ensures) (c .if1 .taken)
+
+pub judge-spec : {M : Type 1} → statement M
+judge-spec =
+    tie.close
+    (tie.spec
+    Inv-loop
+    μ-loop
+    loop-holds
+    entry-at-requires
+    next-number-requires
+    is-other-requires
+    note-other-requires
+    counted-requires
+    add-i
+    sub-left
+    loop-less
+    loop-again
+    same-length
+    returns
+    same-length-2
+    returns-2)

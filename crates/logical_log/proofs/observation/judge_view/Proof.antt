@@ -1,0 +1,92 @@
+use Prim.Native.Nat.{ℕ, suc, _+_, _-_, _*_, _≤_, _<_}
+use mathlib.Core.Path.{_≡_, refl, ap, sym, _∙_}
+use mathlib.Core.Bool.{Bool, true, false}
+use mathlib.Core.Logic.{⊎-elim}
+use native.Mathlib.Omega.{arith}
+use lib.ListN.{length, getD, set, length-set}
+use borrow.Author.Needs.{needs}
+use Rattle.storage.proofs.WordLaws.{put-length}
+use Rattle.logical_log.proofs.ViolationLaws.{all-length}
+use Rattle.logical_log.proofs.Whole.{whole-long, whole-few, whole-table, table-for, copied, view-judged}
+use Rattle.logical_log.proofs.observation.judge_view.Statement.{statement}
+use Rattle.logical_log.proofs.observation.judge_view.Tie as tie
+use Rattle.logical_log.proofs.observation.judge_view.Reads as reads
+use Rattle.logical_log.proofs.observation.judge_view.Lts as lts
+use Rattle.logical_log.proofs.observation.judge.Reads as judge-reads
+use Rattle.storage.proofs.head.finding_count.Reads as finding-count-reads
+use Rattle.storage.proofs.head.prefix_count.Reads as prefix-count-reads
+use Rattle.storage.proofs.layout.part.Reads as part-reads
+use Rattle.storage.proofs.words.put_bytes.Reads as put-bytes-reads
+
+prefix-count-requires : tie.Need-prefix-count-requires
+prefix-count-requires c κs =
+    let s = c .before .before .before in
+    let l = whole-long (s .args .history .now) (s .pre .0 .right) in
+    omega arith
+
+finding-count-requires : tie.Need-finding-count-requires
+finding-count-requires c κs =
+    let s = c .before .before .before .before in
+    let l = whole-long (s .args .history .now) (s .pre .0 .right) in
+    omega arith
+
+part-requires : tie.Need-part-requires
+part-requires c κs =
+    let s = c .before .before .before .before .before .before in
+    let l = whole-long (s .args .history .now) (s .pre .0 .right) in
+    omega arith
+
+put-bytes-requires : tie.Need-put-bytes-requires
+put-bytes-requires c κs =
+    let s = c .before .before .before .before .before .before .before in
+    let p = c .part .ensures .long in
+    let l = s .pre .1 in
+    omega arith
+
+part-requires-2 : tie.Need-part-requires-2
+part-requires-2 c κs =
+    let s = c .before .before .before .before .before .before .before .before .before .before in
+    let l = whole-long (s .args .history .now) (s .pre .0 .right) in
+    omega arith
+
+judge-requires : tie.Need-judge-requires
+judge-requires c κs =
+    let s = c .before .before .before .before .before .before .before .before .before .before .before .before in
+    let h = s .args .history .now in
+    let right = s .pre .0 .right in
+    let count = c .before .before .before .before .before .before .before .before .prefix-count .ensures .is in
+    let held = c .before .before .before .before .before .before .before .finding-count .ensures .is in
+    let few = whole-few h right in (
+      table-for h _ _ (c .before .part2 .ensures .is) count (whole-table h right),
+      s .pre .0 .walk,
+      omega arith,
+      ap length (c .before .before .before .before .put-bytes .ensures) ∙ put-length _ _ _ ∙ s .pre .1,
+    )
+
+returns : tie.Need-returns
+returns c =
+    let p = c .before .before .before .before .before .before .before in
+    let s = p .before .before .before .before .before .before .before .before in
+    let h = s .args .history .now in
+    view-judged h (s .args .view .now) (s .args .entries) (s .args .node .0) _ _ _ _ _ _ _
+    (p .before .before .before .before .prefix-count .ensures .is) (p .before .before .before .finding-count .ensures .is) (c .before .before .before .before .part2 .ensures .is)
+    (copied h (s .args .findings .now) _ (s .pre .0 .right) (s .pre .1) _ (p .before .part .ensures .is) (p .put-bytes .ensures))
+    (c .before .before .judge .ensures)
+
+same-length : tie.Need-same-length
+same-length c =
+    let p = c .before .before .before .before .before .before .before in
+    ap length (c .before .before .judge .ensures .table) ∙ all-length _ _ _ ∙ ap length (p .put-bytes .ensures) ∙ put-length _ _ _
+
+pub judge-view-spec : {M : Type 1} → statement M
+judge-view-spec =
+    tie.close
+    (tie.spec
+    prefix-count-requires
+    finding-count-requires
+    part-requires
+    put-bytes-requires
+    part-requires-2
+    judge-requires
+    same-length
+    returns)

@@ -1,0 +1,36 @@
+use Prim.Native.Nat.{ℕ, suc, _+_, _-_, _*_, _≤_, _<_}
+use mathlib.Core.Path.{_≡_, refl, ap, sym, _∙_}
+use mathlib.Core.Bool.{Bool, true, false}
+use mathlib.Core.Logic.{⊎-elim}
+use native.Mathlib.Omega.{arith}
+use lib.ListN.{length, getD, set, length-set}
+use borrow.Author.Needs.{needs}
+use Rattle.model.specs.Sizes.{Bytes}
+use Rattle.storage.specs.Words.{putBytes, wordBytes}
+use Rattle.logical_log.specs.Observation.{findingsKept}
+use Rattle.logical_log.proofs.observation.keep_findings.Statement.{statement}
+use Rattle.logical_log.proofs.observation.keep_findings.Tie as tie
+use Rattle.logical_log.proofs.observation.keep_findings.Reads as reads
+use Rattle.logical_log.proofs.observation.keep_findings.Lts as lts
+use Rattle.storage.proofs.head.set_finding_count.Reads as set-finding-count-reads
+use Rattle.storage.proofs.words.put_bytes.Reads as put-bytes-reads
+
+put-bytes-requires : tie.Need-put-bytes-requires
+put-bytes-requires c κs = search needs
+
+set-finding-count-requires : tie.Need-set-finding-count-requires
+set-finding-count-requires c κs = search needs
+
+same-length : tie.Need-same-length
+same-length c = search needs
+
+returns : tie.Need-returns
+unfolding findingsKept
+returns c =
+    let w = c .before .before in
+    let s = w .before .before .before .before .before .before .before .before .args in
+    w .set-finding-count .ensures ∙ ap (λ (h : Bytes). putBytes h 7 (wordBytes 1 (s .held))) (w .before .before .before .before .put-bytes .ensures)
+
+pub keep-findings-spec : {M : Type 1} → statement M
+keep-findings-spec =
+    tie.close (tie.spec put-bytes-requires set-finding-count-requires same-length returns)

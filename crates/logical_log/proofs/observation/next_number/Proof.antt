@@ -1,0 +1,31 @@
+use Prim.Native.Nat.{ℕ, suc, _+_, _-_, _*_, _≤_, _<_}
+use mathlib.Core.Path.{_≡_, refl, ap, sym, _∙_}
+use mathlib.Core.Bool.{Bool, true, false}
+use mathlib.Core.Logic.{⊎-elim}
+use native.Mathlib.Omega.{arith}
+use lib.ListN.{length, getD, set, length-set}
+use borrow.Author.Needs.{needs}
+use Rattle.storage.specs.Tables.{prefixRow}
+use Rattle.logical_log.specs.Table.{entryValue}
+use Rattle.logical_log.proofs.Turns.{next-lost, next-found}
+use Rattle.logical_log.proofs.observation.next_number.Statement.{statement}
+use Rattle.logical_log.proofs.observation.next_number.Tie as tie
+use Rattle.logical_log.proofs.observation.next_number.Reads as reads
+use Rattle.logical_log.proofs.observation.next_number.Lts as lts
+use Rattle.logical_log.proofs.prefix.find_extension.Reads as find-extension-reads
+
+returns : tie.Need-returns
+returns c =
+    let s = c .before .before .args in
+    next-lost (prefixRow (s .prefixes .now)) (s .count) (s .missing) (s .p) (entryValue (s .e)) (c .if1 .taken)
+
+find-extension-requires : tie.Need-find-extension-requires
+find-extension-requires c κs = search needs
+
+returns-2 : tie.Need-returns-2
+returns-2 c =
+    let s = c .before .before .before .args in
+    next-found (prefixRow (s .prefixes .now)) (s .count) (s .missing) (s .p) (entryValue (s .e)) (c .before .if1 .left) _ (c .find-extension .ensures)
+
+pub next-number-spec : {M : Type 1} → statement M
+next-number-spec = tie.close (tie.spec returns find-extension-requires returns-2)

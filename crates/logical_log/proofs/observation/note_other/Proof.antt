@@ -1,0 +1,36 @@
+use Prim.Native.Nat.{ℕ, suc, _+_, _-_, _*_, _≤_, _<_}
+use mathlib.Core.Path.{_≡_, refl, ap, sym, _∙_}
+use mathlib.Core.Bool.{Bool, true, false}
+use mathlib.Core.Logic.{⊎-elim}
+use native.Mathlib.Omega.{arith}
+use lib.ListN.{length, getD, set, length-set}
+use borrow.Author.Tests.{not-true, not-false}
+use borrow.Author.Needs.{needs}
+use Rattle.logical_log.proofs.ViolationLaws.{note-length}
+use Rattle.logical_log.proofs.Turns.{note-one, note-other-one}
+use Rattle.logical_log.proofs.observation.note_other.Statement.{statement}
+use Rattle.logical_log.proofs.observation.note_other.Tie as tie
+use Rattle.logical_log.proofs.observation.note_other.Reads as reads
+use Rattle.logical_log.proofs.observation.note_other.Lts as lts
+use Rattle.logical_log.proofs.violation.note.Reads as note-reads
+
+returns : tie.Need-returns
+returns c =
+    let s = c .before .before .args in
+    note-one (s .differs) (s .node .0) (s .index .0) (s .term .0) (s .n) (s .findings .now) (not-true (s .differs) (c .if1 .taken))
+
+note-requires : tie.Need-note-requires
+note-requires c κs = search needs
+
+returns-2 : tie.Need-returns-2
+returns-2 c =
+    let b = c .before .before .before .before in
+    let s = b .before .before .args in
+    note-other-one (s .differs) (s .node .0) (s .index .0) (s .term .0) (s .n) _ (s .findings .now) _ (not-false (s .differs) (b .if1 .left))
+    (c .before .before .note .ensures)
+
+same-length : tie.Need-same-length
+same-length c = ap length (c .before .before .note .ensures .1) ∙ note-length _ _ _
+
+pub note-other-spec : {M : Type 1} → statement M
+note-other-spec = tie.close (tie.spec returns note-requires same-length returns-2)

@@ -1,0 +1,61 @@
+use Prim.Native.Nat.{ℕ, suc, _+_, _-_, _*_, _≤_, _<_}
+use mathlib.Core.Path.{_≡_, refl, ap, sym, _∙_}
+use mathlib.Core.Bool.{Bool, true, false}
+use mathlib.Core.Logic.{⊎-elim}
+use native.Mathlib.Omega.{arith}
+use lib.ListN.{length, getD, set, length-set}
+use borrow.Author.Needs.{needs}
+use Rattle.records.specs.declared.walk.Front.{Front}
+use Rattle.logical_log.proofs.Whole.{view-written, kept-length, replaced-length}
+use Rattle.logical_log.proofs.observation.write_view.Statement.{statement}
+use Rattle.logical_log.proofs.observation.write_view.Tie as tie
+use Rattle.logical_log.proofs.observation.write_view.Reads as reads
+use Rattle.logical_log.proofs.observation.write_view.Lts as lts
+use Rattle.logical_log.proofs.observation.keep_findings.Reads as keep-findings-reads
+use Rattle.logical_log.proofs.observation.replace_view.Reads as replace-view-reads
+use Rattle.logical_log.proofs.observation.store.Reads as store-reads
+use Rattle.records.proofs.walk.front_of.Reads as front-of-reads
+
+store-requires : tie.Need-store-requires
+store-requires c κs = search needs
+
+front-of-requires : tie.Need-front-of-requires
+front-of-requires c κs = search needs
+
+replace-view-requires : tie.Need-replace-view-requires
+replace-view-requires c κs =
+    let o = c .before .before .before .before .before in
+    (o .before .before .before .before .before .pre .1, o .store .ensures .long)
+
+keep-findings-requires : tie.Need-keep-findings-requires
+keep-findings-requires c κs =
+    let r = c .before .before .before in
+    let o = r .before .before .before .before .before .before in
+    (ap length (r .replace-view .ensures) ∙ replaced-length _ _ _ _ ∙ o .store .ensures .long, o .before .before .before .before .before .pre .2)
+
+returns : tie.Need-returns
+returns c =
+    let r = c .before .before .before .before .before .before in
+    let f = r .before .before .before in
+    let o = f .before .before .before in
+    let s = o .before .before .before .before .before .args in
+    view-written (s .history .now) (s .count) (s .view .now) (s .entries) (s .node .0) _ _ _ (s .held) _ _ _
+    (o .store .ensures) (ap (λ (x : Front). x .last .0) (f .front-of .ensures)) (r .replace-view .ensures) (c .before .before .keep-findings .ensures)
+
+same-length : tie.Need-same-length
+same-length c =
+    let r = c .before .before .before .before .before .before in
+    let o = r .before .before .before .before .before .before in
+    ap length (c .before .before .keep-findings .ensures) ∙ kept-length _ _ _ ∙ ap length (r .replace-view .ensures) ∙ replaced-length _ _ _ _
+    ∙ o .store .ensures .long ∙ sym (o .before .before .before .before .before .pre .0 .long)
+
+pub write-view-spec : {M : Type 1} → statement M
+write-view-spec =
+    tie.close
+    (tie.spec
+    store-requires
+    front-of-requires
+    replace-view-requires
+    keep-findings-requires
+    same-length
+    returns)

@@ -1,0 +1,30 @@
+use Prim.Native.Nat.{ℕ, suc, _+_, _-_, _*_, _≤_, _<_}
+use mathlib.Core.Path.{_≡_, refl, ap, sym, _∙_}
+use mathlib.Core.Bool.{Bool, true, false}
+use mathlib.Core.Logic.{⊎-elim}
+use native.Mathlib.Omega.{arith}
+use lib.ListN.{length, getD, set, length-set}
+use borrow.Author.Tests.{eq-eqb, ne-eqb}
+use borrow.Author.Needs.{needs}
+use Rattle.logical_log.proofs.prefix.is_of.Statement.{statement}
+use Rattle.logical_log.proofs.prefix.is_of.Tie as tie
+use Rattle.logical_log.proofs.prefix.is_of.Reads as reads
+use Rattle.logical_log.proofs.prefix.is_of.Lts as lts
+use Rattle.storage.proofs.prefixes.index_at.Reads as index-at-reads
+use Rattle.storage.proofs.prefixes.term_at.Reads as term-at-reads
+
+index-at-requires : tie.Need-index-at-requires
+index-at-requires c κs = search needs
+
+returns : tie.Need-returns
+returns c = rw (← c .before .before .index-at .ensures .is, ne-eqb _ _ (c .if1 .taken))
+
+term-at-requires : tie.Need-term-at-requires
+term-at-requires c κs = search needs
+
+returns-2 : tie.Need-returns-2
+returns-2 c =
+    rw (← c .before .before .before .before .index-at .ensures .is, eq-eqb _ _ (c .before .before .if1 .left), ← c .before .term-at .ensures)
+
+pub is-of-spec : {M : Type 1} → statement M
+is-of-spec = tie.close (tie.spec index-at-requires returns term-at-requires returns-2)

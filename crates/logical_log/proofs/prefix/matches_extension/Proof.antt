@@ -1,0 +1,81 @@
+use Prim.Native.Nat.{ℕ, suc, _+_, _-_, _*_, _≤_, _<_}
+use mathlib.Core.Path.{_≡_, refl, ap, sym, _∙_}
+use mathlib.Core.Bool.{Bool, true, false}
+use mathlib.Core.Logic.{⊎-elim}
+use native.Mathlib.Omega.{arith}
+use lib.ListN.{length, getD, set, length-set}
+use borrow.Author.Needs.{needs}
+use Rattle.logical_log.proofs.Loops.{match-parent, match-term, match-size, match-content}
+use Rattle.logical_log.proofs.prefix.matches_extension.Statement.{statement}
+use Rattle.logical_log.proofs.prefix.matches_extension.Tie as tie
+use Rattle.logical_log.proofs.prefix.matches_extension.Reads as reads
+use Rattle.logical_log.proofs.prefix.matches_extension.Lts as lts
+use Rattle.logical_log.proofs.prefix.same_content.Reads as same-content-reads
+use Rattle.storage.proofs.prefixes.parent_at.Reads as parent-at-reads
+use Rattle.storage.proofs.prefixes.size_at.Reads as size-at-reads
+use Rattle.storage.proofs.prefixes.term_at.Reads as term-at-reads
+
+parent-at-requires : tie.Need-parent-at-requires
+parent-at-requires c κs = search needs
+
+returns : tie.Need-returns
+returns c =
+    let s = c .before .before .before .args in
+    match-parent (s .prefixes .now) (s .e .content) (s .k) (s .p) (s .e .term .0) (s .e .length) _ 0 0
+    (c .before .parent-at .ensures .is) (c .if1 .taken)
+
+term-at-requires : tie.Need-term-at-requires
+term-at-requires c κs = search needs
+
+returns-2 : tie.Need-returns-2
+returns-2 c =
+    let b1 = c .before .before .before in
+    let s = b1 .before .before .before .args in
+    match-term (s .prefixes .now) (s .e .content) (s .k) (s .p) (s .e .term .0) (s .e .length) _ _ 0
+    (b1 .before .parent-at .ensures .is) (b1 .if1 .left) (c .before .before .term-at .ensures) (c .if2 .taken)
+
+size-at-requires : tie.Need-size-at-requires
+size-at-requires c κs = search needs
+
+returns-3 : tie.Need-returns-3
+returns-3 c =
+    let b2 = c .before .before in
+    let b1 = b2 .before .before .before in
+    let s = b1 .before .before .before .args in
+    match-size (s .prefixes .now) (s .e .content) (s .k) (s .p) (s .e .term .0) (s .e .length) _ _ _
+    (b1 .before .parent-at .ensures .is) (b1 .if1 .left) (b2 .before .before .term-at .ensures) (b2 .if2 .left)
+    (c .before .size-at .ensures .is) (c .if3 .taken)
+
+mul-same-content : tie.Need-mul-same-content
+mul-same-content c = search needs
+
+add-same-content : tie.Need-add-same-content
+add-same-content c = search needs
+
+same-content-requires : tie.Need-same-content-requires
+same-content-requires c κs = search needs
+
+returns-4 : tie.Need-returns-4
+returns-4 c =
+    let b3 = c .before .before in
+    let b2 = b3 .before .before in
+    let b1 = b2 .before .before .before in
+    let s = b1 .before .before .before .args in
+    match-content (s .prefixes .now) (s .e .content) (s .k) (s .p) (s .e .term .0) (s .e .length) _ _ _
+    (b1 .before .parent-at .ensures .is) (b1 .if1 .left) (b2 .before .before .term-at .ensures) (b2 .if2 .left)
+    (b3 .before .size-at .ensures .is) (b3 .if3 .left) (b1 .before .before .before .pre .2) _ (c .same-content .ensures)
+
+pub matches-extension-spec : {M : Type 1} → statement M
+matches-extension-spec =
+    tie.close
+    (tie.spec
+    parent-at-requires
+    returns
+    term-at-requires
+    returns-2
+    size-at-requires
+    returns-3
+    mul-same-content
+    add-same-content
+    same-content-requires
+    returns-4)

@@ -1,0 +1,212 @@
+-- Observation of a view on the rows of the prefix table, in the order of its two walks along the front: judged, then written.
+-- Assumes nothing.
+use Prim.Native.Nat.{ℕ, zero, suc, _+_, _-_, _*_, _≤_, _<_}
+use mathlib.Core.Path.{_≡_}
+use mathlib.Core.Bool.{Bool, true, false, cond, not, _&&_, _||_}
+use mathlib.Core.List.{List, [], _∷_, _++_}
+use lib.Dec.{leb, ltb, eqb}
+use lib.ListN.{length, getD, replicate}
+use Rattle.model.specs.Entry.{Entry}
+use Rattle.model.specs.History.{Finding}
+use Rattle.model.specs.Sizes.{Bytes}
+use Rattle.model.specs.Record.{front, lastIndex}
+use Rattle.records.specs.Places.{Walk, firstEntry, entriesAt}
+use Rattle.storage.specs.Words.{putBytes, wordBytes, wordAt}
+use Rattle.storage.specs.Tables.{PrefixRow, prefixRow, prefixesPart, nodeRow, nodesPart, findingsPart}
+use Rattle.storage.specs.Writes.{prefixBytes, nodeBytes}
+use Rattle.storage.specs.Rules.{wellFormed}
+use Rattle.logical_log.specs.declared.observation.Observed.{Observed}
+use Rattle.records.specs.declared.walk.ShownEntry.{ShownEntry}
+use Rattle.logical_log.specs.Table.{entryValue}
+use Rattle.logical_log.specs.Prefix.{rowOf, find, first}
+use Rattle.logical_log.specs.Comparison.{sameFrom}
+use Rattle.logical_log.specs.Violation.{heldAll, bytesAll}
+
+-- ---- judged: nothing is written
+
+-- the number of the next prefix of the front, 0 where it is not stored. After one that is not stored none is. The search
+-- goes by parent and entry, and does not look at the index.
+unfoldable pub nextNumber : (ℕ → PrefixRow) → ℕ → ℕ → ℕ → Entry → ℕ
+unfolding find
+nextNumber row count missing p e = cond (eqb missing 0) (find row count (rowOf p 0 e)) 0
+
+-- the remembered prefix of number r, if there is one, is another than that of number k, or than one of no number
+unfoldable pub differs : (ℕ → PrefixRow) → ℕ → ℕ → Bool
+unfolding sameFrom
+differs row r k = not (eqb r 0) && (eqb k 0 || not (sameFrom row r r k))
+
+unfoldable pub other : (ℕ → PrefixRow) → ℕ → ℕ → ℕ → ℕ → Bool
+unfolding first differs
+other row count i t k = differs row (first row count i t) k
+
+-- one more where the next prefix is not stored
+abbrev pub counted : ℕ → ℕ → ℕ
+counted missing k = missing + cond (eqb k 0) 1 0
+
+-- how many prefixes of the front, from index i on, are not stored
+unfoldable pub missingFrom : (ℕ → PrefixRow) → ℕ → ℕ → ℕ → ℕ → List Entry → ℕ
+unfolding nextNumber
+missingFrom row count missing p i [] = missing
+missingFrom row count missing p i (e ∷ es) =
+    let k = nextNumber row count missing p e in
+    missingFrom row count (counted missing k) k (i + 1) es
+
+-- LG-03 of each entry, from index i on, for which another prefix is remembered
+abbrev pub noteOf : Bool → ℕ → ℕ → ℕ → List Finding
+noteOf b n i t = cond b (record { name = 3; node = n; index = i; term = t } ∷ []) []
+
+unfoldable pub notesFrom : (ℕ → PrefixRow) → ℕ → ℕ → ℕ → ℕ → ℕ → List Entry → List Finding
+unfolding nextNumber other
+notesFrom row count n missing p i [] = []
+notesFrom row count n missing p i (e ∷ es) =
+    let k = nextNumber row count missing p e in
+    noteOf (other row count i (e .term) k) n i (e .term) ++ notesFrom row count n (counted missing k) k (i + 1) es
+
+-- what judging a view of n entries comes to: how many prefixes are missing, and the findings with its LG-03
+pub record JudgedAs (ps : Bytes) (count : ℕ) (s : Bytes) (n node : ℕ) (t : Bytes) (held missing held′ : ℕ) (t′ : Bytes) : Type 0 where
+  pub lack : missing ≡ missingFrom (prefixRow ps) count 0 0 1 (front (entriesAt s firstEntry n))
+  pub most : missing ≤ 256
+  pub holds : held′ ≡ heldAll t held (notesFrom (prefixRow ps) count node 0 0 1 (front (entriesAt s firstEntry n)))
+  pub few : held′ ≤ 129
+  pub table : t′ ≡ bytesAll t held (notesFrom (prefixRow ps) count node 0 0 1 (front (entriesAt s firstEntry n)))
+
+-- ---- written
+
+-- `extend`: an extension that is stored has its number, one that is not gets the next
+abbrev pub orNext : ℕ → ℕ → ℕ
+orNext k count = cond (eqb k 0) (count + 1) k
+
+-- the number of the stored extension of p by e in a history that holds n prefixes, or 0
+unfoldable pub extensionIn : Bytes → ℕ → ℕ → Entry → ℕ
+unfolding find
+extensionIn h n p e = find (prefixRow (prefixesPart h)) n (rowOf p 0 e)
+
+-- the content as it is stored, in 32 bytes
+abbrev pub storedContent : Entry → Bytes
+storedContent e = e .content ++ replicate (32 - length (e .content)) 0
+
+-- the history with the extension of p by e to index i as its row n
+unfoldable pub appended : Bytes → ℕ → ℕ → ℕ → Entry → Bytes
+appended h n p i e =
+    putBytes (putBytes h (3145 + n * 41) (prefixBytes p i (e .term) (length (e .content)) (storedContent e))) 0 (wordBytes 2 (n + 1))
+
+-- found or made: the history, how many prefixes it holds, and the number of the extension
+unfoldable pub extendedBytes : Bytes → ℕ → ℕ → ℕ → Entry → Bytes
+unfolding extensionIn appended
+extendedBytes h n p i e = cond (eqb (extensionIn h n p e) 0) (appended h n p i e) h
+
+unfoldable pub extendedCount : Bytes → ℕ → ℕ → Entry → ℕ
+unfolding extensionIn
+extendedCount h n p e = cond (eqb (extensionIn h n p e) 0) (n + 1) n
+
+unfoldable pub extendedNumber : Bytes → ℕ → ℕ → Entry → ℕ
+unfolding extensionIn
+extendedNumber h n p e = orNext (extensionIn h n p e) n
+
+-- the entries of a front, from index i on, one after the other
+unfoldable pub writtenBytes : Bytes → ℕ → ℕ → ℕ → List Entry → Bytes
+unfolding extendedBytes extendedCount extendedNumber
+writtenBytes h n p i [] = h
+writtenBytes h n p i (e ∷ es) = writtenBytes (extendedBytes h n p i e) (extendedCount h n p e) (extendedNumber h n p e) (i + 1) es
+
+unfoldable pub writtenCount : Bytes → ℕ → ℕ → ℕ → List Entry → ℕ
+unfolding extendedBytes extendedCount extendedNumber
+writtenCount h n p i [] = n
+writtenCount h n p i (e ∷ es) = writtenCount (extendedBytes h n p i e) (extendedCount h n p e) (extendedNumber h n p e) (i + 1) es
+
+unfoldable pub writtenNumber : Bytes → ℕ → ℕ → ℕ → List Entry → ℕ
+unfolding extendedBytes extendedCount extendedNumber
+writtenNumber h n p i [] = p
+writtenNumber h n p i (e ∷ es) = writtenNumber (extendedBytes h n p i e) (extendedCount h n p e) (extendedNumber h n p e) (i + 1) es
+
+-- what `extend` asks: a history of the right length, with room for the extension
+pub record Extending (h : Bytes) (n p : ℕ) (e : ShownEntry) : Type 0 where
+  pub long : length h ≡ 24137
+  pub number : p ≤ n
+  pub room : extendedCount h n p (entryValue e) ≤ 512
+  pub fits : n ≤ 512
+  pub short : e .length ≤ 32
+  pub padded : e .content ≡ storedContent (entryValue e)
+
+-- and what it does
+pub record ExtendedAs (h : Bytes) (n p : ℕ) (e : ShownEntry) (number count : ℕ) (h′ : Bytes) : Type 0 where
+  pub is : number ≡ extendedNumber h n p (entryValue e)
+  pub holds : count ≡ extendedCount h n p (entryValue e)
+  pub bytes : h′ ≡ extendedBytes h n p (e .index .0) (entryValue e)
+
+-- what storing the front of a view of m entries asks: room for its prefixes
+pub record Storing (h : Bytes) (n : ℕ) (s : Bytes) (m : ℕ) : Type 0 where
+  pub long : length h ≡ 24137
+  pub walk : Walk s firstEntry m
+  pub fits : n ≤ 512
+  pub room : writtenCount h n 0 1 (front (entriesAt s firstEntry m)) ≤ 512
+
+-- and what it does: the number of the front, and the history
+pub record StoredAs (h : Bytes) (n : ℕ) (s : Bytes) (m number : ℕ) (h′ : Bytes) : Type 0 where
+  pub is : number ≡ writtenNumber h n 0 1 (front (entriesAt s firstEntry m))
+  pub bytes : h′ ≡ writtenBytes h n 0 1 (front (entriesAt s firstEntry m))
+  pub long : length h′ ≡ 24137
+
+-- "an accepted view replaces the node's earlier one": the node's row, its unseen mark as it was
+unfoldable pub viewReplaced : Bytes → ℕ → ℕ → ℕ → Bytes
+viewReplaced h k front last =
+    putBytes h (9 + k * 6) (nodeBytes (record { front = front; last = last; unseen = nodeRow (nodesPart h) k .unseen }))
+
+-- the findings' table written back, with its count
+unfoldable pub findingsKept : Bytes → Bytes → ℕ → Bytes
+findingsKept h t n = putBytes (putBytes h 2121 t) 7 (wordBytes 1 n)
+
+-- ---- a view as a whole
+
+-- an accepted view is written: its prefixes, the node's row, the findings
+unfoldable pub viewWritten : Bytes → ℕ → Bytes → ℕ → ℕ → Bytes → ℕ → Bytes
+unfolding writtenBytes writtenNumber viewReplaced findingsKept
+viewWritten h n s m node t held =
+    let es = entriesAt s firstEntry m in
+    findingsKept (viewReplaced (writtenBytes h n 0 1 (front es)) node (writtenNumber h n 0 1 (front es)) (lastIndex es)) t held
+
+-- how many prefixes of its front are not stored
+unfoldable pub missingIn : Bytes → Bytes → ℕ → ℕ
+unfolding missingFrom
+missingIn h s m = missingFrom (prefixRow (prefixesPart h)) (wordAt h 0 2) 0 0 1 (front (entriesAt s firstEntry m))
+
+-- its LG-03
+unfoldable pub notesIn : Bytes → Bytes → ℕ → ℕ → List Finding
+unfolding notesFrom
+notesIn h s m node = notesFrom (prefixRow (prefixesPart h)) (wordAt h 0 2) node 0 0 1 (front (entriesAt s firstEntry m))
+
+-- the findings with them: how many, and the table
+unfoldable pub heldIn : Bytes → Bytes → ℕ → ℕ → ℕ
+unfolding heldAll notesIn
+heldIn h s m node = heldAll (findingsPart h) (wordAt h 7 1) (notesIn h s m node)
+
+unfoldable pub tableIn : Bytes → Bytes → ℕ → ℕ → Bytes
+unfolding bytesAll notesIn
+tableIn h s m node = bytesAll (findingsPart h) (wordAt h 7 1) (notesIn h s m node)
+
+-- 6 before 7, each before anything is written
+unfoldable pub observed : ℕ → Bytes → Bytes → ℕ → ℕ → Observed
+unfolding missingIn heldIn
+observed limit h s m node =
+    cond (ltb limit (wordAt h 0 2 + missingIn h s m)) Observed.PrefixesFull (cond (ltb 128 (heldIn h s m node)) Observed.FindingsFull Observed.Accepted)
+
+-- the history after it
+unfoldable pub observedBytes : ℕ → Bytes → Bytes → ℕ → ℕ → Bytes
+unfolding missingIn heldIn tableIn viewWritten
+observedBytes limit h s m node =
+    cond (ltb limit (wordAt h 0 2 + missingIn h s m)) h
+    (cond (ltb 128 (heldIn h s m node)) h (viewWritten h (wordAt h 0 2) s m node (tableIn h s m node) (heldIn h s m node)))
+
+-- well-formed storage, and a readable view of m entries of a node
+pub record Observing (h s : Bytes) (m node : ℕ) : Type 0 where
+  pub right : wellFormed h ≡ true
+  pub walk : Walk s firstEntry m
+  pub isNode : node < 64
+
+-- what judging a view comes to
+pub record ViewJudged (h s : Bytes) (m node missing held : ℕ) (t : Bytes) : Type 0 where
+  pub lack : missing ≡ missingIn h s m
+  pub most : missing ≤ 256
+  pub holds : held ≡ heldIn h s m node
+  pub few : held ≤ 129
+  pub table : t ≡ tableIn h s m node

@@ -1,0 +1,6 @@
+// Logs as prefixes, after logical_log of the Rust: prefixes stored once and told by number, their comparison, and the
+// observation of a view.
+pub mod comparison;
+pub mod observation;
+pub mod prefix;
+pub mod violation;

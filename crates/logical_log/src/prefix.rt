@@ -1,0 +1,168 @@
+// Prefixes by number (types/prefix.rs): a prefix is a stored row, which extends the prefix of a smaller number by one entry;
+// 0 is the empty prefix.
+ghost use mathlib.Core.Path.{_≡_};
+ghost use Prim.Native.Nat.{_+_, _*_, _-_, _≤_, _<_};
+ghost use lib.ListN.{length};
+ghost use Rattle.storage.specs.Words.{bytesAt, putBytes, wordBytes};
+ghost use Rattle.storage.specs.Writes.{prefixBytes};
+ghost use Rattle.storage.specs.Tables.{prefixRow};
+ghost use Rattle.storage.specs.Rules.{sameBytes, sameRow};
+ghost use Rattle.logical_log.specs.Table.{Table, entryValue};
+ghost use Rattle.logical_log.specs.Observation.{Extending, ExtendedAs};
+ghost use Rattle.logical_log.specs.Prefix.{rowOf, find, isOf, first, sliceOf};
+use records::walk::ShownEntry;
+use storage::head::set_prefix_count;
+use storage::layout::PREFIX_WIDTH;
+use storage::layout::PREFIXES_LENGTH;
+use storage::layout::PREFIXES_START;
+use storage::layout::part;
+use storage::prefixes::index_at;
+use storage::prefixes::index_of;
+use storage::prefixes::parent_at;
+use storage::prefixes::set_prefix;
+use storage::prefixes::size_at;
+use storage::prefixes::term_at;
+use units::LogIndex;
+use units::Term;
+
+// A prefix through an index, or that the index is beyond its end.
+pub enum Slice {
+    Prefix(usize),
+    Beyond,
+}
+
+// The n bytes at `o` are the first n of the content.
+fn same_content(prefixes: &[u8], o: usize, content: [u8; 32], n: usize) -> bool
+    requires { ⌜ (n ≤ 32) × (o + n ≤ length (now prefixes)) ⌝ }
+    ensures { λ r. ⌜ r ≡ sameBytes (bytesAt (now (prefixes .entry)) o n) (bytesAt content 0 n) ⌝ }
+{
+    let mut i = 0;
+    while i < n {
+        if prefixes[o + i] != content[i] {
+            return false;
+        }
+        i += 1;
+    }
+    true
+}
+
+// Row k extends the prefix of number p by the entry (`matches_extension`).
+fn matches_extension(prefixes: &[u8], k: usize, p: usize, e: ShownEntry) -> bool
+    requires { ⌜ (k < 512) × (length (now prefixes) ≡ 20992) × (e .length ≤ 32) ⌝ }
+    ensures { λ r. ⌜ r ≡ sameRow (prefixRow (now (prefixes .entry)) k) (rowOf p 0 (entryValue e)) ⌝ }
+{
+    if parent_at(prefixes, k) != p {
+        return false;
+    }
+    if term_at(prefixes, k) != e.term.0 {
+        return false;
+    }
+    let n = e.length;
+    if size_at(prefixes, k) != n {
+        return false;
+    }
+    let content = e.content;
+    same_content(prefixes, k * PREFIX_WIDTH + 9, content, n)
+}
+
+// The number of the stored prefix that extends that of number p by the entry, or 0. It comes after p.
+pub fn find_extension(prefixes: &[u8], count: usize, p: usize, e: ShownEntry) -> usize
+    requires { ⌜ (count ≤ 512) × (p ≤ count) × (length (now prefixes) ≡ 20992) × (e .length ≤ 32) ⌝ }
+    ensures { λ r. ⌜ r ≡ find (prefixRow (now (prefixes .entry))) count (rowOf p 0 (entryValue e)) ⌝ }
+{
+    let mut k = p;
+    while k < count {
+        if matches_extension(prefixes, k, p, e) {
+            return k + 1;
+        }
+        k += 1;
+    }
+    0
+}
+
+// Row k is of the index and term.
+fn is_of(prefixes: &[u8], k: usize, index: LogIndex, term: Term) -> bool
+    requires { ⌜ (k < 512) × (length (now prefixes) ≡ 20992) ⌝ }
+    ensures { λ r. ⌜ r ≡ isOf (index .0) (term .0) (prefixRow (now (prefixes .entry)) k) ⌝ }
+{
+    if index_at(prefixes, k) != index.0 {
+        return false;
+    }
+    term_at(prefixes, k) == term.0
+}
+
+// The number of the first stored prefix of the index and term, or 0. A prefix's number is at least its index.
+pub fn first_of(prefixes: &[u8], count: usize, index: LogIndex, term: Term) -> usize
+    requires { ⌜ (count ≤ 512) × (length (now prefixes) ≡ 20992) × (1 ≤ index .0) ⌝ }
+    ensures { λ r. ⌜ r ≡ first (prefixRow (now (prefixes .entry))) count (index .0) (term .0) ⌝ }
+{
+    let mut k = index.0 - 1;
+    while k < count {
+        if is_of(prefixes, k, index, term) {
+            return k + 1;
+        }
+        k += 1;
+    }
+    0
+}
+
+// The prefix of number p through the index: nothing beyond its end, the empty prefix at zero.
+pub fn slice_through(prefixes: &[u8], count: usize, p: usize, through: LogIndex) -> Slice
+    requires { ⌜ Table (now prefixes) count × (p ≤ count) ⌝ }
+    ensures { λ r. ⌜ r ≡ sliceOf (prefixRow (now (prefixes .entry))) p (through .0) ⌝ }
+{
+    let i = through.0;
+    if index_of(prefixes, p) < i {
+        return Slice::Beyond;
+    }
+    let mut q = p;
+    while i < index_of(prefixes, q) {
+        q = parent_at(prefixes, q - 1);
+    }
+    Slice::Prefix(q)
+}
+
+// A prefix that was extended: its number, and how many prefixes are stored.
+pub struct Extended {
+    pub number: usize,
+    pub count: usize,
+}
+
+// The extension of the prefix of number p by the entry becomes row `count`.
+fn append(history: &mut [u8], count: usize, p: usize, e: ShownEntry)
+    requires { ⌜ (count < 512) × (length (now history) ≡ 24137) ⌝ }
+    ensures { λ r. ⌜ now (history .exit) ≡ putBytes (putBytes (now (history .entry)) (3145 + count * 41) (prefixBytes p (e .index .0) (e .term .0) (e .length) (e .content))) 0 (wordBytes 2 (count + 1)) ⌝ }
+{
+    let content = e.content;
+    set_prefix(
+        &mut history[..],
+        count,
+        p,
+        e.index,
+        e.term,
+        e.length,
+        &content,
+    );
+    set_prefix_count(&mut history[..], count + 1);
+}
+
+// The one step that lengthens a prefix: the extension of the prefix of number p by the entry is found or made.
+pub fn extend(history: &mut [u8], count: usize, p: usize, e: ShownEntry) -> Extended
+    requires { ⌜ Extending (now history) count p e ⌝ }
+    ensures { λ r. ⌜ ExtendedAs (now (history .entry)) count p e (r .number) (r .count) (now (history .exit)) ⌝ }
+{
+    let k = find_extension(
+        part(&history[..], PREFIXES_START, PREFIXES_LENGTH),
+        count,
+        p,
+        e,
+    );
+    if k != 0 {
+        return Extended { number: k, count };
+    }
+    append(&mut history[..], count, p, e);
+    Extended {
+        number: count + 1,
+        count: count + 1,
+    }
+}
