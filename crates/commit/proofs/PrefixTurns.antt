@@ -1,0 +1,273 @@
+-- What the functions on committed prefixes answer and leave, by what they read.
+-- Assumes nothing.
+use Prim.Native.Nat.{ℕ, zero, suc, _+_, _*_, _≤_, _<_}
+use native.Mathlib.Omega.{arith}
+use mathlib.Core.Path.{_≡_, refl, sym, _∙_, ap, subst, subst₂}
+use mathlib.Core.Bool.{Bool, true, false}
+use mathlib.Core.Logic.{⊎-elim}
+use lib.Dec.{ltb, eqb}
+use lib.ListN.{length}
+use borrow.Author.Tests.{eq-eqb, ne-eqb, lt-ltb, le-ltb}
+use Rattle.model.specs.Sizes.{Bytes}
+use Rattle.model.proofs.Tests.{cond-cases, cond-true, cond-false}
+use Rattle.storage.specs.Words.{wordAt, wordBytes, putBytes}
+use Rattle.storage.specs.Tables.{NodeRow, nodeRow, prefixRow, prefixRows, nodesPart, findingsPart, prefixesPart}
+use Rattle.storage.specs.Values.{numberIndex}
+use Rattle.storage.specs.Writes.{nodeBytes, committedSet}
+use Rattle.storage.proofs.WordLaws.{put-length}
+use Rattle.storage.proofs.PartLaws.{put-whole}
+use Rattle.logical_log.specs.Table.{Table}
+use Rattle.logical_log.specs.Prefix.{sliceOf}
+use Rattle.logical_log.specs.Comparison.{sameFrom}
+use Rattle.logical_log.specs.Violation.{noteHeld, noteBytes}
+use Rattle.logical_log.specs.declared.prefix.Slice.{Slice}
+use Rattle.logical_log.proofs.TableLaws.{rows-length, rows-at, table-facts}
+use Rattle.logical_log.proofs.SliceLaws.{slice-cases}
+use Rattle.logical_log.proofs.ViolationLaws.{note-length}
+use Rattle.commit.specs.Prefix.{rowsOf, keptOf, nodeOf, seenOf, longerIn, endIn, sameSlices, agreeIn, flagsOf, unseenSet, keepBytes, findingsSet, difference, heldWith, tableWith, noteAnswer, noteLeaves, insertAnswer, insertLeaves, keptAnswer, keptLeaves, seenAnswer, seenLeaves, commitAnswer, commitBytes, Noted, Inserted, Observed}
+use Rattle.commit.specs.declared.prefix.Kept.{Kept}
+use Rattle.commit.specs.declared.prefix.CommitAnswer.{CommitAnswer}
+use Rattle.commit.proofs.Formed.{Formed}
+
+-- ---- the table of prefixes, as it is lent
+
+pub table-lent : (h q : Bytes) (n : ℕ) → Formed h → q ≡ prefixesPart h → n ≡ wordAt h 0 2 → Table q n
+table-lent h q n f e m = subst₂ Table (sym e) (sym m) (f .table)
+
+-- a part of a stored prefix is stored
+pub slice-within : (h : Bytes) (p i q : ℕ) → Formed h → p ≤ wordAt h 0 2 → sliceOf (rowsOf h) p i ≡ Slice.Prefix q → q ≤ wordAt h 0 2
+slice-within h p i q f l e =
+    let n = wordAt h 0 2 in
+    let t = prefixesPart h in
+    let size = rows-length t n in
+    ⊎-elim (λ b. absurd (let b0 = b .0 in let z : _≡_ {A = ℕ} 0 1 = cc in omega arith))
+    (λ b.
+    let b1 = b .1 in
+    let same : q ≡ b .0 = cc in
+    let w = b .3 in
+    omega arith)
+    (slice-cases (prefixRow t) (prefixRows t n) (table-facts t n (f .table)) (rows-at t n) p i (omega arith))
+
+-- ---- seen
+
+module _ (h : Bytes) (n : ℕ) (q : Bytes) (eq : q ≡ nodesPart h) (x : NodeRow) (ex : x ≡ nodeRow q n) where
+  node-read : x ≡ nodeOf h n
+  node-read = ex ∙ ap (λ (r : Bytes). nodeRow r n) eq
+
+  pub front-within : Formed h → n < 64 → x .front ≤ wordAt h 0 2
+  front-within f l = subst (λ (y : NodeRow). y .front ≤ wordAt h 0 2) (sym node-read) (f .node n l .front)
+
+  pub seen-is : (u : Bytes) → u ≡ prefixesPart h → (i : ℕ) (r : Slice) → r ≡ sliceOf (prefixRow u) (x .front) i → r ≡ seenOf h n i
+  unfolding seenOf
+  seen-is u eu i r e =
+      e ∙ ap (λ (y : Bytes). sliceOf (prefixRow y) (x .front) i) eu ∙ ap (λ (y : NodeRow). sliceOf (rowsOf h) (y .front) i) node-read
+
+  pub unseen-is : (m : ℕ) (u : Bytes) → u ≡ putBytes h (9 + n * 6) (nodeBytes (record { front = x .front; last = x .last; unseen = m })) → u ≡ unseenSet h n m
+  unfolding unseenSet
+  unseen-is m u e =
+      e ∙ ap (λ (y : NodeRow). putBytes h (9 + n * 6) (nodeBytes (record { front = y .front; last = y .last; unseen = m }))) node-read
+
+pub seen-within : (h : Bytes) (n i p : ℕ) → Formed h → n < 64 → seenOf h n i ≡ Slice.Prefix p → p ≤ wordAt h 0 2
+unfolding seenOf
+seen-within h n i p f l e = slice-within h (nodeOf h n .front) i p f (f .node n l .front) e
+
+-- ---- compared
+
+module _ (h : Bytes) (a b : ℕ) (q : Bytes) (eq : q ≡ prefixesPart h) (i : ℕ) (ei : i ≡ numberIndex q a) (j : ℕ) (ej : j ≡ numberIndex q b) where
+  pub longer-is : ltb i j ≡ longerIn h a b
+  unfolding longerIn numberIndex
+  longer-is = (λ z. ltb (ei z) (ej z)) ∙ ap (λ (u : Bytes). ltb (numberIndex u a) (numberIndex u b)) eq
+
+  first-end : i ≡ numberIndex (prefixesPart h) a
+  first-end = ei ∙ ap (λ (u : Bytes). numberIndex u a) eq
+
+  second-end : j ≡ numberIndex (prefixesPart h) b
+  second-end = ej ∙ ap (λ (u : Bytes). numberIndex u b) eq
+
+  pub end-first : i < j → i ≡ endIn h a b
+  unfolding endIn numberIndex
+  end-first l = first-end ∙ sym (cond-true (longerIn h a b) _ _ (sym longer-is ∙ lt-ltb i j l))
+
+  pub end-second : j ≤ i → j ≡ endIn h a b
+  unfolding endIn numberIndex
+  end-second l = second-end ∙ sym (cond-false (longerIn h a b) _ _ (sym longer-is ∙ le-ltb i j l))
+
+module _ (h : Bytes) (a b i : ℕ) (q : Bytes) (eq : q ≡ prefixesPart h) (r : Slice) (er : r ≡ sliceOf (prefixRow q) a i) where
+  first-slice : sliceOf (rowsOf h) a i ≡ r
+  first-slice = sym (er ∙ ap (λ (u : Bytes). sliceOf (prefixRow u) a i) eq)
+
+  none-first : (s : Slice) → sameSlices (rowsOf h) Slice.Beyond s ≡ false
+  none-first (Slice.Prefix p) = refl
+  none-first Slice.Beyond = refl
+
+  pub agree-short : r ≡ Slice.Beyond → false ≡ agreeIn h a b i
+  unfolding agreeIn
+  agree-short e =
+      sym (ap (λ (x : Slice). sameSlices (rowsOf h) x (sliceOf (rowsOf h) b i)) (first-slice ∙ e) ∙ none-first (sliceOf (rowsOf h) b i))
+
+  pub slice-kept : (p : ℕ) → Formed h → a ≤ wordAt h 0 2 → r ≡ Slice.Prefix p → p ≤ wordAt h 0 2
+  slice-kept p f l e = slice-within h a i p f l (first-slice ∙ e)
+
+  module _ (p : ℕ) (e : r ≡ Slice.Prefix p) (s : Slice) (es : s ≡ sliceOf (prefixRow q) b i) where
+    both-slices : agreeIn h a b i ≡ sameSlices (rowsOf h) (Slice.Prefix p) s
+    unfolding agreeIn
+    both-slices =
+        ap (λ (x : Slice). sameSlices (rowsOf h) x (sliceOf (rowsOf h) b i)) (first-slice ∙ e)
+        ∙ ap (sameSlices (rowsOf h) (Slice.Prefix p)) (sym (es ∙ ap (λ (u : Bytes). sliceOf (prefixRow u) b i) eq))
+
+    pub agree-short-2 : s ≡ Slice.Beyond → false ≡ agreeIn h a b i
+    agree-short-2 g = sym (both-slices ∙ ap (sameSlices (rowsOf h) (Slice.Prefix p)) g)
+
+    pub agree-same : (p′ : ℕ) → s ≡ Slice.Prefix p′ → (v : Bool) → v ≡ sameFrom (prefixRow q) p p p′ → v ≡ agreeIn h a b i
+    agree-same p′ g v w =
+        w ∙ ap (λ (u : Bytes). sameFrom (prefixRow u) p p p′) eq ∙ sym (both-slices ∙ ap (sameSlices (rowsOf h) (Slice.Prefix p)) g)
+
+-- ---- lengths
+
+pub unseen-length : (h : Bytes) (n m : ℕ) → length (unseenSet h n m) ≡ length h
+unfolding unseenSet
+unseen-length h n m = put-length h (9 + n * 6) (nodeBytes (record { front = nodeOf h n .front; last = nodeOf h n .last; unseen = m }))
+
+pub keep-length : (h : Bytes) (n p : ℕ) → length (keepBytes h n p) ≡ length h
+unfolding keepBytes committedSet
+keep-length h n p =
+    put-length (putBytes (unseenSet h n 0) 4 (wordBytes 2 p)) 8 (wordBytes 1 n) ∙ put-length (unseenSet h n 0) 4 (wordBytes 2 p) ∙ unseen-length h n 0
+
+pub findings-length : (h t : Bytes) (m : ℕ) → length (findingsSet h t m) ≡ length h
+unfolding findingsSet
+findings-length h t m = put-length _ 7 (wordBytes 1 m) ∙ put-length h 2121 t
+
+pub note-leaves-length : (h : Bytes) (n i : ℕ) → length (noteLeaves h n i) ≡ length h
+unfolding noteLeaves
+note-leaves-length h n i =
+    cond-cases (λ (u : Bytes). length u ≡ length h) (ltb 128 (heldWith h n i)) h _ (λ _. refl)
+    (λ _. unseen-length (findingsSet h (tableWith h n i) (heldWith h n i)) n 0 ∙ findings-length h (tableWith h n i) (heldWith h n i))
+
+pub insert-leaves-length : (h : Bytes) (n c p : ℕ) → length (insertLeaves h n c p) ≡ length h
+unfolding insertLeaves
+insert-leaves-length h n c p =
+    cond-cases (λ (u : Bytes). length u ≡ length h) (agreeIn h c p (endIn h c p)) _ _
+    (λ _. cond-cases (λ (u : Bytes). length u ≡ length h) (longerIn h c p) _ _ (λ _. keep-length h n p) (λ _. unseen-length h n 0))
+    (λ _. note-leaves-length h n (endIn h c p))
+
+-- ---- a difference noted
+
+module _ (h : Bytes) (n i : ℕ) (q : Bytes) (eq : q ≡ findingsPart h) (size : length q ≡ 1024) (z : Bytes) (room : length z ≡ 1024) (t : Bytes) (et : t ≡ putBytes z 0 q)
+    (held : ℕ) (eh : held ≡ wordAt h 7 1) (m : ℕ) (u : Bytes) (em : (m ≡ noteHeld t held (difference n i)) × (u ≡ noteBytes t held (difference n i))) where
+  table-is : t ≡ findingsPart h
+  table-is = et ∙ put-whole z q (size ∙ sym room) ∙ eq
+
+  held-is : m ≡ heldWith h n i
+  unfolding heldWith
+  held-is = em .0 ∙ (λ y. noteHeld (table-is y) (eh y) (difference n i))
+
+  noted-is : u ≡ tableWith h n i
+  unfolding tableWith
+  noted-is = em .1 ∙ (λ y. noteBytes (table-is y) (eh y) (difference n i))
+
+  pub note-room : length u ≡ 1024
+  note-room = ap length (em .1) ∙ note-length t held (difference n i) ∙ ap length et ∙ put-length z 0 q ∙ room
+
+  pub note-full : 128 < m → Noted h n i CommitAnswer.FindingsFull h
+  unfolding noteAnswer noteLeaves
+  note-full l =
+      let f : ltb 128 (heldWith h n i) ≡ true = ap (ltb 128) (sym held-is) ∙ lt-ltb 128 m l in
+      record { answers = sym (cond-true (ltb 128 (heldWith h n i)) _ _ f); leaves = sym (cond-true (ltb 128 (heldWith h n i)) h _ f) }
+
+  pub note-so : m ≤ 128 → (v : Bytes) → v ≡ findingsSet h u m → (w : Bytes) → w ≡ unseenSet v n 0 → Noted h n i (CommitAnswer.Accepted 0) w
+  unfolding noteAnswer noteLeaves
+  note-so l v ev w ew =
+      let f : ltb 128 (heldWith h n i) ≡ false = ap (ltb 128) (sym held-is) ∙ le-ltb 128 m l in
+      record {
+        answers = sym (cond-false (ltb 128 (heldWith h n i)) _ _ f);
+        leaves =
+            ew ∙ ap (λ (y : Bytes). unseenSet y n 0) (ev ∙ (λ y. findingsSet h (noted-is y) (held-is y)))
+            ∙ sym (cond-false (ltb 128 (heldWith h n i)) h _ f);
+      }
+
+-- ---- held against the committed prefix
+
+module _ (h : Bytes) (n c p i : ℕ) (ei : i ≡ endIn h c p) (b : Bool) (eb : b ≡ agreeIn h c p i) where
+  agree-is : agreeIn h c p (endIn h c p) ≡ b
+  agree-is = ap (agreeIn h c p) (sym ei) ∙ sym eb
+
+  pub insert-differs : b ≡ false → (r : CommitAnswer) (h′ : Bytes) → Noted h n i r h′ → Inserted h n c p r h′
+  unfolding insertAnswer insertLeaves
+  insert-differs f r h′ w =
+      record {
+        answers = w .answers ∙ ap (noteAnswer h n) ei ∙ sym (cond-false (agreeIn h c p (endIn h c p)) _ _ (agree-is ∙ f));
+        leaves = w .leaves ∙ ap (noteLeaves h n) ei ∙ sym (cond-false (agreeIn h c p (endIn h c p)) _ _ (agree-is ∙ f));
+      }
+
+  module _ (f : b ≡ true) (o v : ℕ) (eo : o ≡ wordAt h 8 1) (ev : v ≡ flagsOf o n) (l : Bool) (el : l ≡ longerIn h c p) where
+    flags-are : CommitAnswer.Accepted v ≡ insertAnswer h n c p
+    unfolding insertAnswer
+    flags-are =
+        ap CommitAnswer.Accepted (ev ∙ ap (λ (y : ℕ). flagsOf y n) eo)
+        ∙ sym (cond-true (agreeIn h c p (endIn h c p)) _ _ (agree-is ∙ f))
+
+    pub insert-longer : l ≡ true → (h′ : Bytes) → h′ ≡ keepBytes h n p → Inserted h n c p (CommitAnswer.Accepted v) h′
+    unfolding insertLeaves
+    insert-longer g h′ w =
+        record {
+          answers = flags-are;
+          leaves = w ∙ sym (cond-true (agreeIn h c p (endIn h c p)) _ _ (agree-is ∙ f) ∙ cond-true (longerIn h c p) _ _ (sym el ∙ g));
+        }
+
+    pub insert-shorter : l ≡ false → (h′ : Bytes) → h′ ≡ unseenSet h n 0 → Inserted h n c p (CommitAnswer.Accepted v) h′
+    unfolding insertLeaves
+    insert-shorter g h′ w =
+        record {
+          answers = flags-are;
+          leaves = w ∙ sym (cond-true (agreeIn h c p (endIn h c p)) _ _ (agree-is ∙ f) ∙ cond-false (longerIn h c p) _ _ (sym el ∙ g));
+        }
+
+-- ---- observed
+
+module _ (h : Bytes) (n i : ℕ) (s : Slice) (es : s ≡ seenOf h n i) where
+  pub observe-unseen : s ≡ Slice.Beyond → (h′ : Bytes) → h′ ≡ unseenSet h n i → Observed h n i (CommitAnswer.Accepted 0) h′
+  unfolding commitAnswer commitBytes
+  observe-unseen e h′ w =
+      record {
+        answers = sym (ap (seenAnswer h n) (sym es ∙ e));
+        leaves = w ∙ sym (ap (seenLeaves h n i) (sym es ∙ e));
+      }
+
+  module _ (p : ℕ) (e : s ≡ Slice.Prefix p) where
+    pub observe-zero : p ≡ 0 → (h′ : Bytes) → h′ ≡ unseenSet h n 0 → Observed h n i (CommitAnswer.Accepted 0) h′
+    unfolding commitAnswer commitBytes
+    observe-zero z h′ w =
+        record {
+          answers = sym (ap (seenAnswer h n) (sym es ∙ e) ∙ cond-true (eqb p 0) _ _ (eq-eqb p 0 z));
+          leaves = w ∙ sym (ap (seenLeaves h n i) (sym es ∙ e) ∙ cond-true (eqb p 0) _ _ (eq-eqb p 0 z));
+        }
+
+    module _ (z : p ≡ 0 → ⊥) (k : Kept) (ek : k ≡ keptOf (wordAt h 4 2)) where
+      answer-is : commitAnswer h n i ≡ keptAnswer h n p k
+      unfolding commitAnswer
+      answer-is = ap (seenAnswer h n) (sym es ∙ e) ∙ cond-false (eqb p 0) _ _ (ne-eqb p 0 z) ∙ ap (keptAnswer h n p) (sym ek)
+
+      bytes-are : commitBytes h n i ≡ keptLeaves h n p k
+      unfolding commitBytes
+      bytes-are = ap (seenLeaves h n i) (sym es ∙ e) ∙ cond-false (eqb p 0) _ _ (ne-eqb p 0 z) ∙ ap (keptLeaves h n p) (sym ek)
+
+      pub observe-first : k ≡ Kept.Nothing → (h′ : Bytes) → h′ ≡ keepBytes h n p → Observed h n i (CommitAnswer.Accepted 0) h′
+      observe-first g h′ w =
+          record { answers = sym (answer-is ∙ ap (keptAnswer h n p) g); leaves = w ∙ sym (bytes-are ∙ ap (keptLeaves h n p) g) }
+
+      pub observe-later : (c : ℕ) → k ≡ Kept.Prefix c → (r : CommitAnswer) (h′ : Bytes) → Inserted h n c p r h′ → Observed h n i r h′
+      observe-later c g r h′ w =
+          record {
+            answers = w .answers ∙ sym (answer-is ∙ ap (keptAnswer h n p) g);
+            leaves = w .leaves ∙ sym (bytes-are ∙ ap (keptLeaves h n p) g);
+          }
+
+      pub committed-within : Formed h → (c : ℕ) → k ≡ Kept.Prefix c → c ≤ wordAt h 0 2
+      committed-within f c g = within (wordAt h 4 2) c (f .committed) (sym ek ∙ g)
+        where
+          within : (x y : ℕ) → x ≤ wordAt h 0 2 → keptOf x ≡ Kept.Prefix y → y ≤ wordAt h 0 2
+          within zero y l q = absurd (let v : _≡_ {A = ℕ} 0 1 = cc in omega arith)
+          within (suc x) y l q =
+              let d : Kept.Prefix (suc x) ≡ Kept.Prefix y = sym (cond-false (eqb (suc x) 0) Kept.Nothing (Kept.Prefix (suc x)) (ne-eqb (suc x) 0 (λ o. omega arith))) ∙ q in
+              let same : suc x ≡ y = cc in
+              omega arith

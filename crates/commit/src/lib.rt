@@ -1,0 +1,5 @@
+// What is committed, after commit/prefix.rs of the Rust: the committed prefix, the terms in which indexes were committed, and
+// the marks of the certificates that a late term lowers.
+pub mod marks;
+pub mod prefix;
+pub mod terms;

@@ -1,0 +1,229 @@
+// Committed prefixes (`observe_committed_prefixes`, `insert_committed_prefix`): one is kept, and each later one must agree with
+// it through the shorter end. A prefix that the node's front does not reach is marked unseen, never assumed.
+ghost use mathlib.Core.Path.{_≡_};
+ghost use mathlib.Core.Bool.{true};
+ghost use Prim.Native.Nat.{_≤_, _<_};
+ghost use lib.ListN.{length};
+ghost use Rattle.storage.specs.Words.{wordAt};
+ghost use Rattle.storage.specs.Rules.{wellFormed};
+ghost use Rattle.commit.specs.Prefix.{keptOf, seenOf, unseenSet, endIn, longerIn, agreeIn, flagsOf, keepBytes, findingsSet, Noted, Inserted, Observed};
+use logical_log::comparison::same_prefix;
+use logical_log::prefix::Slice;
+use logical_log::prefix::slice_through;
+use logical_log::violation::note;
+use storage::findings::Found;
+use storage::head::committed_number;
+use storage::head::finding_count;
+use storage::head::owner_number;
+use storage::head::prefix_count;
+use storage::head::set_committed;
+use storage::head::set_finding_count;
+use storage::layout::FINDINGS_LENGTH;
+use storage::layout::FINDINGS_START;
+use storage::layout::NODES_LENGTH;
+use storage::layout::NODES_START;
+use storage::layout::PREFIXES_LENGTH;
+use storage::layout::PREFIXES_START;
+use storage::layout::part;
+use storage::nodes::Node;
+use storage::nodes::node_at;
+use storage::nodes::set_node;
+use storage::prefixes::index_of;
+use storage::words::put_bytes;
+use units::FINDING_LIMIT;
+use units::LogIndex;
+use units::NodeId;
+use units::Term;
+
+// The number of the committed prefix, or that none is kept.
+pub enum Kept {
+    Prefix(usize),
+    Nothing,
+}
+
+// What observing a node's commit index answers.
+pub enum CommitAnswer {
+    // The sum of its flags: 1 for agreement with the committed prefix, 2 where its owner is another node.
+    Accepted(usize),
+    // The findings would exceed their limit: refusal 7.
+    FindingsFull,
+}
+
+pub fn committed_prefix(history: &[u8]) -> Kept
+    requires { ⌜ 9 ≤ length (now history) ⌝ }
+    ensures { λ r. ⌜ r ≡ keptOf (wordAt (now (history .entry)) 4 2) ⌝ }
+{
+    let p = committed_number(history);
+    if p == 0 {
+        return Kept::Nothing;
+    }
+    Kept::Prefix(p)
+}
+
+// The node's front through the index.
+fn seen_prefix(history: &[u8], node: NodeId, index: LogIndex) -> Slice
+    requires { ⌜ (wellFormed (now history) ≡ true) × (node .0 < 64) ⌝ }
+    ensures { λ r. ⌜ r ≡ seenOf (now (history .entry)) (node .0) (index .0) ⌝ }
+{
+    let x = node_at(part(history, NODES_START, NODES_LENGTH), node.0 as usize);
+    let count = prefix_count(history);
+    slice_through(
+        part(history, PREFIXES_START, PREFIXES_LENGTH),
+        count,
+        x.front,
+        index,
+    )
+}
+
+// The node's unseen mark.
+fn set_unseen(history: &mut [u8], node: NodeId, mark: LogIndex)
+    requires { ⌜ (node .0 < 64) × (length (now history) ≡ 24137) ⌝ }
+    ensures { λ r. ⌜ now (history .exit) ≡ unseenSet (now (history .entry)) (node .0) (mark .0) ⌝ }
+{
+    let k = node.0 as usize;
+    let x = node_at(part(&history[..], NODES_START, NODES_LENGTH), k);
+    let last = x.last;
+    set_node(
+        &mut history[..],
+        k,
+        Node {
+            front: x.front,
+            last,
+            unseen: mark,
+        },
+    );
+}
+
+// The shorter end of two prefixes.
+fn shorter_end(history: &[u8], a: usize, b: usize) -> LogIndex
+    requires { ⌜ (a ≤ 512) × (b ≤ 512) × (length (now history) ≡ 24137) ⌝ }
+    ensures { λ r. ⌜ r .0 ≡ endIn (now (history .entry)) a b ⌝ }
+{
+    let prefixes = part(history, PREFIXES_START, PREFIXES_LENGTH);
+    let i = index_of(prefixes, a);
+    let j = index_of(prefixes, b);
+    if i < j { LogIndex(i) } else { LogIndex(j) }
+}
+
+// The second of two prefixes is the longer one.
+fn is_longer(history: &[u8], a: usize, b: usize) -> bool
+    requires { ⌜ (a ≤ 512) × (b ≤ 512) × (length (now history) ≡ 24137) ⌝ }
+    ensures { λ r. ⌜ r ≡ longerIn (now (history .entry)) a b ⌝ }
+{
+    let prefixes = part(history, PREFIXES_START, PREFIXES_LENGTH);
+    index_of(prefixes, a) < index_of(prefixes, b)
+}
+
+// Two prefixes are the same through the index, which both reach.
+fn agree_through(history: &[u8], a: usize, b: usize, through: LogIndex) -> bool
+    requires { ⌜ (wellFormed (now history) ≡ true) × (a ≤ wordAt (now history) 0 2) × (b ≤ wordAt (now history) 0 2) ⌝ }
+    ensures { λ r. ⌜ r ≡ agreeIn (now (history .entry)) a b (through .0) ⌝ }
+{
+    let prefixes = part(history, PREFIXES_START, PREFIXES_LENGTH);
+    let count = prefix_count(history);
+    let Slice::Prefix(p) = slice_through(prefixes, count, a, through) else {
+        return false;
+    };
+    let Slice::Prefix(q) = slice_through(prefixes, count, b, through) else {
+        return false;
+    };
+    same_prefix(prefixes, count, p, q)
+}
+
+// The flags of agreement with the committed prefix of the owner.
+fn flags(owner: usize, node: NodeId) -> usize
+    ensures { λ r. ⌜ r ≡ flagsOf owner (node .0) ⌝ }
+{
+    if owner == node.0 as usize { 1 } else { 3 }
+}
+
+// The prefix seen becomes the committed one, and the node its owner.
+fn keep(history: &mut [u8], node: NodeId, p: usize)
+    requires { ⌜ (node .0 < 64) × (length (now history) ≡ 24137) ⌝ }
+    ensures { λ r. ⌜ now (history .exit) ≡ keepBytes (now (history .entry)) (node .0) p ⌝ }
+{
+    set_unseen(&mut history[..], node, LogIndex::ZERO);
+    set_committed(&mut history[..], p, node);
+}
+
+// The table of findings and how many it holds.
+fn set_findings(history: &mut [u8], findings: &[u8], n: usize)
+    requires { ⌜ (length (now findings) ≡ 1024) × (length (now history) ≡ 24137) ⌝ }
+    ensures { λ r. ⌜ now (history .exit) ≡ findingsSet (now (history .entry)) (now (findings .entry)) n ⌝ }
+{
+    put_bytes(&mut history[..], FINDINGS_START, findings);
+    set_finding_count(&mut history[..], n);
+}
+
+// A difference adds LG-04 and changes nothing else.
+fn note_difference(history: &mut [u8], node: NodeId, through: LogIndex) -> CommitAnswer
+    requires { ⌜ (wellFormed (now history) ≡ true) × (node .0 < 64) ⌝ }
+    ensures { λ r. ⌜ Noted (now (history .entry)) (node .0) (through .0) r (now (history .exit)) ⌝ }
+{
+    let mut findings = [0u8; 1024];
+    put_bytes(
+        &mut findings,
+        0,
+        part(&history[..], FINDINGS_START, FINDINGS_LENGTH),
+    );
+    let held = finding_count(&history[..]);
+    let n = note(
+        &mut findings,
+        held,
+        Found {
+            name: 4,
+            node,
+            index: through,
+            term: Term::ZERO,
+        },
+    );
+    if FINDING_LIMIT < n {
+        return CommitAnswer::FindingsFull;
+    }
+    set_findings(&mut history[..], &findings, n);
+    set_unseen(&mut history[..], node, LogIndex::ZERO);
+    CommitAnswer::Accepted(0)
+}
+
+// The prefix seen is compared with the committed one; a longer one replaces it.
+fn insert_committed_prefix(
+    history: &mut [u8],
+    node: NodeId,
+    committed: usize,
+    seen: usize,
+) -> CommitAnswer
+    requires { ⌜ (wellFormed (now history) ≡ true) × (node .0 < 64) × (committed ≤ wordAt (now history) 0 2) × (seen ≤ wordAt (now history) 0 2) ⌝ }
+    ensures { λ r. ⌜ Inserted (now (history .entry)) (node .0) committed seen r (now (history .exit)) ⌝ }
+{
+    let through = shorter_end(&history[..], committed, seen);
+    if !agree_through(&history[..], committed, seen, through) {
+        return note_difference(&mut history[..], node, through);
+    }
+    let sum = flags(owner_number(&history[..]), node);
+    if is_longer(&history[..], committed, seen) {
+        keep(&mut history[..], node, seen);
+        return CommitAnswer::Accepted(sum);
+    }
+    set_unseen(&mut history[..], node, LogIndex::ZERO);
+    CommitAnswer::Accepted(sum)
+}
+
+// A node's commit index: the committed prefix that it shows is unseen, kept, or compared.
+pub fn observe_committed_prefixes(history: &mut [u8], node: NodeId, index: LogIndex) -> CommitAnswer
+    requires { ⌜ (wellFormed (now history) ≡ true) × (node .0 < 64) ⌝ }
+    ensures { λ r. ⌜ Observed (now (history .entry)) (node .0) (index .0) r (now (history .exit)) ⌝ }
+{
+    let Slice::Prefix(seen) = seen_prefix(&history[..], node, index) else {
+        set_unseen(&mut history[..], node, index);
+        return CommitAnswer::Accepted(0);
+    };
+    if seen == 0 {
+        set_unseen(&mut history[..], node, LogIndex::ZERO);
+        return CommitAnswer::Accepted(0);
+    }
+    let Kept::Prefix(committed) = committed_prefix(&history[..]) else {
+        keep(&mut history[..], node, seen);
+        return CommitAnswer::Accepted(0);
+    };
+    insert_committed_prefix(&mut history[..], node, committed, seen)
+}
