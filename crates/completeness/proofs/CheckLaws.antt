@@ -1,0 +1,71 @@
+-- The turns of the check: what was judged and written is its answer and its bytes.
+-- Assumes nothing.
+use Prim.Native.Nat.{ℕ, _<_, _≤_}
+use mathlib.Core.Path.{_≡_, sym, _∙_, ap, subst}
+use mathlib.Core.Bool.{Bool}
+use lib.Dec.{ltb}
+use lib.ListN.{length}
+use borrow.Author.Tests.{lt-ltb, le-ltb}
+use Rattle.model.specs.Sizes.{Bytes}
+use Rattle.model.proofs.Tests.{cond-true, cond-false}
+use Rattle.storage.specs.Words.{wordAt, wordBytes, putBytes}
+use Rattle.storage.specs.Tables.{findingsPart}
+use Rattle.storage.proofs.WordLaws.{put-length}
+use Rattle.storage.proofs.PartLaws.{put-whole}
+use Rattle.logical_log.specs.Violation.{heldAll, bytesAll}
+use Rattle.completeness.specs.declared.leader_completeness.Checked.{Checked}
+use Rattle.completeness.specs.Relevance.{committedEnd}
+use Rattle.completeness.specs.Judgement.{lackingsIn, certificatesOf, JudgedAll}
+use Rattle.completeness.specs.Marks.{marksMoved}
+use Rattle.completeness.specs.Check.{valueOf, checkHeld, checkTable, checkWritten, checkAnswer, checkBytes, CheckedAs}
+use Rattle.completeness.proofs.MarkLaws.{marks-length}
+
+-- ---- written
+
+module _ (h t : Bytes) (held end : ℕ) where
+  pub written-as : (a : Bytes) → a ≡ marksMoved h end 0 (wordAt h 6 1) → (b : Bytes) → b ≡ putBytes a 2121 t
+      → (c : Bytes) → c ≡ putBytes b 7 (wordBytes 1 held) → c ≡ checkWritten h t held end
+  unfolding checkWritten
+  written-as a ea b eb c ec = ec ∙ ap (λ (x : Bytes). putBytes x 7 (wordBytes 1 held)) (eb ∙ ap (λ (x : Bytes). putBytes x 2121 t) ea)
+
+  pub written-length : length (checkWritten h t held end) ≡ length h
+  unfolding checkWritten
+  written-length =
+      put-length (putBytes (marksMoved h end 0 (wordAt h 6 1)) 2121 t) 7 (wordBytes 1 held)
+      ∙ put-length (marksMoved h end 0 (wordAt h 6 1)) 2121 t
+      ∙ marks-length (wordAt h 6 1) h end 0
+
+-- ---- judged on a copy of the findings
+
+pub copied : (h z p u : Bytes) → length z ≡ 1024 → p ≡ findingsPart h → length p ≡ 1024 → u ≡ putBytes z 0 p → u ≡ findingsPart h
+copied h z p u lz ep lp e = e ∙ put-whole z p (lp ∙ sym lz) ∙ ep
+
+module _ (h u : Bytes) (n : ℕ) (b : Bool) (m : ℕ) (t : Bytes) (eu : u ≡ findingsPart h) (en : n ≡ wordAt h 7 1) (j : JudgedAll h u n b m t) where
+  held-is : m ≡ checkHeld h
+  unfolding checkHeld
+  held-is = j .holds ∙ (λ i. heldAll (eu i) (en i) (lackingsIn h (certificatesOf h)))
+
+  table-is : t ≡ checkTable h
+  unfolding checkTable
+  table-is = j .table ∙ (λ i. bytesAll (eu i) (en i) (lackingsIn h (certificatesOf h)))
+
+  pub checked-refused : 128 < m → CheckedAs h Checked.FindingsFull h
+  unfolding checkAnswer checkBytes
+  checked-refused l =
+      let f = lt-ltb 128 (checkHeld h) (subst (λ (x : ℕ). 128 < x) held-is l) in
+      record {
+        is = sym (cond-true (ltb 128 (checkHeld h)) Checked.FindingsFull _ f);
+        bytes = sym (cond-true (ltb 128 (checkHeld h)) h _ f);
+        octets = j .octets;
+      }
+
+  pub checked-accepted : m ≤ 128 → (end : ℕ) → end ≡ committedEnd h → (h′ : Bytes) → h′ ≡ checkWritten h t m end → (v : ℕ) → v ≡ valueOf b
+      → CheckedAs h (Checked.Accepted v) h′
+  unfolding checkAnswer checkBytes
+  checked-accepted l end ee h′ eh v ev =
+      let f = le-ltb 128 (checkHeld h) (subst (λ (x : ℕ). x ≤ 128) held-is l) in
+      record {
+        is = ap Checked.Accepted (ev ∙ ap valueOf (j .flag)) ∙ sym (cond-false (ltb 128 (checkHeld h)) Checked.FindingsFull _ f);
+        bytes = eh ∙ (λ i. checkWritten h (table-is i) (held-is i) (ee i)) ∙ sym (cond-false (ltb 128 (checkHeld h)) h _ f);
+        octets = j .octets;
+      }

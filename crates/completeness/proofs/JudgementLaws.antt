@@ -1,0 +1,248 @@
+-- Judging: what a slice that was read is, and the turns of the functions that judge.
+-- Assumes nothing.
+use Prim.Native.Nat.{ℕ, _+_, _-_, _<_, _≤_}
+use native.Mathlib.Omega.{arith}
+use mathlib.Core.Path.{_≡_, refl, sym, _∙_, ap, subst, subst₂}
+use mathlib.Core.Bool.{Bool, true, false, not}
+use mathlib.Core.Logic.{⊎-elim}
+use mathlib.Core.List.{List, [], _∷_, _++_}
+use lib.Dec.{ltb, eqb}
+use lib.ListN.{length}
+use borrow.Author.Tests.{eq-eqb, ne-eqb, ltb-false}
+use Rattle.model.specs.Sizes.{Bytes}
+use Rattle.model.specs.History.{Finding}
+use Rattle.model.proofs.Tests.{cond-cases, cond-true, cond-false}
+use Rattle.storage.specs.Lists.{tabulate}
+use Rattle.storage.specs.Words.{wordAt}
+use Rattle.storage.specs.Tables.{PrefixRow, CertificateRow, prefixRow, prefixRows, prefixesPart, certificateRow, certificatesPart}
+use Rattle.storage.proofs.ListLaws.{tabulate-cons, tabulate-none}
+use Rattle.logical_log.specs.Table.{Table}
+use Rattle.logical_log.specs.Prefix.{sliceOf}
+use Rattle.logical_log.specs.Comparison.{sameFrom}
+use Rattle.logical_log.specs.Violation.{notedAt, noteHeld, noteBytes, heldAll, bytesAll}
+use Rattle.logical_log.specs.declared.prefix.Slice.{Slice}
+use Rattle.logical_log.specs.declared.prefix.Slice.the-variants.{Prefix, Beyond}
+use Rattle.logical_log.proofs.TableLaws.{rows-length, rows-at, table-facts}
+use Rattle.logical_log.proofs.SliceLaws.{slice-cases}
+use Rattle.logical_log.proofs.ViolationLaws.{all-length}
+use Rattle.completeness.specs.Relevance.{relevantIn}
+use Rattle.completeness.specs.Judgement.{sameSlice, hasThrough, lacksThrough, lackingOf, lackingAt, lackingIn, flagIn, NotedAs, JudgedAs, lackingsIn, flagsIn, certificatesOf, Octets, JudgedAll}
+use Rattle.completeness.proofs.Sound.{Sound}
+
+-- ---- the table of prefixes as it is lent
+
+pub table-read : (h p : Bytes) (n : ℕ) → Sound h → p ≡ prefixesPart h → n ≡ wordAt h 0 2 → Table p n
+table-read h p n s a b = subst₂ Table (sym a) (sym b) (s .table)
+
+-- a certificate as it is read, and its log, which is stored
+pub row-here : (h p : Bytes) (k : ℕ) (c : CertificateRow) → p ≡ certificatesPart h → c ≡ certificateRow p k → c ≡ certificateRow (certificatesPart h) k
+row-here h p k c a e = e ∙ ap (λ (q : Bytes). certificateRow q k) a
+
+pub row-stored : (h p : Bytes) (k : ℕ) → Sound h → k < wordAt h 6 1 → (c : CertificateRow) → p ≡ certificatesPart h → c ≡ certificateRow p k
+    → c .log ≤ wordAt h 0 2
+row-stored h p k s l c a e = subst (λ (x : CertificateRow). x .log ≤ wordAt h 0 2) (sym (row-here h p k c a e)) (s .named k l .log)
+
+-- a slice is stored
+pub slice-within : (t : Bytes) (n p i q : ℕ) → Table t n → p ≤ n → (s : Slice) → s ≡ sliceOf (prefixRow t) p i → s ≡ Slice.Prefix q → q ≤ n
+slice-within t n p i q w l s e f =
+    ⊎-elim (λ x. let c = x .0 in absurd (let z : _≡_ {A = ℕ} 0 1 = cc in omega arith))
+    (λ x.
+    let c = x .1 in
+    let d : q ≡ x .0 = cc in
+    let b = x .3 in
+    omega (arith, rows-length t n))
+    (slice-cases (prefixRow t) (prefixRows t n) (table-facts t n w) (rows-at t n) p i (omega (arith, rows-length t n)))
+
+-- ---- whether the log lacks the committed prefix
+
+beyond-differs : (row : ℕ → PrefixRow) (x : Slice) → sameSlice row x Beyond ≡ false
+unfolding sameSlice
+beyond-differs row (Prefix q) = refl
+beyond-differs row Beyond = refl
+
+pub shorter-differs : (row : ℕ → PrefixRow) (y : Slice) → sameSlice row Beyond y ≡ false
+unfolding sameSlice
+shorter-differs row (Prefix p) = refl
+shorter-differs row Beyond = refl
+
+pub both-there : (row : ℕ → PrefixRow) (q p : ℕ) → sameSlice row (Prefix q) (Prefix p) ≡ sameFrom row q q p
+unfolding sameSlice
+both-there row q p = refl
+
+module _ (h : Bytes) (log i : ℕ) (p : Bytes) (e : p ≡ prefixesPart h) (w : ℕ) (ew : w ≡ wordAt h 4 2) (y : Slice)
+    (ey : y ≡ sliceOf (prefixRow p) w i) where
+  committed-slice : y ≡ sliceOf (prefixRow (prefixesPart h)) (wordAt h 4 2) i
+  committed-slice = ey ∙ (λ j. sliceOf (prefixRow (e j)) (ew j) i)
+
+  -- by the two slices
+  has-by : (x : Slice) → x ≡ sliceOf (prefixRow (prefixesPart h)) log i → sameSlice (prefixRow (prefixesPart h)) x y ≡ hasThrough h log i
+  unfolding hasThrough
+  has-by x ex = λ j. sameSlice (prefixRow (prefixesPart h)) (ex j) (committed-slice j)
+
+  pub has-beyond : y ≡ Slice.Beyond → false ≡ hasThrough h log i
+  has-beyond b =
+      sym (ap (sameSlice (prefixRow (prefixesPart h)) x) b ∙ beyond-differs (prefixRow (prefixesPart h)) x) ∙ has-by x refl
+    where
+      x : Slice
+      x = sliceOf (prefixRow (prefixesPart h)) log i
+
+  module _ (x : Slice) (ex : x ≡ sliceOf (prefixRow p) log i) where
+    log-slice : x ≡ sliceOf (prefixRow (prefixesPart h)) log i
+    log-slice = ex ∙ (λ j. sliceOf (prefixRow (e j)) log i)
+
+    pub has-shorter : x ≡ Slice.Beyond → false ≡ hasThrough h log i
+    has-shorter b =
+        sym (ap (λ (z : Slice). sameSlice (prefixRow (prefixesPart h)) z y) b ∙ shorter-differs (prefixRow (prefixesPart h)) y)
+        ∙ has-by x log-slice
+
+    pub has-same : (q k : ℕ) → x ≡ Slice.Prefix q → y ≡ Slice.Prefix k → (b : Bool) → b ≡ sameFrom (prefixRow p) q q k → b ≡ hasThrough h log i
+    has-same q k fx fy b eb =
+        eb ∙ (λ j. sameFrom (prefixRow (e j)) q q k) ∙ sym (both-there (prefixRow (prefixesPart h)) q k)
+        ∙ (λ j. sameSlice (prefixRow (prefixesPart h)) (sym fx j) (sym fy j))
+        ∙ has-by x log-slice
+
+module _ (h : Bytes) (c : CertificateRow) (i : ℕ) where
+  pub lacks-absent : c .present ≡ 0 → true ≡ lacksThrough h c i
+  unfolding lacksThrough
+  lacks-absent e = sym (cond-true (eqb (c .present) 0) true _ (eq-eqb (c .present) 0 e))
+
+  pub lacks-there : (c .present ≡ 0 → ⊥) → (b : Bool) → b ≡ hasThrough h (c .log) i → not b ≡ lacksThrough h c i
+  unfolding lacksThrough
+  lacks-there n b e = ap not e ∙ sym (cond-false (eqb (c .present) 0) true _ (ne-eqb (c .present) 0 n))
+
+-- ---- one certificate
+
+module _ (h : Bytes) (c : CertificateRow) where
+  module _ (i : ℕ) (t : Bytes) (held : ℕ) (b : Bool) (e : b ≡ lacksThrough h c i) where
+    lacking-none : b ≡ false → lackingAt h c i ≡ []
+    unfolding lackingAt
+    lacking-none f = cond-false (lacksThrough h c i) _ [] (sym e ∙ f)
+
+    lacking-one : b ≡ true → lackingAt h c i ≡ lackingOf c i ∷ []
+    unfolding lackingAt
+    lacking-one f = cond-true (lacksThrough h c i) _ [] (sym e ∙ f)
+
+    pub noted-none : b ≡ false → NotedAs h c i t held held t
+    unfolding heldAll bytesAll
+    noted-none f =
+        record { holds = sym (ap (heldAll t held) (lacking-none f)); table = sym (ap (bytesAll t held) (lacking-none f)) }
+
+    pub noted-one : b ≡ true → (held′ : ℕ) (t′ : Bytes) → (held′ ≡ noteHeld t held (lackingOf c i)) × (t′ ≡ noteBytes t held (lackingOf c i))
+        → NotedAs h c i t held held′ t′
+    unfolding heldAll bytesAll
+    noted-one f held′ t′ w =
+        record { holds = w .0 ∙ sym (ap (heldAll t held) (lacking-one f)); table = w .1 ∙ sym (ap (bytesAll t held) (lacking-one f)) }
+
+  pub noted-length : (i : ℕ) (t : Bytes) (held held′ : ℕ) (t′ : Bytes) → NotedAs h c i t held held′ t′ → length t′ ≡ length t
+  noted-length i t held held′ t′ w = ap length (w .table) ∙ all-length (lackingAt h c i) t held
+
+  module _ (t : Bytes) (b : Bool) (held r : ℕ) (e : r ≡ relevantIn h c) where
+    irrelevant : r ≡ 0 → eqb (relevantIn h c) 0 ≡ true
+    irrelevant z = eq-eqb (relevantIn h c) 0 (sym e ∙ z)
+
+    pub judged-none : r ≡ 0 → JudgedAs h c t b held b held t
+    unfolding flagIn lackingIn heldAll bytesAll
+    judged-none z =
+        let n : lackingIn h c ≡ [] = cond-true (eqb (relevantIn h c) 0) [] _ (irrelevant z) in
+        record {
+          flag = sym (cond-true (eqb (relevantIn h c) 0) b true (irrelevant z));
+          holds = sym (ap (heldAll t held) n);
+          table = sym (ap (bytesAll t held) n);
+        }
+
+    pub judged-some : (r ≡ 0 → ⊥) → (held′ : ℕ) (t′ : Bytes) → NotedAs h c r t held held′ t′ → JudgedAs h c t b held true held′ t′
+    unfolding flagIn lackingIn
+    judged-some z held′ t′ w =
+        let f : eqb (relevantIn h c) 0 ≡ false = ne-eqb (relevantIn h c) 0 (λ q. z (e ∙ q)) in
+        let n : lackingAt h c r ≡ lackingIn h c = ap (lackingAt h c) e ∙ sym (cond-false (eqb (relevantIn h c) 0) [] _ f) in
+        record {
+          flag = sym (cond-false (eqb (relevantIn h c) 0) b true f);
+          holds = w .holds ∙ ap (heldAll t held) n;
+          table = w .table ∙ ap (bytesAll t held) n;
+        }
+
+  pub judged-length : (t : Bytes) (b : Bool) (held : ℕ) (b′ : Bool) (held′ : ℕ) (t′ : Bytes) → JudgedAs h c t b held b′ held′ t′ → length t′ ≡ length t
+  judged-length t b held b′ held′ t′ w = ap length (w .table) ∙ all-length (lackingIn h c) t held
+
+-- ---- several notes in two steps as in one
+
+held-append : (xs ys : List Finding) (t : Bytes) (n : ℕ) → heldAll t n (xs ++ ys) ≡ heldAll (bytesAll t n xs) (heldAll t n xs) ys
+unfolding heldAll bytesAll
+held-append [] ys t n = refl
+held-append (x ∷ xs) ys t n = held-append xs ys (noteBytes t n x) (noteHeld t n x)
+
+bytes-append : (xs ys : List Finding) (t : Bytes) (n : ℕ) → bytesAll t n (xs ++ ys) ≡ bytesAll (bytesAll t n xs) (heldAll t n xs) ys
+unfolding heldAll bytesAll
+bytes-append [] ys t n = refl
+bytes-append (x ∷ xs) ys t n = bytes-append xs ys (noteBytes t n x) (noteHeld t n x)
+
+held-few : (xs : List Finding) (t : Bytes) (n : ℕ) → n ≤ 129 → heldAll t n xs ≤ 129
+unfolding heldAll noteHeld
+held-few [] t n h = h
+held-few (x ∷ xs) t n h =
+    held-few xs (noteBytes t n x) (noteHeld t n x)
+    (cond-cases (λ (m : ℕ). m ≤ 129) (ltb 128 n) n _ (λ _. h)
+    (λ f. cond-cases (λ (m : ℕ). m ≤ 129) (eqb (notedAt t n x) 0) (n + 1) n (λ _. let z = ltb-false 128 n f in omega arith) (λ _. h)))
+
+-- ---- the walk over all of them
+
+-- what is left of the certificates from the k-th on gives the rest
+pub record Walking (h t₀ : Bytes) (held m : ℕ) (t : Bytes) (b : Bool) (n k : ℕ) : Type 0 where
+  pub flag : flagsIn h false (certificatesOf h) ≡ flagsIn h b (tabulate (certificateRow (certificatesPart h)) k (m - k))
+  pub holds : heldAll t₀ held (lackingsIn h (certificatesOf h)) ≡ heldAll t n (lackingsIn h (tabulate (certificateRow (certificatesPart h)) k (m - k)))
+  pub table : bytesAll t₀ held (lackingsIn h (certificatesOf h)) ≡ bytesAll t n (lackingsIn h (tabulate (certificateRow (certificatesPart h)) k (m - k)))
+  pub few : n ≤ 129
+  pub long : length t ≡ 1024
+  pub within : k ≤ m
+
+module _ (h t₀ : Bytes) (held m : ℕ) where
+  pub walking-starts : m ≡ wordAt h 6 1 → held ≤ 129 → length t₀ ≡ 1024 → Walking h t₀ held m t₀ false held 0
+  walking-starts e f l =
+      let s : certificatesOf h ≡ tabulate (certificateRow (certificatesPart h)) 0 (m - 0) =
+      ap (λ (x : ℕ). tabulate (certificateRow (certificatesPart h)) 0 x) (let z : wordAt h 6 1 ≡ m - 0 = omega arith in z) in
+      record {
+        flag = ap (flagsIn h false) s;
+        holds = ap (λ (cs : List CertificateRow). heldAll t₀ held (lackingsIn h cs)) s;
+        table = ap (λ (cs : List CertificateRow). bytesAll t₀ held (lackingsIn h cs)) s;
+        few = f;
+        long = l;
+        within = omega arith;
+      }
+
+  module _ (t : Bytes) (b : Bool) (n k : ℕ) (w : Walking h t₀ held m t b n k) where
+    pub walking-ends : m ≤ k → Octets h → JudgedAll h t₀ held b n t
+    unfolding flagsIn lackingsIn heldAll bytesAll
+    walking-ends l o =
+        let s : tabulate (certificateRow (certificatesPart h)) k (m - k) ≡ [] = tabulate-none (certificateRow (certificatesPart h)) k m l in
+        record {
+          flag = sym (w .flag ∙ ap (flagsIn h b) s);
+          holds = sym (w .holds ∙ ap (λ (cs : List CertificateRow). heldAll t n (lackingsIn h cs)) s);
+          table = sym (w .table ∙ ap (λ (cs : List CertificateRow). bytesAll t n (lackingsIn h cs)) s);
+          few = w .few;
+          long = w .long;
+          octets = o;
+        }
+
+    module _ (l : k < m) (c : CertificateRow) (e : c ≡ certificateRow (certificatesPart h) k) where
+      rest : List CertificateRow
+      rest = tabulate (certificateRow (certificatesPart h)) (k + 1) (m - (k + 1))
+
+      more : tabulate (certificateRow (certificatesPart h)) k (m - k) ≡ c ∷ rest
+      unfolding rest
+      more = tabulate-cons (certificateRow (certificatesPart h)) k m l ∙ ap (λ (x : CertificateRow). x ∷ rest) (sym e)
+
+      pub walking-next : (b′ : Bool) (n′ : ℕ) (t′ : Bytes) → JudgedAs h c t b n b′ n′ t′ → Walking h t₀ held m t′ b′ n′ (k + 1)
+      unfolding rest flagsIn lackingsIn
+      walking-next b′ n′ t′ j =
+          record {
+            flag = w .flag ∙ ap (flagsIn h b) more ∙ ap (λ (x : Bool). flagsIn h x rest) (sym (j .flag));
+            holds = w .holds ∙ ap (λ (cs : List CertificateRow). heldAll t n (lackingsIn h cs)) more
+                ∙ held-append (lackingIn h c) (lackingsIn h rest) t n
+                ∙ (λ i. heldAll (sym (j .table) i) (sym (j .holds) i) (lackingsIn h rest));
+            table = w .table ∙ ap (λ (cs : List CertificateRow). bytesAll t n (lackingsIn h cs)) more
+                ∙ bytes-append (lackingIn h c) (lackingsIn h rest) t n
+                ∙ (λ i. bytesAll (sym (j .table) i) (sym (j .holds) i) (lackingsIn h rest));
+            few = subst (λ (x : ℕ). x ≤ 129) (sym (j .holds)) (held-few (lackingIn h c) t n (w .few));
+            long = judged-length h c t b n b′ n′ t′ j ∙ w .long;
+            within = omega arith;
+          }

@@ -1,0 +1,11 @@
+pub mod Sound
+pub mod RelevanceLaws
+pub mod JudgementLaws
+pub mod MarkLaws
+pub mod CheckLaws
+pub mod Read
+pub mod CertificateMeaning
+pub mod MarkMeaning
+pub mod FindingMeaning
+pub mod Meaning
+pub mod StepMeaning

@@ -1,0 +1,160 @@
+-- The completeness check on bytes is document 01's. Let bytes stand for a history. Then the check of the bytes answers what
+-- the model answers for the history: accepted, it has the model's value and leaves bytes that stand for the model's history
+-- after the check; refused, it leaves every byte.
+-- Assumes nothing.
+use Prim.Native.Nat.{ℕ, _<_, _≤_}
+use native.Mathlib.Omega.{arith}
+use mathlib.Core.Path.{_≡_, sym, _∙_, ap, subst, subst₂}
+use mathlib.Core.Bool.{true, false}
+use mathlib.Core.Logic.{inl, ⊎-elim}
+use mathlib.Core.List.{List, [], map, List·Memᴰ}
+use mathlib.Core.Option.{none, some}
+use lib.Dec.{ltb}
+use lib.ListN.{length}
+use borrow.Author.Tests.{lt-ltb, le-ltb}
+use Rattle.model.specs.Sizes.{Bytes}
+use Rattle.model.specs.Refusal.{Refusal, findingsFull}
+use Rattle.model.specs.Record.{check}
+use Rattle.model.specs.History.{Finding, Certificate, History, noted}
+use Rattle.model.specs.Check.{moved, lackings, someRelevant, checkFindings, checkRefusal, checkValue, checkEffect}
+use Rattle.model.specs.Answer.{refusal, value, effect}
+use Rattle.model.proofs.Tests.{cond-true, cond-false}
+use Rattle.storage.specs.Lists.{every}
+use Rattle.storage.specs.Words.{wordAt}
+use Rattle.storage.specs.Tables.{CertificateRow, certificateRow, certificatesPart, findingRow, findingRows, findingsPart}
+use Rattle.storage.specs.Rules.{findingRight}
+use Rattle.storage.proofs.ListLaws.{tabulate-length}
+use Rattle.storage.proofs.PartLaws.{part-length}
+use Rattle.storage.proofs.Meanings.{Stands, kept, is, withElections}
+use Rattle.logical_log.proofs.ViolationLaws.{Holds, all-hold, all-length}
+use Rattle.completeness.specs.declared.leader_completeness.Checked.{Checked}
+use Rattle.completeness.specs.Relevance.{committedEnd}
+use Rattle.completeness.specs.Judgement.{lackingsIn, flagsIn, certificatesOf, Octets}
+use Rattle.completeness.specs.Marks.{marksMoved}
+use Rattle.completeness.specs.Check.{refusalOf, valueIn, valueOf, checkHeld, checkTable, checkWritten, checkAnswer, checkBytes, CheckedAs}
+use Rattle.completeness.proofs.Read.{Stored, right, end-is, end-small, certificates-are, findings-are, stored}
+use Rattle.completeness.proofs.CertificateMeaning.{lackings-mean, flags-mean}
+use Rattle.completeness.proofs.MarkMeaning.{raised, marks-mean}
+use Rattle.completeness.proofs.FindingMeaning.{Fitting, fitting, lackings-fit, noted-right, findings-mean}
+
+-- ---- the statement
+
+pub record Means (h : Bytes) (x : History) (answer : Checked) (after : Bytes) : Type 0 where
+  -- it is refused where the model refuses it, and for the same reason
+  pub refuses : refusalOf answer ≡ refusal x check
+  -- accepted, it has the model's value, and the bytes after it stand for the model's history after it
+  pub accepts : refusal x check ≡ none → (valueIn answer ≡ value x check) × Stands after (effect x check)
+  -- refused, it leaves every byte
+  pub leaves : (r : Refusal) → refusal x check ≡ some r → after ≡ h
+
+-- ---- the proof
+
+module _ (h : Bytes) (x : History) (s : Stands h x) (o : Octets h) where
+  rows : (c : CertificateRow) → List·Memᴰ c (certificatesOf h) → Stored (wordAt h 0 2) c
+  rows = stored h x s o
+
+  notes-fit : (g : Finding) → List·Memᴰ g (lackingsIn h (certificatesOf h)) → Fitting g
+  notes-fit = lackings-fit h x s (certificatesOf h) rows
+
+  found : noted (x .findings) (lackingsIn h (certificatesOf h)) ≡ checkFindings x
+  unfolding checkFindings
+  found =
+      ap (noted (x .findings))
+      (lackings-mean h x s (certificatesOf h) (λ c m. rows c m .named .log) ∙ ap (lackings (x .committed) (x .terms)) (certificates-are h x s))
+
+  table-long : length (findingsPart h) ≡ 1024
+  table-long = part-length h 2121 1024 (let l = right h x s .long in omega arith)
+
+  -- the copy of the findings holds the model's, or there are too many
+  holds : Holds (checkTable h) (checkHeld h) (checkFindings x)
+  unfolding checkTable checkHeld
+  holds =
+      subst (Holds (checkTable h) (checkHeld h)) found
+      (all-hold (lackingsIn h (certificatesOf h)) (findingsPart h) (wordAt h 7 1) (x .findings) table-long
+      (λ g m. fitting g (notes-fit g m)) (inl (right h x s .findings, findings-are h x s)))
+
+  flag : valueOf (flagsIn h false (certificatesOf h)) ≡ checkValue x
+  unfolding checkValue
+  flag =
+      ap valueOf
+      (flags-mean h x s (certificatesOf h) false ∙ ap (someRelevant (x .committed) (x .terms)) (certificates-are h x s))
+
+  -- the marks have moved, as the model's
+  marks : Stands (marksMoved h (committedEnd h) 0 (wordAt h 6 1)) (withElections x (map (moved (x .committed)) (x .certificates)))
+  unfolding moved
+  marks =
+      subst (λ (n : ℕ). Stands (marksMoved h (committedEnd h) 0 n) (withElections x (map (moved (x .committed)) (x .certificates))))
+      (tabulate-length (certificateRow (certificatesPart h)) 0 (wordAt h 6 1))
+      (subst (λ (cs : List Certificate). Stands (marksMoved h (committedEnd h) 0 (length (certificatesOf h))) (withElections x cs))
+      (λ i. map (raised (end-is h x s i)) (certificates-are h x s i))
+      (marks-mean (certificatesOf h) [] h x s (committedEnd h) (end-small h x s) (sym (certificates-are h x s))
+      (λ c m. (rows c m .term, rows c m .number))))
+
+  findings-right : every findingRight (checkFindings x) ≡ true
+  findings-right =
+      subst (λ (fs : List Finding). every findingRight fs ≡ true) found
+      (noted-right (lackingsIn h (certificatesOf h)) (x .findings)
+      (subst (λ (y : History). every findingRight (y .findings) ≡ true) (is h x s) (kept h x s .findings)) notes-fit)
+
+  -- not too many: accepted
+  module _ (few : checkHeld h ≤ 128) (e : findingRows (checkTable h) (checkHeld h) ≡ checkFindings x) where
+    count : length (checkFindings x) ≡ checkHeld h
+    count = sym (ap length e) ∙ tabulate-length (findingRow (checkTable h)) 0 (checkHeld h)
+
+    model-accepts : refusal x check ≡ none
+    unfolding checkRefusal
+    model-accepts = cond-false (ltb 128 (length (checkFindings x))) (some findingsFull) none (le-ltb 128 (length (checkFindings x)) (let z = count in omega arith))
+
+    accepted : checkAnswer h ≡ Checked.Accepted (checkValue x)
+    unfolding checkAnswer
+    accepted = cond-false (ltb 128 (checkHeld h)) Checked.FindingsFull _ (le-ltb 128 _ few) ∙ ap Checked.Accepted flag
+
+    table-kept : length (checkTable h) ≡ 1024
+    unfolding checkTable
+    table-kept = all-length (lackingsIn h (certificatesOf h)) (findingsPart h) (wordAt h 7 1) ∙ table-long
+
+    written : Stands (checkBytes h) (checkEffect x)
+    unfolding checkBytes checkWritten checkEffect
+    written =
+        subst (λ (u : Bytes). Stands u (checkEffect x)) (sym (cond-false (ltb 128 (checkHeld h)) h _ (le-ltb 128 _ few)))
+        (findings-mean (marksMoved h (committedEnd h) 0 (wordAt h 6 1)) (withElections x (map (moved (x .committed)) (x .certificates))) marks
+        (checkTable h) (checkHeld h) (checkFindings x) table-kept few e (let z = count in omega arith) findings-right)
+
+    accepted-means : Means h x (checkAnswer h) (checkBytes h)
+    accepted-means =
+        record {
+          refuses = ap refusalOf accepted ∙ sym model-accepts;
+          accepts = λ _. (ap valueIn accepted, written);
+          leaves = λ r q. absurd (let p = model-accepts in let z : _≡_ {A = ℕ} 0 1 = cc in omega arith);
+        }
+
+  -- too many: refused
+  module _ (many : checkHeld h ≡ 129) (more : 128 < length (checkFindings x)) where
+    over : ltb 128 (checkHeld h) ≡ true
+    over = lt-ltb 128 (checkHeld h) (omega arith)
+
+    model-refuses : refusal x check ≡ some findingsFull
+    unfolding checkRefusal
+    model-refuses = cond-true (ltb 128 (length (checkFindings x))) (some findingsFull) none (lt-ltb 128 _ more)
+
+    refused : checkAnswer h ≡ Checked.FindingsFull
+    unfolding checkAnswer
+    refused = cond-true (ltb 128 (checkHeld h)) Checked.FindingsFull _ over
+
+    unchanged : checkBytes h ≡ h
+    unfolding checkBytes
+    unchanged = cond-true (ltb 128 (checkHeld h)) h _ over
+
+    refused-means : Means h x (checkAnswer h) (checkBytes h)
+    refused-means =
+        record {
+          refuses = ap refusalOf refused ∙ sym model-refuses;
+          accepts = λ q. absurd (let p = model-refuses in let z : _≡_ {A = ℕ} 0 1 = cc in omega arith);
+          leaves = λ _ _. unchanged;
+        }
+
+-- the check of bytes that stand for a history is the model's check of it
+pub check-means : (h : Bytes) (x : History) (answer : Checked) (after : Bytes) → Stands h x → CheckedAs h answer after → Means h x answer after
+check-means h x answer after s c =
+    subst₂ (Means h x) (sym (c .is)) (sym (c .bytes))
+    (⊎-elim (λ a. accepted-means h x s (c .octets) (a .0) (a .1)) (λ a. refused-means h x s (c .octets) (a .0) (a .1)) (holds h x s (c .octets)))

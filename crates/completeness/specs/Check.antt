@@ -1,0 +1,66 @@
+-- The check of a history in bytes: its answer and the bytes that it leaves. A refused check leaves every byte.
+-- Assumes nothing.
+use Prim.Native.Nat.{ℕ, _≤_}
+use mathlib.Core.Path.{_≡_}
+use mathlib.Core.Bool.{Bool, false, cond}
+use mathlib.Core.Option.{Option, none, some}
+use lib.Dec.{ltb}
+use lib.ListN.{length}
+use Rattle.model.specs.Sizes.{Bytes}
+use Rattle.model.specs.Refusal.{Refusal, findingsFull}
+use Rattle.storage.specs.Words.{wordAt, wordBytes, putBytes}
+use Rattle.storage.specs.Tables.{findingsPart}
+use Rattle.logical_log.specs.Violation.{heldAll, bytesAll}
+use Rattle.completeness.specs.Relevance.{committedEnd}
+use Rattle.completeness.specs.Judgement.{lackingsIn, flagsIn, certificatesOf, Octets}
+use Rattle.completeness.specs.Marks.{marksMoved}
+use Rattle.completeness.specs.declared.leader_completeness.Checked.{Checked}
+use Rattle.completeness.specs.declared.leader_completeness.Checked.the-variants.{Accepted, FindingsFull}
+
+-- the answer in document 01's words: why it is refused, and its value
+abbrev pub refusalOf : Checked → Option Refusal
+refusalOf (Accepted v) = none
+refusalOf FindingsFull = some findingsFull
+
+abbrev pub valueIn : Checked → ℕ
+valueIn (Accepted v) = v
+valueIn FindingsFull = 0
+
+-- flag 4
+abbrev pub valueOf : Bool → ℕ
+valueOf b = cond b 4 0
+
+-- the findings of the history with those of the check: how many, and their table
+unfoldable pub checkHeld : Bytes → ℕ
+unfolding wordAt heldAll lackingsIn
+checkHeld h = heldAll (findingsPart h) (wordAt h 7 1) (lackingsIn h (certificatesOf h))
+
+unfoldable pub checkTable : Bytes → Bytes
+unfolding wordAt bytesAll lackingsIn
+checkTable h = bytesAll (findingsPart h) (wordAt h 7 1) (lackingsIn h (certificatesOf h))
+
+-- the marks, then the findings and how many there are
+unfoldable pub checkWritten : Bytes → Bytes → ℕ → ℕ → Bytes
+unfolding wordAt putBytes wordBytes marksMoved
+checkWritten h t held end =
+    putBytes (putBytes (marksMoved h end 0 (wordAt h 6 1)) 2121 t) 7 (wordBytes 1 held)
+
+-- what writing asks
+pub record Writing (h t : Bytes) : Type 0 where
+  pub certificates : wordAt h 6 1 ≤ 64
+  pub history : length h ≡ 24137
+  pub table : length t ≡ 1024
+
+-- the answer, and the bytes after it
+unfoldable pub checkAnswer : Bytes → Checked
+unfolding checkHeld flagsIn wordAt
+checkAnswer h = cond (ltb 128 (checkHeld h)) FindingsFull (Accepted (valueOf (flagsIn h false (certificatesOf h))))
+
+unfoldable pub checkBytes : Bytes → Bytes
+unfolding checkHeld checkTable checkWritten committedEnd
+checkBytes h = cond (ltb 128 (checkHeld h)) h (checkWritten h (checkTable h) (checkHeld h) (committedEnd h))
+
+pub record CheckedAs (h : Bytes) (answer : Checked) (after : Bytes) : Type 0 where
+  pub is : answer ≡ checkAnswer h
+  pub bytes : after ≡ checkBytes h
+  pub octets : Octets h

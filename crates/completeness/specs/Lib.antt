@@ -1,0 +1,4 @@
+pub mod Relevance
+pub mod Judgement
+pub mod Marks
+pub mod Check

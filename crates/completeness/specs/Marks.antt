@@ -1,0 +1,27 @@
+-- Moving the checked marks in the bytes of a history, one certificate after the other.
+-- Assumes nothing.
+use Prim.Native.Nat.{ℕ, zero, suc, _+_, _*_}
+use mathlib.Core.Bool.{cond}
+use lib.Dec.{ltb}
+use Rattle.model.specs.Sizes.{Bytes}
+use Rattle.storage.specs.Words.{wordAt, putBytes}
+use Rattle.storage.specs.Tables.{CertificateRow, certificateRow, certificatesPart}
+use Rattle.storage.specs.Writes.{certificateBytes}
+
+-- a certificate with another mark
+abbrev pub markedRow : CertificateRow → ℕ → CertificateRow
+markedRow c m =
+    record { term = c .term; log = c .log; mark = m; leader = c .leader; number = c .number; present = c .present }
+
+-- the mark of certificate k at the end, where that passes it
+unfoldable pub markMoved : Bytes → ℕ → ℕ → Bytes
+unfolding wordAt putBytes certificateBytes
+markMoved h k end =
+    let c = certificateRow (certificatesPart h) k in
+    cond (ltb (c .mark) end) (putBytes h (1417 + k * 11) (certificateBytes (markedRow c end))) h
+
+-- the marks of n certificates, from the k-th on
+unfoldable pub marksMoved : Bytes → ℕ → ℕ → ℕ → Bytes
+unfolding markMoved
+marksMoved h end k zero = h
+marksMoved h end k (suc n) = marksMoved (markMoved h k end) end (k + 1) n

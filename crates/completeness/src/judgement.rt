@@ -1,0 +1,124 @@
+// A certificate judged: flag 4 where it has a relevant index, LG-05 where its log is absent, shorter or different through
+// it. Nothing of the history is written; findings are noted in a table of their own.
+ghost use mathlib.Core.Path.{_≡_};
+ghost use Prim.Native.Nat.{_≤_};
+ghost use mathlib.Core.Bool.{true};
+ghost use Rattle.storage.specs.Words.{wordAt};
+ghost use Rattle.storage.specs.Rules.{wellFormed};
+ghost use Rattle.storage.specs.Values.{certificateValue};
+ghost use Rattle.completeness.specs.Judgement.{hasThrough, lacksThrough, Noting, NotedAs, Judging, JudgedAs, JudgedAll};
+use crate::relevance::relevant_index;
+use logical_log::comparison::same_prefix;
+use logical_log::prefix::Slice;
+use logical_log::prefix::slice_through;
+use logical_log::violation::note;
+use storage::certificates::Certificate;
+use storage::certificates::certificate_at;
+use storage::findings::Found;
+use storage::head::certificate_count;
+use storage::head::committed_number;
+use storage::head::prefix_count;
+use storage::layout::CERTIFICATES_LENGTH;
+use storage::layout::CERTIFICATES_START;
+use storage::layout::PREFIXES_LENGTH;
+use storage::layout::PREFIXES_START;
+use storage::layout::part;
+use units::LogIndex;
+
+// How far the judging has come: whether an index was relevant, and how many findings are held.
+pub struct Judged {
+    pub relevant: bool,
+    pub held: usize,
+}
+
+// The stored prefix of that number has the committed prefix through the index: it is no shorter, and the same.
+fn has_through(history: &[u8], log: usize, through: LogIndex) -> bool
+    requires { ⌜ (wellFormed (now history) ≡ true) × (log ≤ wordAt (now history) 0 2) ⌝ }
+    ensures { λ r. ⌜ r ≡ hasThrough (now (history .entry)) log (through .0) ⌝ }
+{
+    let count = prefix_count(history);
+    let prefixes = part(history, PREFIXES_START, PREFIXES_LENGTH);
+    let committed = committed_number(history);
+    let Slice::Prefix(p) = slice_through(prefixes, count, committed, through) else {
+        return false;
+    };
+    let Slice::Prefix(q) = slice_through(prefixes, count, log, through) else {
+        return false;
+    };
+    same_prefix(prefixes, count, q, p)
+}
+
+// The certificate's log is absent, or shorter than the committed prefix through the index, or different.
+fn lacks_through(history: &[u8], c: Certificate, through: LogIndex) -> bool
+    requires { ⌜ (wellFormed (now history) ≡ true) × (c .log ≤ wordAt (now history) 0 2) ⌝ }
+    ensures { λ r. ⌜ r ≡ lacksThrough (now (history .entry)) (certificateValue c) (through .0) ⌝ }
+{
+    if c.present == 0 {
+        return true;
+    }
+    !has_through(history, c.log, through)
+}
+
+// LG-05 is noted where the log lacks the committed prefix through the index.
+fn note_lacking(
+    history: &[u8],
+    c: Certificate,
+    through: LogIndex,
+    findings: &mut [u8],
+    held: usize,
+) -> usize
+    requires { ⌜ Noting (now history) (certificateValue c) (now findings) held ⌝ }
+    ensures { λ r. ⌜ NotedAs (now (history .entry)) (certificateValue c) (through .0) (now (findings .entry)) held r (now (findings .exit)) ⌝ }
+{
+    if !lacks_through(history, c, through) {
+        return held;
+    }
+    let node = c.leader;
+    let term = c.term;
+    note(
+        &mut findings[..],
+        held,
+        Found {
+            name: 5,
+            node,
+            index: through,
+            term,
+        },
+    )
+}
+
+// One certificate.
+pub fn judge(history: &[u8], c: Certificate, findings: &mut [u8], earlier: Judged) -> Judged
+    requires { ⌜ Noting (now history) (certificateValue c) (now findings) (earlier .held) ⌝ }
+    ensures { λ r. ⌜ JudgedAs (now (history .entry)) (certificateValue c) (now (findings .entry)) (earlier .relevant) (earlier .held) (r .relevant) (r .held) (now (findings .exit)) ⌝ }
+{
+    let through = relevant_index(history, c);
+    if through.0 == 0 {
+        return earlier;
+    }
+    let held = note_lacking(history, c, through, &mut findings[..], earlier.held);
+    Judged {
+        relevant: true,
+        held,
+    }
+}
+
+// Every certificate, by term, then arrival, as they are stored.
+pub fn judge_all(history: &[u8], findings: &mut [u8], held: usize) -> Judged
+    requires { ⌜ Judging (now history) (now findings) held ⌝ }
+    ensures { λ r. ⌜ JudgedAll (now (history .entry)) (now (findings .entry)) held (r .relevant) (r .held) (now (findings .exit)) ⌝ }
+{
+    let m = certificate_count(history);
+    let certificates = part(history, CERTIFICATES_START, CERTIFICATES_LENGTH);
+    let mut earlier = Judged {
+        relevant: false,
+        held,
+    };
+    let mut k = 0;
+    while k < m {
+        let c = certificate_at(certificates, k);
+        earlier = judge(history, c, &mut findings[..], earlier);
+        k += 1;
+    }
+    earlier
+}
