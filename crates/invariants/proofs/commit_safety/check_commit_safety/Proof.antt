@@ -1,4 +1,4 @@
--- `invariants::commit::check_commit_safety` meets its contract: two pairs of passes are the model's verdict.
+-- `invariants::commit_safety::check_commit_safety` meets its contract: two pairs of passes are the model's verdict.
 -- Assumes nothing.
 use Rattle.invariants.proofs.Passes.{verdict-early, verdict-late}
 use Prim.Native.Nat.{_-_}

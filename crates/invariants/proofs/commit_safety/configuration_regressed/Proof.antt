@@ -1,4 +1,4 @@
--- `invariants::commit::configuration_regressed` meets its contract: each exit is a law of rule 2.
+-- `invariants::commit_safety::configuration_regressed` meets its contract: each exit is a law of rule 2.
 -- Assumes nothing.
 use Rattle.invariants.specs.Rules.{rowOf}
 use Rattle.invariants.proofs.Passes.{regressed-no-floor, regressed-lost, regressed-index}

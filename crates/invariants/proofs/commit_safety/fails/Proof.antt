@@ -1,4 +1,4 @@
--- `invariants::commit::fails` meets its contract: the rule of the number.
+-- `invariants::commit_safety::fails` meets its contract: the rule of the number.
 -- Assumes nothing.
 use borrow.Author.Tests.{eq-eqb, ne-eqb}
 use Prim.Native.Nat.{_-_}

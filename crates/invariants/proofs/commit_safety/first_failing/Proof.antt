@@ -1,4 +1,4 @@
--- `invariants::commit::first_failing` meets its contract: the first failing row is the first failing one of what is left.
+-- `invariants::commit_safety::first_failing` meets its contract: the first failing row is the first failing one of what is left.
 -- Assumes nothing.
 use Rattle.model.specs.Rows.{failing}
 use Rattle.records.specs.Places.{RowWalk, rowsAt, firstRow}

@@ -1,4 +1,4 @@
--- `invariants::commit::first_of` meets its contract: each exit is a law of two passes.
+-- `invariants::commit_safety::first_of` meets its contract: each exit is a law of two passes.
 -- Assumes nothing.
 use Rattle.invariants.proofs.Passes.{first-fails, second-fails, neither-fails}
 use Prim.Native.Nat.{_-_}
@@ -25,13 +25,19 @@ enum-known-second : tie.Need-enum-known-second
 enum-known-second c = search needs
 
 returns-2 : tie.Need-returns-2
-returns-2 c = second-fails _ _ _ (c .before .before .before .before .before .before .first-failing .ensures) (c .before .before .before .before .enum-told .given .1) (c .before .before .before .first-failing2 .ensures) (c .before .second .given .1)
+returns-2 c =
+    let y = c .before .before .before in
+    let x = y .before .before .before in
+    second-fails _ _ _ (x .first-failing .ensures) (y .before .enum-told .given .1) (y .first-failing2 .ensures) (c .before .second .given .1)
 
 enum-told-2 : tie.Need-enum-told-2
 enum-told-2 c = search needs
 
 returns-3 : tie.Need-returns-3
-returns-3 c = neither-fails _ _ _ (c .before .before .before .before .before .first-failing .ensures) (c .before .before .before .enum-told .given .1) (c .before .before .first-failing2 .ensures) (c .enum-told2 .given .1)
+returns-3 c =
+    let y = c .before .before in
+    let x = y .before .before .before in
+    neither-fails _ _ _ (x .first-failing .ensures) (y .before .enum-told .given .1) (y .first-failing2 .ensures) (c .enum-told2 .given .1)
 
 pub first-of-spec : {M : Type 1} → statement M
 first-of-spec =
