@@ -1,0 +1,237 @@
+-- An election on bytes that stand for a history, in the model's words: the front, the certificates held, the answer, and the
+-- certificate that is kept.
+-- Assumes nothing.
+use Prim.Native.Nat.{ℕ, suc, _+_, _≤_, _<_}
+use native.Mathlib.Omega.{arith}
+use mathlib.Core.Path.{_≡_, refl, ap, sym, _∙_, subst}
+use mathlib.Core.Bool.{Bool, true, false, cond, _&&_, _||_}
+use mathlib.Core.Logic.{⊎-elim}
+use mathlib.Core.List.{List, [], _∷_, map}
+use mathlib.Core.Option.{Option, none, some}
+use lib.Dec.{leb, ltb, eqb}
+use lib.ListN.{length, take, length-map}
+use borrow.Author.Tests.{lt-ltb, le-ltb}
+use Rattle.model.specs.Sizes.{Bytes}
+use Rattle.model.specs.Entry.{Prefix}
+use Rattle.model.specs.Refusal.{Refusal, lengthExceedsFront, certificatesFull, numberTaken}
+use Rattle.model.specs.History.{Certificate, History, frontOf}
+use Rattle.model.specs.Election as model
+use Rattle.model.specs.Election.{held, taken, inOrder, electionRefusal, certificate, electionEffect}
+use Rattle.model.proofs.Tests.{tf, cond-true, cond-false}
+use Rattle.storage.specs.Words.{wordAt}
+use Rattle.storage.specs.Tables.{CertificateRow, PrefixRow, certificateRow, certificatesPart, prefixRow, prefixRows, prefixesPart}
+use Rattle.storage.specs.Decode.{prefixAt, resolve, logIn, certificateIn}
+use Rattle.storage.specs.Order.{placeOf, heldOf}
+use Rattle.storage.specs.Writes.{CertificateFits, certificateAdded}
+use Rattle.storage.proofs.ListLaws.{tabulate-length}
+use Rattle.storage.proofs.DecodeLaws.{CertificateNamed}
+use Rattle.storage.proofs.Meanings.{Stands, withElections, front-read, prefixes-is, certificates-is}
+use Rattle.storage.proofs.OrderLaws.{held-is, election-written}
+use Rattle.logical_log.specs.declared.prefix.Slice.{Slice}
+use Rattle.logical_log.proofs.TableLaws.{rows-length, rows-at, table-facts}
+use Rattle.logical_log.proofs.SliceLaws.{slice-cases}
+use Rattle.election.specs.declared.certificate.ElectionAnswer.{ElectionAnswer}
+use Rattle.election.specs.Order.{takenOf}
+use Rattle.election.specs.Certify.{roomOf, isAccepted, logOf, certificatesIn, heldIn, frontIn, sliceIn, judgedOf, kept, keptIn, answerIn, bytesIn}
+use Rattle.election.proofs.Stored.{table, front-named, rows-are, certificates-are}
+use Rattle.election.proofs.Turns.{room-left}
+
+-- the model's refusal, or none
+abbrev pub refusalOf : ElectionAnswer → Option Refusal
+refusalOf ElectionAnswer.Accepted = none
+refusalOf ElectionAnswer.LengthExceedsFront = some lengthExceedsFront
+refusalOf ElectionAnswer.CertificatesFull = some certificatesFull
+refusalOf ElectionAnswer.NumberTaken = some numberTaken
+
+-- ---- rows
+
+taken-is : (ps : List Prefix) (t n : ℕ) (cs : List CertificateRow) → taken t n (map (certificateIn ps) cs) ≡ takenOf t n cs
+unfolding taken takenOf
+taken-is ps t n [] = refl
+taken-is ps t n (c ∷ cs) = ap (λ (b : Bool). (eqb (c .term) t && eqb (c .number) n) || b) (taken-is ps t n cs)
+
+-- no more are of a term than there are
+held-within : (t : ℕ) (cs : List CertificateRow) → heldOf t cs ≤ length cs
+unfolding heldOf
+held-within t [] = omega arith
+held-within t (c ∷ cs) = go (eqb (c .term) t) (held-within t cs)
+  where
+    go : (b : Bool) → heldOf t cs ≤ length cs → heldOf t cs + cond {A = ℕ} b 1 0 ≤ suc (length cs)
+    go true e = omega arith
+    go false e = omega arith
+
+-- a row's log is the model's
+log-is : (ps : List Prefix) (l t m : ℕ) (p : Bool) (q n : ℕ) (f : Prefix) → prefixAt ps q ≡ take n f
+    → logIn ps (kept l t m p q) ≡ model.logOf p n f
+log-is ps l t m true q n f e = ap some e
+log-is ps l t m false q n f e = refl
+
+room-is : (a b : Bool) → refusalOf (cond a ElectionAnswer.CertificatesFull (cond b ElectionAnswer.NumberTaken ElectionAnswer.Accepted))
+    ≡ cond a (some certificatesFull) (cond b (some numberTaken) none)
+room-is true b = refl
+room-is false true = refl
+room-is false false = refl
+
+pub not-accepted : (r : ElectionAnswer) → (r ≡ ElectionAnswer.Accepted → ⊥) → isAccepted r ≡ false
+not-accepted ElectionAnswer.Accepted f = absurd (f refl)
+not-accepted ElectionAnswer.LengthExceedsFront f = refl
+not-accepted ElectionAnswer.CertificatesFull f = refl
+not-accepted ElectionAnswer.NumberTaken f = refl
+
+-- ---- bytes that stand for a history
+
+module _ (h : Bytes) (x : History) (s : Stands h x) where
+  abbrev rows : List PrefixRow
+  rows = prefixRows (prefixesPart h) (wordAt h 0 2)
+
+  abbrev cs : List CertificateRow
+  cs = certificatesIn h
+
+  resolved : resolve rows ≡ x .prefixes
+  resolved = ap resolve (sym (rows-are h (s .right))) ∙ prefixes-is h x s
+
+  certificates-held : map (certificateIn (x .prefixes)) cs ≡ x .certificates
+  certificates-held =
+      ap (map (certificateIn (x .prefixes))) (sym (certificates-are h (s .right))) ∙ certificates-is h x s
+
+  count-is : length cs ≡ length (x .certificates)
+  count-is = sym (length-map cs (certificateIn (x .prefixes))) ∙ ap length certificates-held
+
+  held-same : (t : ℕ) → heldIn h t ≡ held t (x .certificates)
+  held-same t = sym (held-is (x .prefixes) t cs) ∙ ap (held t) certificates-held
+
+  taken-same : (t n : ℕ) → takenOf t n cs ≡ taken t n (x .certificates)
+  taken-same t n = sym (taken-is (x .prefixes) t n cs) ∙ ap (taken t n) certificates-held
+
+  front-is : (l : ℕ) → l < 64 → prefixAt (resolve rows) (frontIn h l) ≡ frontOf x l
+  front-is l b =
+      ap (λ (ps : List Prefix). prefixAt ps (frontIn h l)) (resolved ∙ sym (ap (λ (y : History). y .prefixes) (s .decodes)))
+      ∙ sym (front-read h l b)
+      ∙ ap (λ (y : History). frontOf y l) (s .decodes)
+
+  -- 10 and 11 are the model's
+  room-same : (t : ℕ)
+      → refusalOf (roomOf t cs)
+      ≡ cond (leb 64 (length (x .certificates))) (some certificatesFull) (cond (taken t (held t (x .certificates)) (x .certificates)) (some numberTaken) none)
+  unfolding roomOf
+  room-same t =
+      let k = taken-same t (heldIn h t) ∙ ap (λ (m : ℕ). taken t m (x .certificates)) (held-same t) in
+      let c = count-is in
+      room-is (leb 64 (length cs)) (takenOf t (heldIn h t) cs)
+      ∙ (λ i. cond (leb 64 (c i)) (some certificatesFull) (cond (k i) (some numberTaken) none))
+
+  module _ (l t : ℕ) (p : Bool) (n : ℕ) (leads : l < 64) (fits : t < 4294967296) where
+    abbrev front : Prefix
+    front = prefixAt (resolve rows) (frontIn h l)
+
+    front-length : length front ≡ length (frontOf x l)
+    front-length = ap length (front-is l leads)
+
+    rows-count : length rows ≡ wordAt h 0 2
+    rows-count = rows-length (prefixesPart h) (wordAt h 0 2)
+
+    front-stored : frontIn h l ≤ length rows
+    front-stored = omega (arith, rows-count, front-named h (s .right) l leads)
+
+    model-beyond : length front < n → electionRefusal x l t n ≡ some lengthExceedsFront
+    unfolding electionRefusal
+    model-beyond b = cond-true (ltb (length (frontOf x l)) n) _ _ (lt-ltb (length (frontOf x l)) n (omega (arith, front-length)))
+
+    model-within : n ≤ length front
+        → electionRefusal x l t n
+        ≡ cond (leb 64 (length (x .certificates))) (some certificatesFull) (cond (taken t (held t (x .certificates)) (x .certificates)) (some numberTaken) none)
+    unfolding electionRefusal
+    model-within b = cond-false (ltb (length (frontOf x l)) n) _ _ (le-ltb (length (frontOf x l)) n (omega (arith, front-length)))
+
+    answer-beyond : sliceIn h l n ≡ Slice.Beyond → answerIn h l t n ≡ ElectionAnswer.LengthExceedsFront
+    unfolding answerIn
+    answer-beyond e = ap (λ (y : Slice). judgedOf h y t) e
+
+    answer-within : (q : ℕ) → sliceIn h l n ≡ Slice.Prefix q → answerIn h l t n ≡ roomOf t cs
+    unfolding answerIn
+    answer-within q e = ap (λ (y : Slice). judgedOf h y t) e
+
+    -- the log is beyond the front, or the first n entries of it are stored under q
+    data Cut : Type 0 where
+      beyond : sliceIn h l n ≡ Slice.Beyond → length front < n → Cut
+      within : (q : ℕ) → sliceIn h l n ≡ Slice.Prefix q → n ≤ length front → q ≤ length rows → prefixAt (resolve rows) q ≡ take n front → Cut
+
+    cut : Cut
+    cut =
+        ⊎-elim (λ c. beyond (c .0) (c .1)) (λ c. within (c .0) (c .1) (c .2) (c .3) (c .4))
+        (slice-cases (prefixRow (prefixesPart h)) rows (table-facts (prefixesPart h) (wordAt h 0 2) (table h (s .right))) (rows-at (prefixesPart h) (wordAt h 0 2)) (frontIn h l) n front-stored)
+
+    refusal-cut : Cut → refusalOf (answerIn h l t n) ≡ electionRefusal x l t n
+    refusal-cut (beyond e b) = ap refusalOf (answer-beyond e) ∙ sym (model-beyond b)
+    refusal-cut (within q e b _ _) = ap refusalOf (answer-within q e) ∙ room-same t ∙ sym (model-within b)
+
+    -- ---- the certificate
+
+    module _ (q : ℕ) (stored : q ≤ length rows) (log : prefixAt (resolve rows) q ≡ take n front) (room : wordAt h 6 1 < 64) where
+      abbrev new : CertificateRow
+      new = kept l t (heldIn h t) p q
+
+      flag-small : (b : Bool) → cond {A = ℕ} b 1 0 ≤ 1
+      flag-small true = omega arith
+      flag-small false = omega arith
+
+      new-fits : CertificateFits new
+      new-fits =
+          let a = held-within t cs in
+          let c = tabulate-length (certificateRow (certificatesPart h)) 0 (wordAt h 6 1) in
+          let r = table h (s .right) .fits in
+          record {
+            term = fits;
+            log = omega (arith, rows-count);
+            mark = omega arith;
+            leader = omega arith;
+            number = omega arith;
+            present = omega (arith, flag-small p);
+          }
+
+      new-named : CertificateNamed (wordAt h 0 2) new
+      new-named = record { log = omega (arith, rows-count); mark = omega arith; leader = omega arith; present = flag-small p }
+
+      log-same : prefixAt (x .prefixes) q ≡ take n (frontOf x l)
+      log-same = ap (λ (ps : List Prefix). prefixAt ps q) (sym resolved) ∙ log ∙ ap (take n) (front-is l leads)
+
+      certificate-is : certificateIn (x .prefixes) new ≡ certificate x l t p n
+      unfolding certificate
+      certificate-is =
+          let m = held-same t in
+          let g = log-is (x .prefixes) l t (heldIn h t) p q n (frontOf x l) log-same in
+          λ i. record { leader = l; term = t; number = m i; log = g i; mark = 0 }
+
+      effect-is : withElections x (inOrder (certificateIn (x .prefixes) new) (x .certificates)) ≡ electionEffect x l t p n
+      unfolding electionEffect
+      effect-is = ap (λ (c : Certificate). withElections x (inOrder c (x .certificates))) certificate-is
+
+      kept-stands : Stands (keptIn h l t p q) (electionEffect x l t p n)
+      kept-stands =
+          let e = certificates-are h (s .right) in
+          let w = election-written h x s new room new-fits new-named (ap (heldOf t) (sym e)) in
+          subst (λ (y : History). Stands (keptIn h l t p q) y) effect-is
+          (subst (λ (rs : List CertificateRow). Stands (certificateAdded h (placeOf t rs) new) (withElections x (inOrder (certificateIn (x .prefixes) new) (x .certificates)))) e w)
+
+    bytes-kept : (q : ℕ) → sliceIn h l n ≡ Slice.Prefix q → isAccepted (answerIn h l t n) ≡ true → keptIn h l t p q ≡ bytesIn h l t p n
+    unfolding bytesIn
+    bytes-kept q e a = sym (cond-true (isAccepted (answerIn h l t n)) _ h a ∙ ap (λ (y : Slice). keptIn h l t p (logOf y)) e)
+
+    pub bytes-left : isAccepted (answerIn h l t n) ≡ false → bytesIn h l t p n ≡ h
+    unfolding bytesIn
+    bytes-left a = cond-false (isAccepted (answerIn h l t n)) _ h a
+
+    effect-cut : Cut → answerIn h l t n ≡ ElectionAnswer.Accepted → Stands (bytesIn h l t p n) (electionEffect x l t p n)
+    effect-cut (beyond e _) a = absurd (tf (sym (ap isAccepted a) ∙ ap isAccepted (answer-beyond e)))
+    effect-cut (within q e _ stored log) a =
+        let r = room-left t cs (ap isAccepted (sym (answer-within q e) ∙ a)) in
+        let c = tabulate-length (certificateRow (certificatesPart h)) 0 (wordAt h 6 1) in
+        subst (λ (y : Bytes). Stands y (electionEffect x l t p n)) (bytes-kept q e (ap isAccepted a)) (kept-stands q stored log (omega arith))
+
+    -- the answer is the model's
+    pub refusal-is : refusalOf (answerIn h l t n) ≡ electionRefusal x l t n
+    refusal-is = refusal-cut cut
+
+    -- and the bytes after an accepted one stand for the model's history
+    pub effect-stands : answerIn h l t n ≡ ElectionAnswer.Accepted → Stands (bytesIn h l t p n) (electionEffect x l t p n)
+    effect-stands a = effect-cut cut a

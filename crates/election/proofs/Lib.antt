@@ -1,0 +1,5 @@
+pub mod Loops
+pub mod Stored
+pub mod Turns
+pub mod Effects
+pub mod Meaning

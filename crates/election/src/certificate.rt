@@ -1,0 +1,221 @@
+// An election is judged with nothing written, then its certificate is kept (state/election.rs): the first `length` entries of
+// the leader's front, or no log.
+ghost use mathlib.Core.Path.{_≡_};
+ghost use Prim.Native.Nat.{_≤_, _<_};
+ghost use mathlib.Core.Bool.{true, cond};
+ghost use lib.ListN.{length};
+ghost use Rattle.storage.specs.Rules.{wellFormed};
+ghost use Rattle.storage.specs.Tables.{certificateRows, certificatesPart, nodeRow, nodesPart, prefixRow, prefixesPart};
+ghost use Rattle.storage.specs.Values.{certificateValue};
+ghost use Rattle.storage.specs.Words.{wordAt};
+ghost use Rattle.logical_log.specs.Prefix.{sliceOf};
+ghost use Rattle.election.specs.Certify.{withinFront, earlierOf, isAccepted, roomOf, heldIn, placeIn, judgedOf, logOf, kept, keptIn, Recorded};
+use crate::order::held_of;
+use crate::order::is_taken;
+use crate::order::place_of;
+use logical_log::prefix::Slice;
+use logical_log::prefix::slice_through;
+use storage::certificates::Certificate;
+use storage::certificates::add_certificate;
+use storage::head::certificate_count;
+use storage::head::prefix_count;
+use storage::layout::CERTIFICATES_LENGTH;
+use storage::layout::CERTIFICATES_START;
+use storage::layout::NODES_LENGTH;
+use storage::layout::NODES_START;
+use storage::layout::PREFIXES_LENGTH;
+use storage::layout::PREFIXES_START;
+use storage::layout::part;
+use storage::nodes::node_at;
+use units::CERTIFICATE_LIMIT;
+use units::LogIndex;
+use units::NodeId;
+use units::Term;
+
+// Accepted, or why not.
+pub enum ElectionAnswer {
+    // The certificate is kept.
+    Accepted,
+    // 9: the length exceeds the leader's front.
+    LengthExceedsFront,
+    // 10: 64 certificates are held.
+    CertificatesFull,
+    // 11: its number within its term is taken.
+    NumberTaken,
+}
+
+// The number of the leader's front; a node without a view has the empty one, 0.
+fn front_of(history: &[u8], leader: NodeId) -> usize
+    requires { ⌜ (leader .0 < 64) × (length (now history) ≡ 24137) ⌝ }
+    ensures { λ r. ⌜ r ≡ nodeRow (nodesPart (now (history .entry))) (leader .0) .front ⌝ }
+{
+    let nodes = part(history, NODES_START, NODES_LENGTH);
+    node_at(nodes, leader.0 as usize).front
+}
+
+// The first `length` entries of the prefix of number p.
+fn first_entries(history: &[u8], p: usize, length: LogIndex) -> Slice
+    requires { ⌜ (wellFormed (now history) ≡ true) × (p ≤ wordAt (now history) 0 2) ⌝ }
+    ensures { λ r. ⌜ r ≡ sliceOf (prefixRow (prefixesPart (now (history .entry)))) p (length .0) ⌝ }
+{
+    let n = prefix_count(history);
+    let prefixes = part(history, PREFIXES_START, PREFIXES_LENGTH);
+    slice_through(prefixes, n, p, length)
+}
+
+// 9 where the front has fewer entries than asked for.
+fn within_front(slice: Slice) -> ElectionAnswer
+    ensures { λ r. ⌜ r ≡ withinFront slice ⌝ }
+{
+    match slice {
+        Slice::Prefix(_) => ElectionAnswer::Accepted,
+        Slice::Beyond => ElectionAnswer::LengthExceedsFront,
+    }
+}
+
+// 10, then 11, over the n certificates held.
+fn room_for(certificates: &[u8], n: usize, term: Term) -> ElectionAnswer
+    requires { ⌜ (n ≤ 64) × (length (now certificates) ≡ 704) ⌝ }
+    ensures { λ r. ⌜ r ≡ roomOf (term .0) (certificateRows (now (certificates .entry)) n) ⌝ }
+{
+    if CERTIFICATE_LIMIT <= n {
+        return ElectionAnswer::CertificatesFull;
+    }
+    let number = held_of(certificates, n, term);
+    if is_taken(certificates, n, term, number) {
+        return ElectionAnswer::NumberTaken;
+    }
+    ElectionAnswer::Accepted
+}
+
+// The same of a whole history.
+fn room_in(history: &[u8], term: Term) -> ElectionAnswer
+    requires { ⌜ wellFormed (now history) ≡ true ⌝ }
+    ensures { λ r. ⌜ r ≡ roomOf (term .0) (certificateRows (certificatesPart (now (history .entry))) (wordAt (now (history .entry)) 6 1)) ⌝ }
+{
+    let n = certificate_count(history);
+    let certificates = part(history, CERTIFICATES_START, CERTIFICATES_LENGTH);
+    room_for(certificates, n, term)
+}
+
+// The number of the next certificate of the term.
+fn number_in(history: &[u8], term: Term) -> usize
+    requires { ⌜ wellFormed (now history) ≡ true ⌝ }
+    ensures { λ r. ⌜ r ≡ heldIn (now (history .entry)) (term .0) ⌝ }
+{
+    let n = certificate_count(history);
+    let certificates = part(history, CERTIFICATES_START, CERTIFICATES_LENGTH);
+    held_of(certificates, n, term)
+}
+
+// The place of the next certificate of the term.
+fn place_in(history: &[u8], term: Term) -> usize
+    requires { ⌜ wellFormed (now history) ≡ true ⌝ }
+    ensures { λ r. ⌜ r ≡ placeIn (now (history .entry)) (term .0) ⌝ }
+{
+    let n = certificate_count(history);
+    let certificates = part(history, CERTIFICATES_START, CERTIFICATES_LENGTH);
+    place_of(certificates, n, term)
+}
+
+// The earlier of two refusals, or acceptance.
+fn earlier(a: ElectionAnswer, b: ElectionAnswer) -> ElectionAnswer
+    ensures { λ r. ⌜ r ≡ earlierOf a b ⌝ }
+{
+    match a {
+        ElectionAnswer::Accepted => b,
+        ElectionAnswer::LengthExceedsFront => ElectionAnswer::LengthExceedsFront,
+        ElectionAnswer::CertificatesFull => ElectionAnswer::CertificatesFull,
+        ElectionAnswer::NumberTaken => ElectionAnswer::NumberTaken,
+    }
+}
+
+// 9, then 10, then 11.
+fn judge(history: &[u8], slice: Slice, term: Term) -> ElectionAnswer
+    requires { ⌜ wellFormed (now history) ≡ true ⌝ }
+    ensures { λ r. ⌜ r ≡ judgedOf (now (history .entry)) slice (term .0) ⌝ }
+{
+    let front = within_front(slice);
+    let room = room_in(history, term);
+    earlier(front, room)
+}
+
+fn accepts(a: ElectionAnswer) -> bool
+    ensures { λ r. ⌜ r ≡ isAccepted a ⌝ }
+{
+    match a {
+        ElectionAnswer::Accepted => true,
+        ElectionAnswer::LengthExceedsFront => false,
+        ElectionAnswer::CertificatesFull => false,
+        ElectionAnswer::NumberTaken => false,
+    }
+}
+
+// The number of the prefix; nothing asks for it beyond the front.
+fn log_of(slice: Slice) -> usize
+    ensures { λ r. ⌜ r ≡ logOf slice ⌝ }
+{
+    let Slice::Prefix(log) = slice else {
+        return 0;
+    };
+    log
+}
+
+fn flag(present: bool) -> usize
+    ensures { λ r. ⌜ r ≡ cond present 1 0 ⌝ }
+{
+    if present { 1 } else { 0 }
+}
+
+// A new certificate: nothing of its log is checked yet.
+fn new_certificate(
+    leader: NodeId,
+    term: Term,
+    number: usize,
+    present: bool,
+    log: usize,
+) -> Certificate
+    ensures { λ r. ⌜ certificateValue r ≡ kept (leader .0) (term .0) number present log ⌝ }
+{
+    Certificate {
+        term,
+        log,
+        mark: LogIndex(0),
+        leader,
+        number,
+        present: flag(present),
+    }
+}
+
+// The certificate of an election that is accepted, put in its place.
+fn keep(history: &mut [u8], leader: NodeId, term: Term, present: bool, log: usize)
+    requires { ⌜ (wellFormed (now history) ≡ true) × (wordAt (now history) 6 1 < 64) ⌝ }
+    ensures { λ r. ⌜ now (history .exit) ≡ keptIn (now (history .entry)) (leader .0) (term .0) present log ⌝ }
+{
+    let number = number_in(&history[..], term);
+    let place = place_in(&history[..], term);
+    let c = new_certificate(leader, term, number, present, log);
+    add_certificate(&mut history[..], place, c);
+}
+
+// An election of the leader in the term, with the first `length` entries of its front where its log is present.
+pub fn record_election(
+    history: &mut [u8],
+    leader: NodeId,
+    term: Term,
+    present: bool,
+    length: LogIndex,
+) -> ElectionAnswer
+    requires { ⌜ (wellFormed (now history) ≡ true) × (leader .0 < 64) ⌝ }
+    ensures { λ r. ⌜ Recorded (now (history .entry)) (leader .0) (term .0) present (length .0) r (now (history .exit)) ⌝ }
+{
+    let front = front_of(&history[..], leader);
+    let slice = first_entries(&history[..], front, length);
+    let judged = judge(&history[..], slice, term);
+    if !accepts(judged) {
+        return judged;
+    }
+    let log = log_of(slice);
+    keep(&mut history[..], leader, term, present, log);
+    judged
+}
