@@ -1,0 +1,8 @@
+pub mod PickLaws
+pub mod Whole
+pub mod OrderLaws
+pub mod Ordered
+pub mod LeaderLaws
+pub mod Ascents
+pub mod Printed
+pub mod Meaning

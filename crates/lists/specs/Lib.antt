@@ -1,0 +1,6 @@
+pub mod Picked
+pub mod Committed
+pub mod Unseen
+pub mod Unknown
+pub mod Findings
+pub mod Leaders

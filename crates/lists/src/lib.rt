@@ -1,0 +1,7 @@
+// The printed lists of a history, one element at a time: the committed length and owner, the findings, the leaders, the unseen
+// marks and the unknown indexes. Nothing is written.
+pub mod committed;
+pub mod findings;
+pub mod leaders;
+pub mod unknown;
+pub mod unseen;
