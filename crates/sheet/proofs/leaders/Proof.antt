@@ -1,0 +1,59 @@
+-- `sheet::leaders` meets its contract.
+-- Assumes nothing.
+use Prim.Native.Nat.{_-_}
+use borrow.Author.Needs.{needs}
+use Rattle.sheet.proofs.leaders.Statement.{statement}
+use Rattle.sheet.proofs.leaders.Tie as tie
+
+abbrev Inv-loop : tie.InvT-loop
+Inv-loop history k₀ k = Unit {0}
+
+abbrev μ-loop : tie.MeasureT-loop
+μ-loop history k₀ k = 128 - k
+
+loop-holds : tie.Need-loop-holds Inv-loop μ-loop
+loop-holds c = search needs
+
+leader-at-requires : tie.Need-leader-at-requires Inv-loop μ-loop
+leader-at-requires c κs = search needs
+
+enum-known-term : tie.Need-enum-known-term Inv-loop μ-loop
+enum-known-term c = search needs
+
+enum-told : tie.Need-enum-told Inv-loop μ-loop
+enum-told c = search needs
+
+returns : tie.Need-returns Inv-loop μ-loop
+returns c = search needs
+
+say-leader-requires : tie.Need-say-leader-requires Inv-loop μ-loop
+say-leader-requires c κs = search needs
+
+add-k : tie.Need-add-k Inv-loop μ-loop
+add-k c = search needs
+
+loop-less : tie.Need-loop-less Inv-loop μ-loop
+loop-less c = search needs
+
+loop-again : tie.Need-loop-again Inv-loop μ-loop
+loop-again c = search needs
+
+returns-2 : tie.Need-returns-2 Inv-loop μ-loop
+returns-2 c = search needs
+
+pub leaders-spec : {M : Type 1} → statement M
+leaders-spec =
+    tie.close
+    (tie.spec
+    Inv-loop
+    μ-loop
+    loop-holds
+    leader-at-requires
+    enum-known-term
+    enum-told
+    returns
+    say-leader-requires
+    add-k
+    loop-less
+    loop-again
+    returns-2)
