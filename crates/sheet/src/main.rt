@@ -23,12 +23,12 @@ use records::bits::fault_number;
 use storage::findings::Found;
 use storage::layout::part;
 use storage::rules::well_formed;
-use units::CERTIFICATE_LIMIT;
-use units::FINDING_LIMIT;
-use units::INDEX_LIMIT;
 use units::LogIndex;
 use units::NodeId;
 use units::Term;
+
+// No list is longer: 128 findings and leaders, 64 unseen marks, 256 unknown indexes.
+const MOST: usize = 256;
 
 // The refusal by its number, 0 where there is none.
 fn refusal_of(a: Answer) -> u8 {
@@ -124,7 +124,7 @@ fn findings(history: &[u8])
     requires { ⌜ wellFormed (now history) ≡ true ⌝ }
 {
     let mut k = 0;
-    while k < FINDING_LIMIT {
+    while k < MOST {
         let FindingAnswer::Finding(f) = finding_at(history, k) else {
             return;
         };
@@ -144,7 +144,7 @@ fn leaders(history: &[u8])
     requires { ⌜ wellFormed (now history) ≡ true ⌝ }
 {
     let mut k = 0;
-    while k < FINDING_LIMIT {
+    while k < MOST {
         let LeaderAnswer::Leader { term, leader } = leader_at(history, k) else {
             return;
         };
@@ -164,7 +164,7 @@ fn unseen(history: &[u8])
     requires { ⌜ wellFormed (now history) ≡ true ⌝ }
 {
     let mut k = 0;
-    while k < CERTIFICATE_LIMIT {
+    while k < MOST {
         let UnseenAnswer::Mark { node, index } = unseen_at(history, k) else {
             return;
         };
@@ -183,7 +183,7 @@ fn unknown(history: &[u8])
     requires { ⌜ wellFormed (now history) ≡ true ⌝ }
 {
     let mut k = 0;
-    while k < INDEX_LIMIT {
+    while k < MOST {
         let UnknownAnswer::Index(index) = unknown_at(history, k) else {
             return;
         };

@@ -9,7 +9,7 @@ abbrev Inv-loop : tie.InvT-loop
 Inv-loop history k₀ k = Unit {0}
 
 abbrev μ-loop : tie.MeasureT-loop
-μ-loop history k₀ k = 128 - k
+μ-loop history k₀ k = 256 - k
 
 loop-holds : tie.Need-loop-holds Inv-loop μ-loop
 loop-holds c = search needs
