@@ -5,3 +5,4 @@ pub mod Listed
 pub mod Walks
 pub mod Heads
 pub mod Readable
+pub mod Faults
