@@ -56,7 +56,6 @@ module _ (h u : Bytes) (n : ℕ) (b : Bool) (m : ℕ) (t : Bytes) (eu : u ≡ fi
       record {
         is = sym (cond-true (ltb 128 (checkHeld h)) Checked.FindingsFull _ f);
         bytes = sym (cond-true (ltb 128 (checkHeld h)) h _ f);
-        octets = j .octets;
       }
 
   pub checked-accepted : m ≤ 128 → (end : ℕ) → end ≡ committedEnd h → (h′ : Bytes) → h′ ≡ checkWritten h t m end → (v : ℕ) → v ≡ valueOf b
@@ -67,5 +66,4 @@ module _ (h u : Bytes) (n : ℕ) (b : Bool) (m : ℕ) (t : Bytes) (eu : u ≡ fi
       record {
         is = ap Checked.Accepted (ev ∙ ap valueOf (j .flag)) ∙ sym (cond-false (ltb 128 (checkHeld h)) Checked.FindingsFull _ f);
         bytes = eh ∙ (λ i. checkWritten h (table-is i) (held-is i) (ee i)) ∙ sym (cond-false (ltb 128 (checkHeld h)) h _ f);
-        octets = j .octets;
       }

@@ -26,7 +26,7 @@ use Rattle.storage.proofs.DecodeLaws.{Kept, well-formed-of, FindingNamed, findi
 use Rattle.storage.proofs.Meanings.{Stands, long, kept, is, withNoted}
 use Rattle.completeness.specs.Relevance.{relevantIn}
 use Rattle.completeness.specs.Judgement.{lacksThrough, lackingOf, lackingAt, lackingIn, lackingsIn}
-use Rattle.completeness.proofs.Read.{Stored}
+use Rattle.completeness.proofs.Fits.{Stored}
 use Rattle.completeness.proofs.CertificateMeaning.{relevant-within}
 
 -- ---- each finding fits its row

@@ -26,7 +26,7 @@ use Rattle.logical_log.proofs.TableLaws.{rows-length, rows-at, table-facts}
 use Rattle.logical_log.proofs.SliceLaws.{slice-cases}
 use Rattle.logical_log.proofs.ViolationLaws.{all-length}
 use Rattle.completeness.specs.Relevance.{relevantIn}
-use Rattle.completeness.specs.Judgement.{sameSlice, hasThrough, lacksThrough, lackingOf, lackingAt, lackingIn, flagIn, NotedAs, JudgedAs, lackingsIn, flagsIn, certificatesOf, Octets, JudgedAll}
+use Rattle.completeness.specs.Judgement.{sameSlice, hasThrough, lacksThrough, lackingOf, lackingAt, lackingIn, flagIn, NotedAs, JudgedAs, lackingsIn, flagsIn, certificatesOf, JudgedAll}
 use Rattle.completeness.proofs.Sound.{Sound}
 
 -- ---- the table of prefixes as it is lent
@@ -210,9 +210,9 @@ module _ (h t₀ : Bytes) (held m : ℕ) where
       }
 
   module _ (t : Bytes) (b : Bool) (n k : ℕ) (w : Walking h t₀ held m t b n k) where
-    pub walking-ends : m ≤ k → Octets h → JudgedAll h t₀ held b n t
+    pub walking-ends : m ≤ k → JudgedAll h t₀ held b n t
     unfolding flagsIn lackingsIn heldAll bytesAll
-    walking-ends l o =
+    walking-ends l =
         let s : tabulate (certificateRow (certificatesPart h)) k (m - k) ≡ [] = tabulate-none (certificateRow (certificatesPart h)) k m l in
         record {
           flag = sym (w .flag ∙ ap (flagsIn h b) s);
@@ -220,7 +220,6 @@ module _ (h t₀ : Bytes) (held m : ℕ) where
           table = sym (w .table ∙ ap (λ (cs : List CertificateRow). bytesAll t n (lackingsIn h cs)) s);
           few = w .few;
           long = w .long;
-          octets = o;
         }
 
     module _ (l : k < m) (c : CertificateRow) (e : c ≡ certificateRow (certificatesPart h) k) where

@@ -4,6 +4,7 @@ pub mod JudgementLaws
 pub mod MarkLaws
 pub mod CheckLaws
 pub mod Read
+pub mod Fits
 pub mod CertificateMeaning
 pub mod MarkMeaning
 pub mod FindingMeaning

@@ -1,6 +1,6 @@
 -- The marks: the turns of the loop that moves them, and what moving them means.
 -- Assumes nothing.
-use Prim.Native.Nat.{ℕ, zero, suc, _+_, _-_, _*_, _<_, _≤_}
+use Prim.Native.Nat.{ℕ, zero, suc, _+_, _-_, _<_, _≤_}
 use native.Mathlib.Omega.{arith}
 use mathlib.Core.Path.{_≡_, refl, sym, _∙_, ap, subst}
 use lib.Dec.{ltb}
@@ -8,10 +8,10 @@ use lib.ListN.{length}
 use borrow.Author.Tests.{lt-ltb, le-ltb}
 use Rattle.model.specs.Sizes.{Bytes}
 use Rattle.model.proofs.Tests.{cond-cases, cond-true, cond-false}
-use Rattle.storage.specs.Words.{wordAt, putBytes}
+use Rattle.storage.specs.Words.{wordAt}
 use Rattle.storage.specs.Tables.{CertificateRow, certificateRow, certificatesPart}
-use Rattle.storage.specs.Writes.{certificateBytes}
-use Rattle.storage.proofs.WordLaws.{put-length}
+use Rattle.commit.specs.Marks.{markSet, certificateOf}
+use Rattle.commit.proofs.MarkTurns.{mark-length}
 use Rattle.completeness.specs.Marks.{markedRow, markMoved, marksMoved}
 
 -- ---- one certificate
@@ -19,28 +19,23 @@ use Rattle.completeness.specs.Marks.{markedRow, markMoved, marksMoved}
 pub moved-length : (h : Bytes) (k end : ℕ) → length (markMoved h k end) ≡ length h
 unfolding markMoved
 moved-length h k end =
-    let vs = certificateBytes (markedRow (certificateRow (certificatesPart h) k) end) in
-    cond-cases (λ (u : Bytes). length u ≡ length h) (ltb (certificateRow (certificatesPart h) k .mark) end)
-    (putBytes h (1417 + k * 11) vs) h
-    (λ _. put-length h (1417 + k * 11) vs) (λ _. refl)
+    cond-cases (λ (u : Bytes). length u ≡ length h) (ltb (certificateOf h k .mark) end) (markSet h k end) h (λ _. mark-length h k end)
+    (λ _. refl)
 
 module _ (h : Bytes) (k end : ℕ) (p : Bytes) (ep : p ≡ certificatesPart h) (c : CertificateRow) (e : c ≡ certificateRow p k) where
-  here : c ≡ certificateRow (certificatesPart h) k
+  here : c ≡ certificateOf h k
   here = e ∙ ap (λ (q : Bytes). certificateRow q k) ep
 
-  pub mark-passed : c .mark < end → (d : CertificateRow) → d ≡ markedRow c end → (u : Bytes) → u ≡ putBytes h (1417 + k * 11) (certificateBytes d)
-      → u ≡ markMoved h k end
+  pub mark-passed : c .mark < end → (d : CertificateRow) → d ≡ markedRow c end → (u : Bytes) → u ≡ markSet h k (d .mark) → u ≡ markMoved h k end
   unfolding markMoved
   mark-passed l d ed u eu =
-      eu ∙ ap (λ (x : CertificateRow). putBytes h (1417 + k * 11) (certificateBytes x)) (ed ∙ ap (λ (x : CertificateRow). markedRow x end) here)
-      ∙ sym (cond-true (ltb (certificateRow (certificatesPart h) k .mark) end) _ h
-      (lt-ltb _ end (subst (λ (x : CertificateRow). x .mark < end) here l)))
+      eu ∙ ap (λ (x : CertificateRow). markSet h k (x .mark)) ed
+      ∙ sym (cond-true (ltb (certificateOf h k .mark) end) _ h (lt-ltb _ end (subst (λ (x : CertificateRow). x .mark < end) here l)))
 
   pub mark-stays : end ≤ c .mark → h ≡ markMoved h k end
   unfolding markMoved
   mark-stays l =
-      sym (cond-false (ltb (certificateRow (certificatesPart h) k .mark) end) _ h
-      (le-ltb _ end (subst (λ (x : CertificateRow). end ≤ x .mark) here l)))
+      sym (cond-false (ltb (certificateOf h k .mark) end) _ h (le-ltb _ end (subst (λ (x : CertificateRow). end ≤ x .mark) here l)))
 
 -- ---- all of them
 

@@ -1,11 +1,11 @@
 -- Moving the marks in bytes that stand for a history: each certificate's mark is at the end, or where it was if that is past
 -- it, and nothing else has changed.
 -- Assumes nothing.
-use Prim.Native.Nat.{ℕ, suc, _+_, _*_, _<_, _≤_, max}
+use Prim.Native.Nat.{ℕ, suc, _+_, _<_, _≤_, max}
 use native.Mathlib.Omega.{arith}
-use mathlib.Core.Path.{_≡_, refl, sym, _∙_, ap, subst, subst₂}
+use mathlib.Core.Path.{_≡_, sym, _∙_, ap, subst, subst₂}
 use mathlib.Core.Logic.{⊎-elim}
-use mathlib.Core.List.{List, [], _∷_, _++_, map, List·Memᴰ, List·Memᴰ·head, List·Memᴰ·tail}
+use mathlib.Core.List.{List, [], _∷_, _++_, map}
 use mathlib.Core.Bool.{cond}
 use lib.Dec.{ltb}
 use lib.ListN.{length, getD, set, length-append}
@@ -15,57 +15,39 @@ use Rattle.model.specs.Sizes.{Bytes}
 use Rattle.model.specs.History.{Certificate, History}
 use Rattle.model.specs.Terms.{withMark}
 use Rattle.model.proofs.Tests.{either, cond-true, cond-false}
-use Rattle.storage.specs.Words.{wordAt, putBytes}
-use Rattle.storage.specs.Tables.{CertificateRow, certificateRow, certificatesPart}
+use Rattle.storage.specs.Words.{wordAt}
+use Rattle.storage.specs.Tables.{CertificateRow}
 use Rattle.storage.specs.Decode.{certificateIn}
-use Rattle.storage.specs.Writes.{certificateBytes}
-use Rattle.storage.proofs.Meanings.{Stands, withElections, certificates-read, certificate-read, certificate-written}
-use Rattle.completeness.specs.Marks.{markedRow, markMoved, marksMoved}
-use Rattle.completeness.proofs.Sound.{sound}
+use Rattle.storage.proofs.Meanings.{Stands, withElections, certificates-read}
+use Rattle.commit.specs.Marks.{markSet, certificateOf}
+use Rattle.commit.proofs.MarkLaws.{certificate-at, mark-written}
+use Rattle.completeness.specs.Marks.{markMoved, marksMoved}
 
 -- a certificate's mark at the end, where that passes it
 abbrev pub raised : ℕ → Certificate → Certificate
 raised end c = withMark c (max (c .mark) end)
 
--- a term of 32 bits, and a number of one byte
-abbrev pub Fit : ℕ → ℕ → Type 0
-Fit t n = (t < 4294967296) × (n < 256)
-
 -- ---- one certificate
 
 module _ (h : Bytes) (x : History) (s : Stands h x) (end : ℕ) (small : end ≤ 256) (k : ℕ) (l : k < wordAt h 6 1) where
   abbrev c : CertificateRow
-  c = certificateRow (certificatesPart h) k
+  c = certificateOf h k
 
   -- the certificate in the model
   abbrev old : Certificate
   old = getD (x .certificates) k (certificateIn (x .prefixes) c)
 
   old-is : old ≡ certificateIn (x .prefixes) c
-  old-is =
-      subst (λ (y : History). getD (y .certificates) k (certificateIn (y .prefixes) c) ≡ certificateIn (y .prefixes) c) (s .decodes)
-      (certificate-read h k c l)
+  old-is = certificate-at h x s k l
 
   abbrev Moved : Bytes → Type 0
   Moved u = Stands u (withElections x (set (x .certificates) k (raised end old)))
 
-  passed : c .mark < end → Fit (c .term) (c .number) → Moved (putBytes h (1417 + k * 11) (certificateBytes (markedRow c end)))
-  passed b f =
-      let o = sound h (s .right) .named k l in
-      let r = sound h (s .right) .table .fits in
-      subst (λ (d : Certificate). Stands (putBytes h (1417 + k * 11) (certificateBytes (markedRow c end))) (withElections x (set (x .certificates) k d)))
+  passed : c .mark < end → Moved (markSet h k end)
+  passed b =
+      subst (λ (d : Certificate). Stands (markSet h k end) (withElections x (set (x .certificates) k d)))
       (ap (λ (m : ℕ). withMark (certificateIn (x .prefixes) c) m) (let e : end ≡ max (c .mark) end = omega arith in e) ∙ ap (raised end) (sym old-is))
-      (certificate-written h x s k (markedRow c end) l
-      (record {
-        term = f .0;
-        log = (let z = o .log in omega arith);
-        mark = omega arith;
-        leader = (let z = o .leader in omega arith);
-        number = f .1;
-        present = (let z = o .present in omega arith);
-      })
-      (record { log = o .log; mark = small; leader = o .leader; present = o .present })
-      (refl, refl))
+      (mark-written h x s k end l small)
 
   stays : end ≤ c .mark → Moved h
   stays b =
@@ -75,12 +57,12 @@ module _ (h : Bytes) (x : History) (s : Stands h x) (end : ℕ) (small : end ≤
       (sym (ap (set (x .certificates) k) q ∙ set-getD (x .certificates) k (certificateIn (x .prefixes) c))) s
 
   -- the mark of certificate k moves, and nothing else
-  pub mark-means : Fit (c .term) (c .number) → Stands (markMoved h k end) (withElections x (set (x .certificates) k (raised end (certificateIn (x .prefixes) c))))
+  pub mark-means : Stands (markMoved h k end) (withElections x (set (x .certificates) k (raised end (certificateIn (x .prefixes) c))))
   unfolding markMoved
-  mark-means f =
-      let u = putBytes h (1417 + k * 11) (certificateBytes (markedRow c end)) in
+  mark-means =
+      let u = markSet h k end in
       subst (λ (d : Certificate). Stands (cond (ltb (c .mark) end) u h) (withElections x (set (x .certificates) k (raised end d)))) old-is
-      (⊎-elim (λ t. subst Moved (sym (cond-true (ltb (c .mark) end) u h t)) (passed (ltb-true _ _ t) f))
+      (⊎-elim (λ t. subst Moved (sym (cond-true (ltb (c .mark) end) u h t)) (passed (ltb-true _ _ t)))
       (λ t. subst Moved (sym (cond-false (ltb (c .mark) end) u h t)) (stays (ltb-false _ _ t)))
       (either (ltb (c .mark) end)))
 
@@ -88,15 +70,15 @@ module _ (h : Bytes) (x : History) (s : Stands h x) (end : ℕ) (small : end ≤
 
 -- the history's certificates are some whose marks have moved, and the rest
 pub marks-mean : (cs : List CertificateRow) (moved : List Certificate) (h : Bytes) (x : History) → Stands h x → (end : ℕ) → end ≤ 256
-    → x .certificates ≡ moved ++ map (certificateIn (x .prefixes)) cs → ((c : CertificateRow) → List·Memᴰ c cs → Fit (c .term) (c .number))
+    → x .certificates ≡ moved ++ map (certificateIn (x .prefixes)) cs
     → Stands (marksMoved h end (length moved) (length cs)) (withElections x (moved ++ map (raised end) (map (certificateIn (x .prefixes)) cs)))
 unfolding marksMoved
-marks-mean [] moved h x s end small e f = subst (λ (ds : List Certificate). Stands h (withElections x ds)) e s
-marks-mean (c ∷ cs) moved h x s end small e f =
+marks-mean [] moved h x s end small e = subst (λ (ds : List Certificate). Stands h (withElections x ds)) e s
+marks-mean (c ∷ cs) moved h x s end small e =
     subst₂ Stands (ap (λ (n : ℕ). marksMoved (markMoved h k end) end n (length cs)) longer)
     (ap (withElections x) (append-snoc moved (raised end d) (map (raised end) rest)))
     (marks-mean cs (moved ++ (raised end d ∷ [])) (markMoved h k end) (withElections x after) step end small
-    (sym (append-snoc moved (raised end d) rest)) (λ y m. f y (List·Memᴰ·tail m)))
+    (sym (append-snoc moved (raised end d) rest)))
   where
     k : ℕ
     k = length moved
@@ -121,7 +103,7 @@ marks-mean (c ∷ cs) moved h x s end small e f =
     before = omega (arith, count)
 
     row : CertificateRow
-    row = certificateRow (certificatesPart h) k
+    row = certificateOf h k
 
     -- the certificate at place k
     here : certificateIn (x .prefixes) row ≡ d
@@ -133,5 +115,4 @@ marks-mean (c ∷ cs) moved h x s end small e f =
     step =
         subst (λ (ds : List Certificate). Stands (markMoved h k end) (withElections x ds))
         ((λ i. set (e i) k (raised end (here i))) ∙ set-append-seam moved d rest (raised end d))
-        (mark-means h x s end small k before
-        (subst (λ (y : Certificate). Fit (y .term) (y .number)) (sym here) (f c (List·Memᴰ·head refl))))
+        (mark-means h x s end small k before)

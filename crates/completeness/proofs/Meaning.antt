@@ -1,4 +1,4 @@
--- The completeness check on bytes is document 01's. Let bytes stand for a history. Then the check of the bytes answers what
+-- The completeness check on bytes is document 01's. Let bytes stand for a history whose terms fit 32 bits. Then the check of the bytes answers what
 -- the model answers for the history: accepted, it has the model's value and leaves bytes that stand for the model's history
 -- after the check; refused, it leaves every byte.
 -- Assumes nothing.
@@ -29,10 +29,11 @@ use Rattle.storage.proofs.Meanings.{Stands, kept, is, withElections}
 use Rattle.logical_log.proofs.ViolationLaws.{Holds, all-hold, all-length}
 use Rattle.completeness.specs.declared.leader_completeness.Checked.{Checked}
 use Rattle.completeness.specs.Relevance.{committedEnd}
-use Rattle.completeness.specs.Judgement.{lackingsIn, flagsIn, certificatesOf, Octets}
+use Rattle.completeness.specs.Judgement.{lackingsIn, flagsIn, certificatesOf}
 use Rattle.completeness.specs.Marks.{marksMoved}
 use Rattle.completeness.specs.Check.{refusalOf, valueIn, valueOf, checkHeld, checkTable, checkWritten, checkAnswer, checkBytes, CheckedAs}
-use Rattle.completeness.proofs.Read.{Stored, right, end-is, end-small, certificates-are, findings-are, stored}
+use Rattle.completeness.proofs.Read.{right, end-is, end-small, certificates-are, findings-are}
+use Rattle.completeness.proofs.Fits.{TermsFit, Stored, stored}
 use Rattle.completeness.proofs.CertificateMeaning.{lackings-mean, flags-mean}
 use Rattle.completeness.proofs.MarkMeaning.{raised, marks-mean}
 use Rattle.completeness.proofs.FindingMeaning.{Fitting, fitting, lackings-fit, noted-right, findings-mean}
@@ -49,9 +50,9 @@ pub record Means (h : Bytes) (x : History) (answer : Checked) (after : Bytes) : 
 
 -- ---- the proof
 
-module _ (h : Bytes) (x : History) (s : Stands h x) (o : Octets h) where
+module _ (h : Bytes) (x : History) (s : Stands h x) (f : TermsFit x) where
   rows : (c : CertificateRow) → List·Memᴰ c (certificatesOf h) → Stored (wordAt h 0 2) c
-  rows = stored h x s o
+  rows = stored h x s f
 
   notes-fit : (g : Finding) → List·Memᴰ g (lackingsIn h (certificatesOf h)) → Fitting g
   notes-fit = lackings-fit h x s (certificatesOf h) rows
@@ -87,8 +88,7 @@ module _ (h : Bytes) (x : History) (s : Stands h x) (o : Octets h) where
       (tabulate-length (certificateRow (certificatesPart h)) 0 (wordAt h 6 1))
       (subst (λ (cs : List Certificate). Stands (marksMoved h (committedEnd h) 0 (length (certificatesOf h))) (withElections x cs))
       (λ i. map (raised (end-is h x s i)) (certificates-are h x s i))
-      (marks-mean (certificatesOf h) [] h x s (committedEnd h) (end-small h x s) (sym (certificates-are h x s))
-      (λ c m. (rows c m .term, rows c m .number))))
+      (marks-mean (certificatesOf h) [] h x s (committedEnd h) (end-small h x s) (sym (certificates-are h x s))))
 
   findings-right : every findingRight (checkFindings x) ≡ true
   findings-right =
@@ -153,8 +153,9 @@ module _ (h : Bytes) (x : History) (s : Stands h x) (o : Octets h) where
           leaves = λ _ _. unchanged;
         }
 
--- the check of bytes that stand for a history is the model's check of it
-pub check-means : (h : Bytes) (x : History) (answer : Checked) (after : Bytes) → Stands h x → CheckedAs h answer after → Means h x answer after
-check-means h x answer after s c =
+-- the check of bytes that stand for a history is the model's check of it. A term is copied into an LG-05, and must fit there
+pub check-means : (h : Bytes) (x : History) (answer : Checked) (after : Bytes) → Stands h x → TermsFit x → CheckedAs h answer after
+    → Means h x answer after
+check-means h x answer after s f c =
     subst₂ (Means h x) (sym (c .is)) (sym (c .bytes))
-    (⊎-elim (λ a. accepted-means h x s (c .octets) (a .0) (a .1)) (λ a. refused-means h x s (c .octets) (a .0) (a .1)) (holds h x s (c .octets)))
+    (⊎-elim (λ a. accepted-means h x s f (a .0) (a .1)) (λ a. refused-means h x s f (a .0) (a .1)) (holds h x s f))

@@ -1,15 +1,12 @@
 -- What the check reads of bytes that stand for a history, in the model's words: the committed prefix, the commit terms, the
 -- stored prefixes, the certificates and the findings.
 -- Assumes nothing.
-use Prim.Native.Nat.{ℕ, zero, suc, _+_, _-_, _*_, _^_, _<_, _≤_}
-use native.Mathlib.Nat.{pow-suc}
-use native.Mathlib.Decide.{decLt}
+use Prim.Native.Nat.{ℕ, _-_, _<_, _≤_}
 use native.Mathlib.Omega.{arith}
 use mathlib.Core.Path.{_≡_, sym, _∙_, ap, subst}
-use mathlib.Core.Logic.{⊎-elim}
-use mathlib.Core.List.{List, map, List·Memᴰ, List·Memᴰ·cases-cons, List·Memᴰ·not-nil}
+use mathlib.Core.List.{List, map}
 use lib.Dec.{eqb}
-use lib.ListN.{length, List·getD-eq-default}
+use lib.ListN.{length}
 use borrow.Author.Tests.{eqb-false}
 use Rattle.model.specs.Sizes.{Bytes}
 use Rattle.model.specs.Entry.{Prefix}
@@ -17,53 +14,17 @@ use Rattle.model.specs.History.{History}
 use Rattle.model.proofs.Tests.{cond-cases}
 use Rattle.storage.specs.Lists.{tabulate}
 use Rattle.storage.specs.Words.{wordAt}
-use Rattle.storage.specs.Layout.{part}
-use Rattle.storage.specs.Tables.{CertificateRow, PrefixRow, prefixRow, prefixRows, prefixesPart, termRow, termsPart, certificateRow, certificateRows, certificatesPart, findingRows, findingsPart, tablesIn}
+use Rattle.storage.specs.Tables.{PrefixRow, prefixRow, prefixRows, prefixesPart, termRow, termsPart, certificateRows, certificatesPart, findingRows, findingsPart, tablesIn}
 use Rattle.storage.specs.Decode.{prefixAt, certificateIn, resolve}
 use Rattle.storage.specs.Values.{numberIndex}
-use Rattle.storage.proofs.PartLaws.{part-length, part-at}
-use Rattle.storage.proofs.DecodeLaws.{CertificateNamed}
 use Rattle.storage.proofs.Meanings.{Stands, is, prefixes-is, certificates-is, committed-read}
 use Rattle.storage.proofs.Resolve.{Facts}
 use Rattle.logical_log.proofs.PrefixLaws.{Rows}
 use Rattle.logical_log.proofs.TableLaws.{rows-length, rows-at, table-facts}
 use Rattle.logical_log.proofs.SliceLaws.{index-length}
 use Rattle.completeness.specs.Relevance.{committedEnd}
-use Rattle.completeness.specs.Judgement.{certificatesOf, Octets}
+use Rattle.completeness.specs.Judgement.{certificatesOf}
 use Rattle.completeness.proofs.Sound.{Sound, sound, at-head}
-
--- ---- a number in bytes fits them
-
-word-below : (t : Bytes) (o n : ℕ) → Octets t → wordAt t o n < 256 ^ n
-unfolding wordAt
-word-below t o zero f = omega arith
-word-below t o (suc n) f =
-    let a = word-below t o n f in
-    let b = f (o + n) in
-    let c = pow-suc 256 n in
-    omega arith
-
-part-octets : (h : Bytes) (a n : ℕ) → a + n ≤ length h → Octets h → Octets (part h a n)
-part-octets h a n l f i =
-    elim (decLt i n) [
-      | yes b ↦ subst (λ (x : ℕ). x < 256) (sym (part-at h a n i b)) (f (a + i))
-      | no b ↦
-          subst (λ (x : ℕ). x < 256) (sym (List·getD-eq-default (part h a n) 0 (let z = part-length h a n l in omega arith))) (omega arith)
-    ]
-
--- a member of a table is one of its rows
-row-of : {A : Type 0} (f : ℕ → A) (i n : ℕ) (x : A) → List·Memᴰ x (tabulate f i n) → (k : ℕ) × (k < i + n) × (x ≡ f k)
-unfolding tabulate
-row-of f i zero x m = absurd (List·Memᴰ·not-nil m)
-row-of f i (suc n) x m =
-    ⊎-elim (λ e. (i, omega arith, e))
-    (λ t. let r = row-of f (i + 1) n x t in (r .0, (let z = r .1 in omega arith), r .2)) (List·Memᴰ·cases-cons m)
-
--- what the storage rules and the bytes say of a stored certificate
-pub record Stored (n : ℕ) (c : CertificateRow) : Type 0 where
-  pub named : CertificateNamed n c
-  pub term : c .term < 4294967296
-  pub number : c .number < 256
 
 module _ (h : Bytes) (x : History) (s : Stands h x) where
   pub right : Sound h
@@ -128,16 +89,3 @@ module _ (h : Bytes) (x : History) (s : Stands h x) where
   pub findings-are : findingRows (findingsPart h) (wordAt h 7 1) ≡ x .findings
   unfolding tablesIn
   findings-are = ap (findingRows (findingsPart h)) (sym (at-head h 7 1 (omega arith))) ∙ ap (λ (y : History). y .findings) (is h x s)
-
-  pub stored : Octets h → (c : CertificateRow) → List·Memᴰ c (certificatesOf h) → Stored (wordAt h 0 2) c
-  stored f c m =
-      let r = row-of (certificateRow (certificatesPart h)) 0 (wordAt h 6 1) c m in
-      let l = right .long in
-      let b : Octets (certificatesPart h) = part-octets h 1417 704 (omega arith) f in
-      let k = r .0 in
-      subst (Stored (wordAt h 0 2)) (sym (r .2))
-      (record {
-        named = right .named k (let z = r .1 in omega arith);
-        term = word-below (certificatesPart h) (k * 11) 4 b;
-        number = word-below (certificatesPart h) (k * 11 + 9) 1 b;
-      })

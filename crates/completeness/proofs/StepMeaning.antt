@@ -18,7 +18,8 @@ use Rattle.logical_log.proofs.ViolationLaws.{Holds, all-hold}
 use Rattle.completeness.specs.Relevance.{committedEnd, relevantIn}
 use Rattle.completeness.specs.Judgement.{flagIn, lackingIn, JudgedAs}
 use Rattle.completeness.specs.Marks.{markMoved}
-use Rattle.completeness.proofs.Read.{Stored, end-is, end-small}
+use Rattle.completeness.proofs.Read.{end-is, end-small}
+use Rattle.completeness.proofs.Fits.{Stored}
 use Rattle.completeness.proofs.CertificateMeaning.{positive, relevant-means, lacking-means}
 use Rattle.completeness.proofs.MarkMeaning.{raised, mark-means}
 use Rattle.completeness.proofs.FindingMeaning.{fitting, lacking-fits}
@@ -50,11 +51,11 @@ module _ (h : Bytes) (x : History) (s : Stands h x) where
       }
 
   -- its mark moves to the committed end, and nothing else changes
-  pub move-means : (k : ℕ) → k < wordAt h 6 1 → Stored (wordAt h 0 2) (certificateRow (certificatesPart h) k)
+  pub move-means : (k : ℕ) → k < wordAt h 6 1
       → Stands (markMoved h k (committedEnd h))
       (withElections x (set (x .certificates) k (moved (x .committed) (certificateIn (x .prefixes) (certificateRow (certificatesPart h) k)))))
   unfolding moved
-  move-means k l w =
+  move-means k l =
       subst (λ (n : ℕ). Stands (markMoved h k (committedEnd h)) (withElections x (set (x .certificates) k (raised n (certificateIn (x .prefixes) (certificateRow (certificatesPart h) k))))))
       (end-is h x s)
-      (mark-means h x s (committedEnd h) (end-small h x s) k l (w .term, w .number))
+      (mark-means h x s (committedEnd h) (end-small h x s) k l)

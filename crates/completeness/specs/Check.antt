@@ -12,7 +12,7 @@ use Rattle.storage.specs.Words.{wordAt, wordBytes, putBytes}
 use Rattle.storage.specs.Tables.{findingsPart}
 use Rattle.logical_log.specs.Violation.{heldAll, bytesAll}
 use Rattle.completeness.specs.Relevance.{committedEnd}
-use Rattle.completeness.specs.Judgement.{lackingsIn, flagsIn, certificatesOf, Octets}
+use Rattle.completeness.specs.Judgement.{lackingsIn, flagsIn, certificatesOf}
 use Rattle.completeness.specs.Marks.{marksMoved}
 use Rattle.completeness.specs.declared.leader_completeness.Checked.{Checked}
 use Rattle.completeness.specs.declared.leader_completeness.Checked.the-variants.{Accepted, FindingsFull}
@@ -63,4 +63,3 @@ checkBytes h = cond (ltb 128 (checkHeld h)) h (checkWritten h (checkTable h) (ch
 pub record CheckedAs (h : Bytes) (answer : Checked) (after : Bytes) : Type 0 where
   pub is : answer ≡ checkAnswer h
   pub bytes : after ≡ checkBytes h
-  pub octets : Octets h

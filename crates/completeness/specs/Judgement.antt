@@ -1,11 +1,11 @@
 -- Judging certificates on the bytes of a history, in the order of the walk: what is noted, and whether an index was relevant.
 -- Assumes nothing.
-use Prim.Native.Nat.{ℕ, _≤_, _<_}
+use Prim.Native.Nat.{ℕ, _≤_}
 use mathlib.Core.Path.{_≡_}
 use mathlib.Core.Bool.{Bool, true, false, cond, not}
 use mathlib.Core.List.{List, [], _∷_, _++_}
 use lib.Dec.{eqb}
-use lib.ListN.{length, getD}
+use lib.ListN.{length}
 use Rattle.model.specs.Sizes.{Bytes}
 use Rattle.model.specs.History.{Finding}
 use Rattle.storage.specs.Words.{wordAt}
@@ -90,10 +90,6 @@ flagsIn h b (c ∷ cs) = flagsIn h (flagIn h c b) cs
 abbrev pub certificatesOf : Bytes → List CertificateRow
 certificatesOf h = certificateRows (certificatesPart h) (wordAt h 6 1)
 
--- each is a byte: so it is in any lent slice, and a number in four of them fits a term
-abbrev pub Octets : Bytes → Type 0
-Octets h = (i : ℕ) → getD h i 0 < 256
-
 pub record Judging (h t : Bytes) (held : ℕ) : Type 0 where
   pub right : wellFormed h ≡ true
   pub long : length t ≡ 1024
@@ -105,4 +101,3 @@ pub record JudgedAll (h t : Bytes) (held : ℕ) (b : Bool) (held′ : ℕ) (t′
   pub table : t′ ≡ bytesAll t held (lackingsIn h (certificatesOf h))
   pub few : held′ ≤ 129
   pub long : length t′ ≡ 1024
-  pub octets : Octets h

@@ -1,12 +1,12 @@
 -- Moving the checked marks in the bytes of a history, one certificate after the other.
 -- Assumes nothing.
-use Prim.Native.Nat.{ℕ, zero, suc, _+_, _*_}
+use Prim.Native.Nat.{ℕ, zero, suc, _+_}
 use mathlib.Core.Bool.{cond}
 use lib.Dec.{ltb}
 use Rattle.model.specs.Sizes.{Bytes}
-use Rattle.storage.specs.Words.{wordAt, putBytes}
-use Rattle.storage.specs.Tables.{CertificateRow, certificateRow, certificatesPart}
-use Rattle.storage.specs.Writes.{certificateBytes}
+use Rattle.storage.specs.Words.{wordAt}
+use Rattle.storage.specs.Tables.{CertificateRow}
+use Rattle.commit.specs.Marks.{markSet, certificateOf}
 
 -- a certificate with another mark
 abbrev pub markedRow : CertificateRow → ℕ → CertificateRow
@@ -15,10 +15,8 @@ markedRow c m =
 
 -- the mark of certificate k at the end, where that passes it
 unfoldable pub markMoved : Bytes → ℕ → ℕ → Bytes
-unfolding wordAt putBytes certificateBytes
-markMoved h k end =
-    let c = certificateRow (certificatesPart h) k in
-    cond (ltb (c .mark) end) (putBytes h (1417 + k * 11) (certificateBytes (markedRow c end))) h
+unfolding wordAt markSet
+markMoved h k end = cond (ltb (certificateOf h k .mark) end) (markSet h k end) h
 
 -- the marks of n certificates, from the k-th on
 unfoldable pub marksMoved : Bytes → ℕ → ℕ → ℕ → Bytes

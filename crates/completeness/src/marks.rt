@@ -6,9 +6,9 @@ ghost use lib.ListN.{length};
 ghost use Rattle.storage.specs.Words.{wordAt};
 ghost use Rattle.storage.specs.Values.{certificateValue};
 ghost use Rattle.completeness.specs.Marks.{markedRow, markMoved, marksMoved};
+use commit::marks::set_mark;
 use storage::certificates::Certificate;
 use storage::certificates::certificate_at;
-use storage::certificates::set_certificate;
 use storage::head::certificate_count;
 use storage::layout::CERTIFICATES_LENGTH;
 use storage::layout::CERTIFICATES_START;
@@ -41,7 +41,8 @@ pub fn move_mark(history: &mut [u8], k: usize, end: LogIndex)
         k,
     );
     if c.mark.0 < end.0 {
-        set_certificate(&mut history[..], k, with_mark(c, end));
+        let moved = with_mark(c, end);
+        set_mark(&mut history[..], k, moved.mark);
     }
 }
 

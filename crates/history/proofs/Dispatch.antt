@@ -17,7 +17,7 @@ use Rattle.records.specs.Places.{RowWalk, rowsAt, firstRow}
 use Rattle.records.proofs.Readable.{view-walk, rows-walk}
 use Rattle.storage.specs.Rules.{wellFormed}
 use Rattle.logical_log.specs.Observation.{Observing}
-use Rattle.completeness.specs.Judgement.{Octets}
+use Rattle.completeness.proofs.Fits.{Octets}
 use Rattle.history.specs.declared.answer.Answer.{Answer}
 use Rattle.history.specs.Replies.{ofRows, replyTo, bytesTo, Replied, submitAnswer, submitBytes, Submitted}
 

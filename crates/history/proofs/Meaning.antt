@@ -37,7 +37,7 @@ use Rattle.election.proofs.Effects as elections
 use Rattle.election.proofs.Meaning as electing
 use Rattle.completeness.specs.declared.leader_completeness.Checked.{Checked}
 use Rattle.completeness.specs.Check as checks
-use Rattle.completeness.specs.Judgement.{Octets}
+use Rattle.completeness.proofs.Fits.{Octets, octets-fit}
 use Rattle.completeness.proofs.Meaning as checking
 use Rattle.history.specs.declared.answer.Answer.{Answer}
 use Rattle.history.specs.Replies.{ofView, ofCommit, ofTerms, ofElection, ofCheck, ofRows, replyTo, bytesTo, submitAnswer, submitBytes, Submitted}
@@ -176,7 +176,7 @@ module _ (h : Bytes) (x : History) (st : Stands h x) where
       took h x s _ _ _ (t .reading)
       (election-by (election (l .0) (k .0) p n) _ (answerIn h (l .0) (k .0) n) refl refl (m .refusal) (m .accepted) (m .refused))
   told-means o s Head.Check t =
-      let m = checking.check-means h x (checks.checkAnswer h) (checks.checkBytes h) st (record { is = refl; bytes = refl; octets = o }) in
+      let m = checking.check-means h x (checks.checkAnswer h) (checks.checkBytes h) st (octets-fit h x st o) (record { is = refl; bytes = refl }) in
       took h x s _ _ _ (t .reading) (check-by _ (checks.checkAnswer h) (m .refuses) (m .accepts) (m .leaves))
   told-means o s (Head.Rows c) t = took h x s _ _ _ (t .reading) (accepts h x (rows (rowsAt s firstRow c)) _ h refl refl st)
   told-means o s (Head.Unreadable f) t = unread s f (t .reading)

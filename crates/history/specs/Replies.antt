@@ -21,7 +21,7 @@ use Rattle.election.specs.declared.certificate.ElectionAnswer.{ElectionAnswer}
 use Rattle.election.specs.Certify.{answerIn, bytesIn}
 use Rattle.completeness.specs.declared.leader_completeness.Checked.{Checked}
 use Rattle.completeness.specs.Check.{checkAnswer, checkBytes}
-use Rattle.completeness.specs.Judgement.{Octets}
+use Rattle.completeness.proofs.Fits.{Octets}
 use Rattle.invariants.specs.declared.commit_safety.Verdict.{Verdict}
 use Rattle.history.specs.declared.answer.Answer.{Answer}
 

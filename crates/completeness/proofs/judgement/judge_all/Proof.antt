@@ -65,7 +65,7 @@ returns : tie.Need-returns Inv-loop μ-loop
 returns c =
     let l = c .before in
     let s = l .before .before .before .before .before .args in
-    walking-ends (s .history .now) (s .findings .now) (s .held) _ (l .loop .findings) (l .loop .earlier .relevant) (l .loop .earlier .held) (l .loop .k) (l .loop .inv) (c .loop-test .left) (λ i. omega (arith, c .before .before .before .before .before .shared-slice-known .given i))
+    walking-ends (s .history .now) (s .findings .now) (s .held) _ (l .loop .findings) (l .loop .earlier .relevant) (l .loop .earlier .held) (l .loop .k) (l .loop .inv) (c .loop-test .left)
 
 pub judge-all-spec : {M : Type 1} → statement M
 judge-all-spec =

@@ -1,6 +1,7 @@
 -- `completeness::marks::move_mark` meets its contract.
 -- Assumes nothing.
 use Rattle.completeness.proofs.MarkLaws.{mark-passed, mark-stays}
+use Rattle.storage.specs.Values.{certificateValue}
 use borrow.Author.Needs.{needs}
 use Rattle.completeness.proofs.marks.move_mark.Statement.{statement}
 use Rattle.completeness.proofs.marks.move_mark.Tie as tie
@@ -14,8 +15,8 @@ certificate-at-requires c κs = search needs
 with-mark-requires : tie.Need-with-mark-requires
 with-mark-requires c κs = search needs
 
-set-certificate-requires : tie.Need-set-certificate-requires
-set-certificate-requires c κs = search needs
+set-mark-requires : tie.Need-set-mark-requires
+set-mark-requires c κs = search needs
 
 same-length : tie.Need-same-length
 same-length c = search needs
@@ -23,7 +24,7 @@ same-length c = search needs
 returns : tie.Need-returns
 returns c =
     let s = c .before .before .before .before .before .before .before .before .before .before .before .before .args in
-    mark-passed (s .history .now) (s .k) (s .end .0) _ (c .before .before .before .before .before .before .before .before .before .part .ensures .is) _ (c .before .before .before .before .before .before .before .before .certificate-at .ensures) (c .before .before .before .before .before .if1 .taken) _ (c .before .before .before .with-mark .ensures) _ (c .before .before .set-certificate .ensures)
+    mark-passed (s .history .now) (s .k) (s .end .0) _ (c .before .before .before .before .before .before .before .before .before .part .ensures .is) _ (c .before .before .before .before .before .before .before .before .certificate-at .ensures) (c .before .before .before .before .before .if1 .taken) (certificateValue (c .before .before .before .before .with-mark .result)) (c .before .before .before .before .with-mark .ensures) _ (c .before .before .set-mark .ensures)
 
 same-length-2 : tie.Need-same-length-2
 same-length-2 c = search needs
@@ -40,7 +41,7 @@ move-mark-spec =
     part-requires
     certificate-at-requires
     with-mark-requires
-    set-certificate-requires
+    set-mark-requires
     same-length
     returns
     same-length-2
