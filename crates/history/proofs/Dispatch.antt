@@ -2,22 +2,20 @@
 -- Assumes nothing.
 use Prim.Native.Nat.{ℕ, _≤_, _<_}
 use mathlib.Core.Path.{_≡_, refl, sym, _∙_, ap, subst}
-use mathlib.Core.Bool.{Bool, true, false, cond}
+use mathlib.Core.Bool.{Bool, true, false}
 use Rattle.model.specs.Sizes.{Bytes}
-use Rattle.model.specs.Reading.{read}
 use Rattle.model.specs.Rows as rows
-use Rattle.model.proofs.Tests.{tf, cond-true, cond-false}
+use Rattle.model.proofs.Tests.{cond-true, cond-false}
 use Rattle.units.specs.declared.NodeId.{NodeId}
 use Rattle.units.specs.declared.LogIndex.{LogIndex}
 use Rattle.units.specs.declared.Term.{Term}
 use Rattle.records.specs.declared.bits.Fault.{Fault}
 use Rattle.records.specs.declared.head.Head.{Head}
-use Rattle.records.specs.Heads.{Told, Within, headOf}
-use Rattle.records.specs.Places.{RowWalk, rowsAt, firstRow}
-use Rattle.records.proofs.Readable.{view-walk, rows-walk}
+use Rattle.records.specs.Heads.{Told, Within}
+use Rattle.records.specs.Places.{rowsAt, firstRow}
+use Rattle.records.proofs.Readable.{view-walk}
 use Rattle.storage.specs.Rules.{wellFormed}
 use Rattle.logical_log.specs.Observation.{Observing}
-use Rattle.completeness.proofs.Fits.{Octets}
 use Rattle.history.specs.declared.answer.Answer.{Answer}
 use Rattle.history.specs.Replies.{ofRows, replyTo, bytesTo, Replied, submitAnswer, submitBytes, Submitted}
 
@@ -46,23 +44,19 @@ unreadable-replied h s d f e = replied h s d (Head.Unreadable f) (Answer.Unreada
 
 -- ---- the whole
 
-pub broken : (h s : Bytes) → wellFormed h ≡ false → Octets h → Submitted h s Answer.StorageBroken h
+pub broken : (h s : Bytes) → wellFormed h ≡ false → Submitted h s Answer.StorageBroken h
 unfolding submitAnswer submitBytes
-broken h s e o =
+broken h s e =
     record {
       answer = sym (cond-false (wellFormed h) _ Answer.StorageBroken e);
       bytes = sym (cond-false (wellFormed h) _ h e);
-      reads = λ w. absurd (tf (sym w ∙ e));
-      octets = o;
     }
 
-pub taken : (h s : Bytes) (d : Head) (r : Answer) (h′ : Bytes) → wellFormed h ≡ true → Told s d → Replied h s d r h′ → Octets h
+pub taken : (h s : Bytes) (d : Head) (r : Answer) (h′ : Bytes) → wellFormed h ≡ true → Told s d → Replied h s d r h′
     → Submitted h s r h′
 unfolding submitAnswer submitBytes
-taken h s d r h′ w t q o =
+taken h s d r h′ w t q =
     record {
       answer = q .answer ∙ ap (replyTo h s) (t .head) ∙ sym (cond-true (wellFormed h) _ Answer.StorageBroken w);
       bytes = q .bytes ∙ ap (bytesTo h s) (t .head) ∙ sym (cond-true (wellFormed h) _ h w);
-      reads = λ _. subst (Told s) (t .head) t;
-      octets = o;
     }

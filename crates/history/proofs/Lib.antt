@@ -1,3 +1,5 @@
 pub mod Replies
 pub mod Dispatch
 pub mod Meaning
+pub mod Printed
+pub mod Handed

@@ -1,9 +1,9 @@
 -- What `submit` means: of bytes that stand for a history the answer is the model's, and the bytes after it stand for the model's
 -- history after it; other bytes are answered 12. A refused record leaves every byte.
 -- Assumes nothing.
-use Prim.Native.Nat.{ℕ, _≤_, _<_}
+use Prim.Native.Nat.{ℕ, _<_}
 use mathlib.Core.Path.{_≡_, refl, sym, _∙_, ap, subst, subst₂}
-use mathlib.Core.Bool.{Bool, true, false, cond}
+use mathlib.Core.Bool.{false}
 use mathlib.Core.Option.{Option, none, some}
 use native.Mathlib.Omega.{arith}
 use Rattle.model.specs.Sizes.{Bytes}
@@ -17,18 +17,19 @@ use Rattle.model.proofs.Tests.{tf, cond-true, cond-false}
 use Rattle.records.specs.declared.bits.Fault.{Fault}
 use Rattle.records.specs.declared.head.Head.{Head}
 use Rattle.records.specs.Answers.{refusalOf}
-use Rattle.records.specs.Heads.{Told, Within, headOf, readingOf}
+use Rattle.records.specs.Heads.{Told, headOf}
 use Rattle.records.specs.Places.{Walk, firstEntry, entriesAt, rowsAt, firstRow}
 use Rattle.records.proofs.Readable.{view-walk}
+use Rattle.records.proofs.Faults.{told-always}
 use Rattle.storage.specs.Rules.{wellFormed}
 use Rattle.storage.proofs.Meanings.{Stands}
 use Rattle.logical_log.specs.declared.observation.Observed.{Observed}
 use Rattle.logical_log.specs.Observation.{observed, observedBytes}
 use Rattle.logical_log.proofs.Meaning as views
 use Rattle.commit.specs.declared.prefix.CommitAnswer.{CommitAnswer}
-use Rattle.commit.specs.Prefix.{commitAnswer, commitBytes, commitReply}
+use Rattle.commit.specs.Prefix.{commitAnswer, commitReply}
 use Rattle.commit.specs.declared.terms.TermsAnswer.{TermsAnswer}
-use Rattle.commit.specs.Terms.{termsAnswer, termsBytes, termsReply}
+use Rattle.commit.specs.Terms.{termsAnswer, termsReply}
 use Rattle.commit.proofs.Meaning as commits
 use Rattle.election.specs.declared.certificate.ElectionAnswer.{ElectionAnswer}
 use Rattle.election.specs.Certify.{answerIn}
@@ -37,10 +38,10 @@ use Rattle.election.proofs.Effects as elections
 use Rattle.election.proofs.Meaning as electing
 use Rattle.completeness.specs.declared.leader_completeness.Checked.{Checked}
 use Rattle.completeness.specs.Check as checks
-use Rattle.completeness.proofs.Fits.{Octets, octets-fit}
+use Rattle.completeness.proofs.Fits.{TermsFit}
 use Rattle.completeness.proofs.Meaning as checking
 use Rattle.history.specs.declared.answer.Answer.{Answer}
-use Rattle.history.specs.Replies.{ofView, ofCommit, ofTerms, ofElection, ofCheck, ofRows, replyTo, bytesTo, submitAnswer, submitBytes, Submitted}
+use Rattle.history.specs.Replies.{ofView, ofCommit, ofTerms, ofElection, ofCheck, replyTo, bytesTo, submitAnswer, submitBytes, Submitted}
 
 -- ---- statement
 
@@ -162,32 +163,32 @@ module _ (h : Bytes) (x : History) (st : Stands h x) where
         keeps = λ _. refl;
       }
 
-  told-means : Octets h → (s : Bytes) (d : Head) → Told s d → Means h x s (replyTo h s d) (bytesTo h s d)
-  told-means o s (Head.View n c) t =
+  told-means : TermsFit x → (s : Bytes) (d : Head) → Told s d → Means h x s (replyTo h s d) (bytesTo h s d)
+  told-means f s (Head.View n c) t =
       took h x s _ _ _ (t .reading) (view-took s (n .0) c (view-walk s _ n c t refl) (t .within .0))
-  told-means o s (Head.Commit n i) t =
+  told-means f s (Head.Commit n i) t =
       took h x s _ _ _ (t .reading)
       (by-reply (commit (n .0) (i .0)) _ _ _ (commit-said (commitAnswer h (n .0) (i .0))) (commits.commit-mean h x (n .0) (i .0) st (t .within .0) (t .within .1)))
-  told-means o s (Head.Terms b n k) t =
+  told-means f s (Head.Terms b n k) t =
       took h x s _ _ _ (t .reading)
       (by-reply (terms (b .0) (n .0) (k .0)) _ _ _ (terms-said (termsAnswer (b .0) (n .0))) (commits.terms-mean h x (b .0) (n .0) (k .0) st (t .within .1) (t .within .2)))
-  told-means o s (Head.Election l k p n) t =
+  told-means f s (Head.Election l k p n) t =
       let m = electing.election-recorded h x st (l .0) (k .0) p n (t .within .0) (t .within .1) _ _ (record { answer = refl; bytes = refl }) in
       took h x s _ _ _ (t .reading)
       (election-by (election (l .0) (k .0) p n) _ (answerIn h (l .0) (k .0) n) refl refl (m .refusal) (m .accepted) (m .refused))
-  told-means o s Head.Check t =
-      let m = checking.check-means h x (checks.checkAnswer h) (checks.checkBytes h) st (octets-fit h x st o) (record { is = refl; bytes = refl }) in
+  told-means f s Head.Check t =
+      let m = checking.check-means h x (checks.checkAnswer h) (checks.checkBytes h) st f (record { is = refl; bytes = refl }) in
       took h x s _ _ _ (t .reading) (check-by _ (checks.checkAnswer h) (m .refuses) (m .accepts) (m .leaves))
-  told-means o s (Head.Rows c) t = took h x s _ _ _ (t .reading) (accepts h x (rows (rowsAt s firstRow c)) _ h refl refl st)
-  told-means o s (Head.Unreadable f) t = unread s f (t .reading)
+  told-means f s (Head.Rows c) t = took h x s _ _ _ (t .reading) (accepts h x (rows (rowsAt s firstRow c)) _ h refl refl st)
+  told-means f s (Head.Unreadable w) t = unread s w (t .reading)
 
--- of bytes that stand for a history, what `submit` promises is what the model says
-pub submit-means : (h : Bytes) (x : History) (s : Bytes) (r : Answer) (h′ : Bytes) → Stands h x → Submitted h s r h′ → Means h x s r h′
+-- of bytes that stand for a history whose terms fit 32 bits, what `submit` promises is what the model says
+pub submit-means : (h : Bytes) (x : History) (s : Bytes) (r : Answer) (h′ : Bytes) → Stands h x → TermsFit x → Submitted h s r h′ → Means h x s r h′
 unfolding submitAnswer submitBytes
-submit-means h x s r h′ st p =
+submit-means h x s r h′ st f p =
     let w = st .right in
     subst₂ (Means h x s) (sym (p .answer ∙ cond-true (wellFormed h) _ Answer.StorageBroken w)) (sym (p .bytes ∙ cond-true (wellFormed h) _ h w))
-    (told-means h x st (p .octets) s (headOf (read s)) (p .reads w))
+    (told-means h x st f s (headOf (read s)) (told-always s))
 
 -- of bytes that break the storage rules, it is 12 and every byte as it was
 pub submit-broken : (h s : Bytes) (r : Answer) (h′ : Bytes) → wellFormed h ≡ false → Submitted h s r h′ → (r ≡ Answer.StorageBroken) × (h′ ≡ h)

@@ -3,12 +3,12 @@
 -- Assumes nothing.
 use Prim.Native.Nat.{ℕ}
 use mathlib.Core.Path.{_≡_}
-use mathlib.Core.Bool.{true, cond}
+use mathlib.Core.Bool.{cond}
 use Rattle.model.specs.Sizes.{Bytes}
 use Rattle.model.specs.Reading.{read}
 use Rattle.model.specs.Rows as rows
 use Rattle.records.specs.declared.head.Head.{Head}
-use Rattle.records.specs.Heads.{headOf, Told}
+use Rattle.records.specs.Heads.{headOf}
 use Rattle.records.specs.Places.{rowsAt, firstRow}
 use Rattle.storage.specs.Rules.{wellFormed}
 use Rattle.logical_log.specs.declared.observation.Observed.{Observed}
@@ -21,7 +21,6 @@ use Rattle.election.specs.declared.certificate.ElectionAnswer.{ElectionAnswer}
 use Rattle.election.specs.Certify.{answerIn, bytesIn}
 use Rattle.completeness.specs.declared.leader_completeness.Checked.{Checked}
 use Rattle.completeness.specs.Check.{checkAnswer, checkBytes}
-use Rattle.completeness.proofs.Fits.{Octets}
 use Rattle.invariants.specs.declared.commit_safety.Verdict.{Verdict}
 use Rattle.history.specs.declared.answer.Answer.{Answer}
 
@@ -95,9 +94,7 @@ submitAnswer h s = cond (wellFormed h) (replyTo h s (headOf (read s))) Answer.St
 unfoldable pub submitBytes : Bytes → Bytes → Bytes
 submitBytes h s = cond (wellFormed h) (bytesTo h s (headOf (read s))) h
 
--- what `submit` promises; what reading told, and that the lent bytes are bytes, is said for the laws about them
+-- what `submit` promises
 pub record Submitted (h s : Bytes) (r : Answer) (h′ : Bytes) : Type 0 where
   pub answer : r ≡ submitAnswer h s
   pub bytes : h′ ≡ submitBytes h s
-  pub reads : wellFormed h ≡ true → Told s (headOf (read s))
-  pub octets : Octets h

@@ -3,3 +3,5 @@
 pub mod answer; // answer.rt: the answers, and document 01's numbers
 pub mod kinds; // kinds.rt: each kind's answer as one of them
 pub mod submit; // submit.rt: any bytes, to any history
+pub mod numbers; // numbers.rt: document 01's numbers for an answer
+pub mod exports; // exports.rt: submit, fresh, and the readers of the lists, for other languages

@@ -1,7 +1,6 @@
 -- `history::submit::submit` meets its contract.
 -- Assumes nothing.
 use mathlib.Core.Path.{sym, _∙_}
-use native.Mathlib.Omega.{arith}
 use borrow.Author.Needs.{needs}
 use borrow.Author.Tests.{not-true, not-false}
 use Rattle.history.proofs.Dispatch.{broken, taken}
@@ -15,19 +14,26 @@ same-length : tie.Need-same-length
 same-length c = search needs
 
 returns : tie.Need-returns
-returns c = let a = c .before .before .before .before .before .args in broken (a .history .now) (a .s .now) (sym (c .before .well-formed .ensures) ∙ not-true _ (c .if1 .taken)) (λ i. omega (arith, c .before .before .before .before .slice-known .given i))
+returns c =
+    let a = c .before .before .before .before .before .args in
+    broken (a .history .now) (a .s .now) (sym (c .before .well-formed .ensures) ∙ not-true _ (c .if1 .taken))
 
 read-requires : tie.Need-read-requires
 read-requires c κs = search needs
 
 dispatch-requires : tie.Need-dispatch-requires
-dispatch-requires c κs = (sym (c .before .before .before .well-formed .ensures) ∙ not-false _ (c .before .before .if1 .left), c .before .read .ensures)
+dispatch-requires c κs =
+    (sym (c .before .before .before .well-formed .ensures) ∙ not-false _ (c .before .before .if1 .left), c .before .read .ensures)
 
 same-length-2 : tie.Need-same-length-2
 same-length-2 c = search needs
 
 returns-2 : tie.Need-returns-2
-returns-2 c = let a = c .before .before .before .before .before .before .before .before .before .before .args in taken (a .history .now) (a .s .now) _ _ _ (sym (c .before .before .before .before .before .before .well-formed .ensures) ∙ not-false _ (c .before .before .before .before .before .if1 .left)) (c .before .before .before .before .read .ensures) (c .before .before .dispatch .ensures) (λ i. omega (arith, c .before .before .before .before .before .before .before .before .before .slice-known .given i))
+returns-2 c =
+    let a = c .before .before .before .before .before .before .before .before .before .before .args in
+    let f = c .before .before .before .before .before in
+    taken (a .history .now) (a .s .now) _ _ _ (sym (f .before .well-formed .ensures) ∙ not-false _ (f .if1 .left))
+    (c .before .before .before .before .read .ensures) (c .before .before .dispatch .ensures)
 
 pub submit-spec : {M : Type 1} → statement M
 submit-spec =

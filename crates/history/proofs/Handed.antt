@@ -1,0 +1,67 @@
+-- What `gamiwhoru_submit` promises, from what `submit` does: document 01's numbers for the answer, and both in the model's words.
+-- Assumes nothing.
+use mathlib.Core.Path.{_≡_, refl, _∙_, ap}
+use mathlib.Core.Bool.{true, false}
+use mathlib.Core.Option.{Option, none, some}
+use mathlib.Core.Logic.{⊎-elim}
+use Rattle.model.specs.Sizes.{Bytes}
+use Rattle.model.specs.Answer as model
+use Rattle.model.specs.Answer.{answer, isAccepted}
+use Rattle.model.proofs.Tests.{either}
+use Rattle.storage.specs.Rules.{wellFormed}
+use Rattle.storage.specs.Decode.{decode}
+use Rattle.completeness.proofs.Fits.{Octets, octets-fit}
+use Rattle.history.specs.declared.answer.Answer.{Answer}
+use Rattle.history.specs.declared.numbers.Reply.{Reply}
+use Rattle.history.specs.Numbers.{refusalIn, replyOf, modelReply}
+use Rattle.history.specs.Replies.{Submitted}
+use Rattle.history.specs.Exports.{Handed}
+use Rattle.history.proofs.Meaning.{modelled, Means, submit-means, submit-broken}
+use Rattle.history.proofs.Printed.{stand}
+
+-- ---- the numbers of an answer are those of the model's
+
+-- 12 where there is none
+abbrev replyFor : Option model.Answer → Reply
+replyFor none = refusalIn 12
+replyFor (some a) = modelReply a
+
+reply-modelled : (a : Answer) → replyOf a ≡ replyFor (modelled a)
+reply-modelled (Answer.Accepted v n) = refl
+reply-modelled (Answer.Unreadable f) = refl
+reply-modelled Answer.PrefixesFull = refl
+reply-modelled Answer.FindingsFull = refl
+reply-modelled Answer.OldExceedsNew = refl
+reply-modelled Answer.LengthExceedsFront = refl
+reply-modelled Answer.CertificatesFull = refl
+reply-modelled Answer.NumberTaken = refl
+reply-modelled Answer.StorageBroken = refl
+
+-- a reply that is no refusal is to an accepted record
+zero-accepted : (a : model.Answer) → (modelReply a .refusal ≡ 0 → ⊥) → isAccepted a ≡ false
+zero-accepted (model.accepted v n) f = absurd (f refl)
+zero-accepted (model.refused r) f = refl
+
+-- ---- the promise
+
+module _ (h s : Bytes) (a : Answer) (h′ : Bytes) (o : Octets h) (p : Submitted h s a h′) where
+  means : wellFormed h ≡ true → Means h (decode h) s a h′
+  means w = submit-means h (decode h) s a h′ (stand h w) (octets-fit h (decode h) (stand h w) o) p
+
+  replies : wellFormed h ≡ true → replyOf a ≡ modelReply (answer (decode h) s)
+  replies w = reply-modelled a ∙ ap replyFor (means w .answers)
+
+  leaves : (replyOf a .refusal ≡ 0 → ⊥) → h′ ≡ h
+  leaves f =
+      ⊎-elim (λ w. means w .keeps (zero-accepted (answer (decode h) s) (λ z. f (ap (λ (r : Reply). r .refusal) (replies w) ∙ z))))
+      (λ w. submit-broken h s a h′ w p .1) (either (wellFormed h))
+
+  pub handed : (r : Reply) → r ≡ replyOf a → Handed h s r h′
+  handed r e =
+      record {
+        reply = e ∙ ap replyOf (p .answer);
+        bytes = p .bytes;
+        broken = λ w. (e ∙ ap replyOf (submit-broken h s a h′ w p .0), submit-broken h s a h′ w p .1);
+        meant = λ w. (e ∙ replies w, means w .stands .right, means w .stands .decodes);
+        refused = λ f. leaves (λ z. f (ap (λ (r : Reply). r .refusal) e ∙ z));
+      }

@@ -1,0 +1,89 @@
+-- What the readers of the lists give is the model's list: of bytes that keep the storage rules by the laws of `lists`, of
+-- others 12.
+-- Assumes nothing.
+use Prim.Native.Nat.{ℕ, zero, suc}
+use mathlib.Core.Path.{_≡_, refl, sym, _∙_, ap}
+use mathlib.Core.Bool.{true, false}
+use mathlib.Core.List.{List, [], _∷_}
+use Rattle.model.specs.Sizes.{Bytes}
+use Rattle.model.specs.Lists.{findingList, leaderList, unseenList, unknownList}
+use Rattle.model.proofs.Tests.{cond-true, cond-false}
+use Rattle.storage.specs.Rules.{wellFormed}
+use Rattle.storage.specs.Decode.{decode}
+use Rattle.storage.specs.Fresh.{FreshMade, madeNumber}
+use Rattle.storage.specs.declared.fresh.Made.{Made}
+use Rattle.storage.proofs.Meanings.{Stands}
+use Rattle.lists.specs.Picked.{nth}
+use Rattle.lists.specs.Committed.{lengthIn, ownerIn}
+use Rattle.lists.specs.declared.findings.FindingAnswer.{FindingAnswer}
+use Rattle.lists.specs.Findings.{findingOf, findingAnswer}
+use Rattle.lists.specs.declared.leaders.LeaderAnswer.{LeaderAnswer}
+use Rattle.lists.specs.Leaders.{leaderAs, leaderAnswer}
+use Rattle.lists.specs.declared.unseen.UnseenAnswer.{UnseenAnswer}
+use Rattle.lists.specs.Unseen.{markOf, unseenAnswer}
+use Rattle.lists.specs.declared.unknown.UnknownAnswer.{UnknownAnswer}
+use Rattle.lists.specs.Unknown.{indexOf, unknownAnswer}
+use Rattle.lists.proofs.Meaning.{length-told, owner-told, findings-told, leaders-told, unseen-told, unknown-told}
+use Rattle.history.specs.declared.exports.FindingReply.{FindingReply}
+use Rattle.history.specs.declared.exports.LeaderReply.{LeaderReply}
+use Rattle.history.specs.declared.exports.UnseenReply.{UnseenReply}
+use Rattle.history.specs.declared.exports.UnknownReply.{UnknownReply}
+use Rattle.history.specs.declared.exports.CommittedReply.{CommittedReply}
+use Rattle.history.specs.Exports.{MadeFresh, noFinding, foundAs, findingOut, noLeader, leaderIs, leaderOut, noMark, markIs, unseenOut, noIndex, indexIs, unknownOut, committedOut}
+
+-- bytes that keep the rules stand for what they decode to
+pub stand : (h : Bytes) → wellFormed h ≡ true → Stands h (decode h)
+stand h w = record { right = w; decodes = refl }
+
+-- the n-th answer, taken for another
+nth-as : {A B C : Type 0} (f : A → B) (d : B) (g : B → C) (xs : List A) (n : ℕ) → g (nth f d xs n) ≡ nth (λ x. g (f x)) (g d) xs n
+nth-as f d g [] n = refl
+nth-as f d g (x ∷ xs) zero = refl
+nth-as f d g (x ∷ xs) (suc n) = nth-as f d g xs n
+
+module _ (h : Bytes) (n : ℕ) where
+  pub finding-here : wellFormed h ≡ true → (a : FindingAnswer) → a ≡ findingAnswer h n → (r : FindingReply) → r ≡ foundAs a → r ≡ findingOut h n
+  finding-here w a ea r er =
+      er ∙ ap foundAs (ea ∙ findings-told h (decode h) n (stand h w))
+      ∙ nth-as findingOf FindingAnswer.NoMore foundAs (findingList (decode h)) n ∙ sym (cond-true (wellFormed h) _ (noFinding 12) w)
+
+  pub finding-broken : wellFormed h ≡ false → noFinding 12 ≡ findingOut h n
+  finding-broken w = sym (cond-false (wellFormed h) _ (noFinding 12) w)
+
+  pub leader-here : wellFormed h ≡ true → (a : LeaderAnswer) → a ≡ leaderAnswer h n → (r : LeaderReply) → r ≡ leaderIs a → r ≡ leaderOut h n
+  leader-here w a ea r er =
+      er ∙ ap leaderIs (ea ∙ leaders-told h (decode h) n (stand h w))
+      ∙ nth-as leaderAs LeaderAnswer.NoMore leaderIs (leaderList (decode h)) n ∙ sym (cond-true (wellFormed h) _ (noLeader 12) w)
+
+  pub leader-broken : wellFormed h ≡ false → noLeader 12 ≡ leaderOut h n
+  leader-broken w = sym (cond-false (wellFormed h) _ (noLeader 12) w)
+
+  pub mark-here : wellFormed h ≡ true → (a : UnseenAnswer) → a ≡ unseenAnswer h n → (r : UnseenReply) → r ≡ markIs a → r ≡ unseenOut h n
+  mark-here w a ea r er =
+      er ∙ ap markIs (ea ∙ unseen-told h (decode h) n (stand h w))
+      ∙ nth-as markOf UnseenAnswer.NoMore markIs (unseenList (decode h)) n ∙ sym (cond-true (wellFormed h) _ (noMark 12) w)
+
+  pub mark-broken : wellFormed h ≡ false → noMark 12 ≡ unseenOut h n
+  mark-broken w = sym (cond-false (wellFormed h) _ (noMark 12) w)
+
+  pub index-here : wellFormed h ≡ true → (a : UnknownAnswer) → a ≡ unknownAnswer h n → (r : UnknownReply) → r ≡ indexIs a → r ≡ unknownOut h n
+  index-here w a ea r er =
+      er ∙ ap indexIs (ea ∙ unknown-told h (decode h) n (stand h w))
+      ∙ nth-as indexOf UnknownAnswer.NoMore indexIs (unknownList (decode h)) n ∙ sym (cond-true (wellFormed h) _ (noIndex 12) w)
+
+  pub index-broken : wellFormed h ≡ false → noIndex 12 ≡ unknownOut h n
+  index-broken w = sym (cond-false (wellFormed h) _ (noIndex 12) w)
+
+module _ (h : Bytes) where
+  pub committed-here : wellFormed h ≡ true → (l o : ℕ) → l ≡ lengthIn h → o ≡ ownerIn h
+      → _≡_ {A = CommittedReply} (record { state = 0; length = l; owner = o }) (committedOut h)
+  committed-here w l o el eo =
+      (λ i. record { state = 0; length = (el ∙ length-told h (decode h) (stand h w)) i; owner = (eo ∙ owner-told h (decode h) (stand h w)) i })
+      ∙ sym (cond-true (wellFormed h) _ _ w)
+
+  pub committed-broken : wellFormed h ≡ false → _≡_ {A = CommittedReply} (record { state = 12; length = 0; owner = 0 }) (committedOut h)
+  committed-broken w = sym (cond-false (wellFormed h) _ _ w)
+
+-- a fresh history, by the number of the answer
+pub fresh-made : (h : Bytes) (a : Made) (h′ : Bytes) (r : ℕ) → FreshMade h a h′ → r ≡ madeNumber a → MadeFresh h r h′
+fresh-made h a h′ r m e = record { answer = e ∙ m .number; bytes = m .leaves }
