@@ -37,10 +37,13 @@ reply-modelled Answer.CertificatesFull = refl
 reply-modelled Answer.NumberTaken = refl
 reply-modelled Answer.StorageBroken = refl
 
--- a reply that is no refusal is to an accepted record
-zero-accepted : (a : model.Answer) → (modelReply a .refusal ≡ 0 → ⊥) → isAccepted a ≡ false
-zero-accepted (model.accepted v n) f = absurd (f refl)
-zero-accepted (model.refused r) f = refl
+pub reply-alike : (a : Answer) (b : model.Answer) → modelled a ≡ some b → replyOf a ≡ modelReply b
+reply-alike a b e = reply-modelled a ∙ ap replyFor e
+
+-- a reply with a number is to a refused record
+pub number-refused : (a : model.Answer) → (modelReply a .refusal ≡ 0 → ⊥) → isAccepted a ≡ false
+number-refused (model.accepted v n) f = absurd (f refl)
+number-refused (model.refused r) f = refl
 
 -- ---- the promise
 
@@ -49,11 +52,11 @@ module _ (h s : Bytes) (a : Answer) (h′ : Bytes) (o : Octets h) (p : Submitted
   means w = submit-means h (decode h) s a h′ (stand h w) (octets-fit h (decode h) (stand h w) o) p
 
   replies : wellFormed h ≡ true → replyOf a ≡ modelReply (answer (decode h) s)
-  replies w = reply-modelled a ∙ ap replyFor (means w .answers)
+  replies w = reply-alike a (answer (decode h) s) (means w .answers)
 
   leaves : (replyOf a .refusal ≡ 0 → ⊥) → h′ ≡ h
   leaves f =
-      ⊎-elim (λ w. means w .keeps (zero-accepted (answer (decode h) s) (λ z. f (ap (λ (r : Reply). r .refusal) (replies w) ∙ z))))
+      ⊎-elim (λ w. means w .keeps (number-refused (answer (decode h) s) (λ z. f (ap (λ (r : Reply). r .refusal) (replies w) ∙ z))))
       (λ w. submit-broken h s a h′ w p .1) (either (wellFormed h))
 
   pub handed : (r : Reply) → r ≡ replyOf a → Handed h s r h′

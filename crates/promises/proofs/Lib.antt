@@ -1,0 +1,4 @@
+pub mod Fits
+pub mod Machine
+pub mod Checks
+pub mod Demands

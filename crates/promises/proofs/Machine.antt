@@ -1,0 +1,96 @@
+-- `gamiwhoru_submit` on bytes as a machine of the model's bridge: its states are bytes, which stand for histories whose terms fit.
+-- Assumes nothing.
+use mathlib.Core.Path.{_≡_, refl, sym, _∙_, ap}
+use mathlib.Core.Bool.{Bool}
+use mathlib.Core.List.{List, [], _∷_}
+use mathlib.Core.Option.{Option, none, some}
+use lib.Dec.{eqb}
+use Rattle.model.specs.Sizes.{Bytes}
+use Rattle.model.specs.Refusal.{unknownKind}
+use Rattle.model.specs.History.{History}
+use Rattle.model.specs.Answer as model
+use Rattle.model.specs.Answer.{isAccepted, answer}
+use Rattle.model.specs.Ledger.{Ledger, fed}
+use Rattle.model.specs.Lists.{findingList, leaderList}
+use Rattle.model.proofs.Bridge.{Machine, stateFrom, toldFrom}
+use Rattle.records.specs.declared.bits.Fault.{Fault}
+use Rattle.storage.specs.Decode.{decode}
+use Rattle.storage.specs.Fresh.{freshHistory}
+use Rattle.storage.proofs.Meanings.{Stands, fresh-stands}
+use Rattle.completeness.proofs.Fits.{TermsFit}
+use Rattle.history.specs.declared.answer.Answer.{Answer}
+use Rattle.history.specs.Numbers.{replyOf}
+use Rattle.history.specs.Replies.{submitAnswer, submitBytes}
+use Rattle.history.proofs.Meaning.{modelled, Means, submit-means}
+use Rattle.promises.specs.Run.{bytesFrom, accepts, ledgerFrom}
+use Rattle.promises.proofs.Fits.{fresh-fit, after-fit}
+
+-- ---- the machine
+
+-- the bytes stand for the history, and its terms fit
+abbrev pub StandsFor : Bytes → History → Type 0
+StandsFor h x = Stands h x × TermsFit x
+
+pub means : (h : Bytes) (x : History) → StandsFor h x → (s : Bytes) → Means h x s (submitAnswer h s) (submitBytes h s)
+means h x r s = submit-means h x s (submitAnswer h s) (submitBytes h s) (r .0) (r .1) (record { answer = refl; bytes = refl })
+
+-- the model's answer. Bytes that stand for a history are never answered 12, so what stands for 12 does not matter.
+abbrev orElse : Option model.Answer → model.Answer
+orElse none = model.refused unknownKind
+orElse (some a) = a
+
+abbrev pub said : Answer → model.Answer
+said a = orElse (modelled a)
+
+abbrev pub submitting : Machine
+submitting =
+    record {
+      State = Bytes;
+      start = freshHistory;
+      answers = λ h s. said (submitAnswer h s);
+      next = submitBytes;
+      Stands = StandsFor;
+      starts = (fresh-stands, fresh-fit);
+      alike = λ h x r s. ap orElse (means h x r s .answers);
+      keeps = λ h x r s. (means h x r s .stands, after-fit s x (r .1));
+      findings = λ h. findingList (decode h);
+      leaders = λ h. leaderList (decode h);
+      findingsAlike = λ h x r. ap findingList (r .0 .decodes);
+      leadersAlike = λ h x r. ap leaderList (r .0 .decodes);
+    }
+
+-- ---- its runs are those of Run.antt
+
+-- whether a record was accepted, by its number
+fault-number : (f : Fault) → eqb (replyOf (Answer.Unreadable f) .refusal) 0 ≡ isAccepted (said (Answer.Unreadable f))
+fault-number Fault.UnknownKind = refl
+fault-number Fault.BitsMissing = refl
+fault-number Fault.Filling = refl
+fault-number Fault.OutOfLimit = refl
+fault-number Fault.NotAbove = refl
+
+by-number : (a : Answer) → eqb (replyOf a .refusal) 0 ≡ isAccepted (said a)
+by-number (Answer.Accepted v n) = refl
+by-number (Answer.Unreadable f) = fault-number f
+by-number Answer.PrefixesFull = refl
+by-number Answer.FindingsFull = refl
+by-number Answer.OldExceedsNew = refl
+by-number Answer.LengthExceedsFront = refl
+by-number Answer.CertificatesFull = refl
+by-number Answer.NumberTaken = refl
+by-number Answer.StorageBroken = refl
+
+pub accepts-is : (h s : Bytes) → accepts h s ≡ isAccepted (said (submitAnswer h s))
+accepts-is h s = by-number (submitAnswer h s)
+
+pub states-are : (ss : List Bytes) (h : Bytes) → stateFrom submitting h ss ≡ bytesFrom h ss
+unfolding stateFrom bytesFrom
+states-are [] h = refl
+states-are (s ∷ ss) h = states-are ss (submitBytes h s)
+
+pub ledgers-are : (ss : List Bytes) (h : Bytes) (g : Ledger) → toldFrom submitting h g ss ≡ ledgerFrom h g ss
+unfolding toldFrom ledgerFrom
+ledgers-are [] h g = refl
+ledgers-are (s ∷ ss) h g =
+    ledgers-are ss (submitBytes h s) (fed g s (isAccepted (said (submitAnswer h s))))
+    ∙ ap (λ (b : Bool). ledgerFrom (submitBytes h s) (fed g s b) ss) (sym (accepts-is h s))
