@@ -2,8 +2,7 @@
 //!
 //! It is linked where `rt staticlib history` has left
 //! target/staticlib/libhistory.a (`harness/build` then sets `--cfg history`);
-//! until then the model stands in its place. The names and the packing below
-//! are a proposal: when the library is there, `linked` is what to make fit.
+//! without it the model stands in its place.
 
 use crate::subject::Subject;
 
@@ -19,99 +18,159 @@ pub fn subject() -> (&'static str, Box<dyn Subject>) {
 }
 
 #[cfg(history)]
-mod linked {
+pub mod linked {
     use crate::subject::{Answer, Finding, Lists, Subject};
 
-    // Nothing checks these against the Rattle source. Numbers pass as
-    // themselves, a `&[u8]` as a pointer and then a length.
-    extern "C" {
-        /// How many bytes a history has.
-        fn history_length() -> u64;
-        fn fresh(history: *mut u8, length: usize);
-        /// Refusal, value and node, a byte each from the lowest.
-        fn submit(history: *mut u8, length: usize, record: *const u8, record_length: usize) -> u64;
-        fn finding_count(history: *const u8, length: usize) -> u64;
-        /// Term in the lowest 32 bits, then index 16, node 8, name 8.
-        fn finding(history: *const u8, length: usize, n: u64) -> u64;
-        fn leader_count(history: *const u8, length: usize) -> u64;
-        /// Term in the lowest 32 bits, then the leader.
-        fn leader(history: *const u8, length: usize, n: u64) -> u64;
-        fn unseen_count(history: *const u8, length: usize) -> u64;
-        /// Index in the lowest 32 bits, then the node.
-        fn unseen(history: *const u8, length: usize, n: u64) -> u64;
-        fn unknown_count(history: *const u8, length: usize) -> u64;
-        fn unknown(history: *const u8, length: usize, n: u64) -> u64;
-        /// Length in the lowest 32 bits, then the owner.
-        fn committed(history: *const u8, length: usize) -> u64;
+    // include/gamiwhoru.h in Rust. Nothing checks either against the Rattle
+    // source; what the harness compares would differ.
+
+    #[repr(C)]
+    struct Reply {
+        refusal: u8,
+        value: usize,
+        node: u8,
     }
+
+    #[repr(C)]
+    struct FindingReply {
+        state: u8,
+        name: usize,
+        node: u8,
+        index: usize,
+        term: u32,
+    }
+
+    #[repr(C)]
+    struct LeaderReply {
+        state: u8,
+        term: u32,
+        leader: u8,
+    }
+
+    #[repr(C)]
+    struct UnseenReply {
+        state: u8,
+        node: u8,
+        index: usize,
+    }
+
+    #[repr(C)]
+    struct UnknownReply {
+        state: u8,
+        index: usize,
+    }
+
+    #[repr(C)]
+    struct CommittedReply {
+        state: u8,
+        length: usize,
+        owner: usize,
+    }
+
+    extern "C" {
+        fn gamiwhoru_length() -> usize;
+        fn gamiwhoru_fresh(history: *mut u8, length: usize) -> u8;
+        fn gamiwhoru_submit(
+            history: *mut u8,
+            length: usize,
+            record: *const u8,
+            record_length: usize,
+        ) -> Reply;
+        fn gamiwhoru_finding(history: *const u8, length: usize, n: usize) -> FindingReply;
+        fn gamiwhoru_leader(history: *const u8, length: usize, n: usize) -> LeaderReply;
+        fn gamiwhoru_unseen(history: *const u8, length: usize, n: usize) -> UnseenReply;
+        fn gamiwhoru_unknown(history: *const u8, length: usize, n: usize) -> UnknownReply;
+        fn gamiwhoru_committed(history: *const u8, length: usize) -> CommittedReply;
+    }
+
+    /// A reader's states.
+    const HERE: u8 = 0;
+    const NO_MORE: u8 = 1;
 
     pub struct Library {
         history: Vec<u8>,
     }
 
-    /// A reader of a count, and one of the n-th row.
-    type Count = unsafe extern "C" fn(*const u8, usize) -> u64;
-    type Row = unsafe extern "C" fn(*const u8, usize, u64) -> u64;
+    /// The elements of a list, until there are no more.
+    fn rows<T>(row: impl Fn(usize) -> (u8, T)) -> Vec<T> {
+        let mut out = Vec::new();
+        loop {
+            match row(out.len()) {
+                (HERE, element) => out.push(element),
+                (NO_MORE, _) => return out,
+                (state, _) => panic!("a history grown from a fresh one is answered {state}"),
+            }
+        }
+    }
 
     impl Library {
         pub fn new() -> Self {
             // SAFETY: takes nothing.
-            let length = unsafe { history_length() };
+            let length = unsafe { gamiwhoru_length() };
+            // Not zeros, so that `fresh` is seen to clear them.
             let mut library = Self {
-                history: vec![0; length as usize],
+                history: vec![255; length],
             };
             library.fresh();
             library
         }
-
-        fn rows<T>(&self, count: Count, row: Row, unpack: impl Fn(u64) -> T) -> Vec<T> {
-            let (history, length) = (self.history.as_ptr(), self.history.len());
-            // SAFETY: the pointer and the length are those of one live buffer, which is only read.
-            let rows = unsafe { count(history, length) };
-            (0..rows)
-                .map(|n| unpack(unsafe { row(history, length, n) }))
-                .collect()
-        }
     }
 
-    fn pair(packed: u64) -> (u32, u32) {
-        (packed as u32, (packed >> 32) as u32)
+    impl Default for Library {
+        fn default() -> Self {
+            Self::new()
+        }
     }
 
     impl Subject for Library {
         fn fresh(&mut self) {
             // SAFETY: the pointer and the length are those of one live buffer, lent to this call alone.
-            unsafe { fresh(self.history.as_mut_ptr(), self.history.len()) }
+            let refusal = unsafe { gamiwhoru_fresh(self.history.as_mut_ptr(), self.history.len()) };
+            assert_eq!(refusal, 0, "a buffer of the library's own length");
         }
 
         fn submit(&mut self, record: &[u8]) -> Answer {
             let (history, length) = (self.history.as_mut_ptr(), self.history.len());
             // SAFETY: as above; the record is another live buffer, which is only read.
-            let packed = unsafe { submit(history, length, record.as_ptr(), record.len()) };
+            let reply = unsafe { gamiwhoru_submit(history, length, record.as_ptr(), record.len()) };
             Answer {
-                refusal: (packed & 255) as u32,
-                value: (packed >> 8 & 255) as u32,
-                node: (packed >> 16 & 255) as u32,
+                refusal: u32::from(reply.refusal),
+                value: reply.value as u32,
+                node: u32::from(reply.node),
             }
         }
 
         fn lists(&self) -> Lists {
             let (history, length) = (self.history.as_ptr(), self.history.len());
+            // SAFETY, of all five: the pointer and the length are those of one live buffer, which is only read.
             Lists {
-                findings: self.rows(finding_count, finding, |packed| Finding {
-                    name: (packed >> 56) as u32,
-                    node: (packed >> 48 & 255) as u32,
-                    index: (packed >> 32 & 65535) as u32,
-                    term: packed as u32,
+                findings: rows(|n| {
+                    let r = unsafe { gamiwhoru_finding(history, length, n) };
+                    let finding = Finding {
+                        name: r.name as u32,
+                        node: u32::from(r.node),
+                        index: r.index as u32,
+                        term: r.term,
+                    };
+                    (r.state, finding)
                 }),
-                leaders: self.rows(leader_count, leader, pair),
-                unseen: self.rows(unseen_count, unseen, |packed| {
-                    let (index, node) = pair(packed);
-                    (node, index)
+                leaders: rows(|n| {
+                    let r = unsafe { gamiwhoru_leader(history, length, n) };
+                    (r.state, (r.term, u32::from(r.leader)))
                 }),
-                unknown: self.rows(unknown_count, unknown, |index| index as u32),
-                // SAFETY: as in `rows`.
-                committed: pair(unsafe { committed(history, length) }),
+                unseen: rows(|n| {
+                    let r = unsafe { gamiwhoru_unseen(history, length, n) };
+                    (r.state, (u32::from(r.node), r.index as u32))
+                }),
+                unknown: rows(|n| {
+                    let r = unsafe { gamiwhoru_unknown(history, length, n) };
+                    (r.state, r.index as u32)
+                }),
+                committed: {
+                    let r = unsafe { gamiwhoru_committed(history, length) };
+                    assert_eq!(r.state, HERE, "a history grown from a fresh one");
+                    (r.length as u32, r.owner as u32)
+                },
             }
         }
 
