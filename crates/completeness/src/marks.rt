@@ -6,7 +6,7 @@ ghost use lib.ListN.{length};
 ghost use Rattle.storage.specs.Words.{wordAt};
 ghost use Rattle.storage.specs.Values.{certificateValue};
 ghost use Rattle.completeness.specs.Marks.{markedRow, markMoved, marksMoved};
-use commit::marks::set_mark;
+use commit::marks::set_mark as store_mark;
 use storage::certificates::Certificate;
 use storage::certificates::certificate_at;
 use storage::head::certificate_count;
@@ -15,20 +15,20 @@ use storage::layout::CERTIFICATES_START;
 use storage::layout::part;
 use units::LogIndex;
 
-// The certificate with another mark.
-fn with_mark(c: Certificate, mark: LogIndex) -> Certificate
-    ensures { λ r. ⌜ certificateValue r ≡ markedRow (certificateValue c) (mark .0) ⌝ }
+// Sets the mark of a lent certificate. Every other field stays.
+fn set_mark(c: &mut Certificate, through: LogIndex)
+    ensures { λ _. ⌜ certificateValue (now (c .exit)) ≡ markedRow (certificateValue (now (c .entry))) (through .0) ⌝ }
 {
-    let term = c.term;
-    let leader = c.leader;
-    Certificate {
-        term,
-        log: c.log,
-        mark,
-        leader,
-        number: c.number,
-        present: c.present,
-    }
+    c.mark.0 = through.0;
+}
+
+// The same by value: only this function lends a certificate, so its callers need no walk by hand.
+fn with_mark(c: Certificate, through: LogIndex) -> Certificate
+    ensures { λ r. ⌜ certificateValue r ≡ markedRow (certificateValue c) (through .0) ⌝ }
+{
+    let mut moved = c;
+    set_mark(&mut moved, through);
+    moved
 }
 
 // The mark of certificate k.
@@ -42,7 +42,7 @@ pub fn move_mark(history: &mut [u8], k: usize, end: LogIndex)
     );
     if c.mark.0 < end.0 {
         let moved = with_mark(c, end);
-        set_mark(&mut history[..], k, moved.mark);
+        store_mark(&mut history[..], k, moved.mark);
     }
 }
 
