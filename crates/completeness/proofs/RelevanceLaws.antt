@@ -27,7 +27,7 @@ module _ (row : ℕ → ℕ) (mark t : ℕ) where
   at-next : (k : ℕ) → mark < suc k → t ≤ row k → lastRelevant row mark t (suc k) ≡ lastRelevant row mark t k
   unfolding lastRelevant
   at-next k h l =
-      cond-true (ltb mark (suc k)) _ 0 (lt-ltb mark (suc k) h) ∙ cond-false (ltb (row k) t) (suc k) _ (le-ltb (row k) t l)
+      cond-true (ltb mark (suc k)) _ 0 (lt-ltb mark (suc k) h) ∙ cond-false (ltb (row k) t) _ _ (le-ltb (row k) t l)
 
   at-found : (k : ℕ) → mark < suc k → row k < t → lastRelevant row mark t (suc k) ≡ suc k
   unfolding lastRelevant
