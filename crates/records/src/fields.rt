@@ -3,7 +3,7 @@
 ghost use mathlib.Core.Path.{_≡_};
 ghost use Prim.Native.Nat.{ℕ, _+_, _≤_};
 ghost use Rattle.model.specs.Reading as reading;
-ghost use Rattle.records.specs.Answers.{numberPart, flagPart};
+ghost use Rattle.records.specs.Answers.{numberPart, flagPart, atMost};
 use crate::bits::Fault;
 use crate::bits::Number;
 use crate::bits::field;
@@ -14,12 +14,11 @@ pub enum Flag {
     Not(Fault),
 }
 
-// A field of w bits that is at most `most`.
-pub fn limited(s: &[u8], at: usize, w: usize, most: u64) -> Number
-    requires { ⌜ w ≤ 64 ⌝ }
-    ensures { λ r. ⌜ reading.limited w most (now (s .entry)) at ≡ numberPart r (at + w) ⌝ }
+// A field that was read, where it is at most `most`.
+pub fn within(n: Number, most: u64) -> Number
+    ensures { λ r. ⌜ r ≡ atMost most n ⌝ }
 {
-    let v = match field(s, at, w) {
+    let v = match n {
         Number::Is(v) => v,
         Number::Not(f) => return Number::Not(f),
     };
@@ -28,6 +27,14 @@ pub fn limited(s: &[u8], at: usize, w: usize, most: u64) -> Number
     } else {
         Number::Not(Fault::OutOfLimit)
     }
+}
+
+// A field of w bits that is at most `most`.
+pub fn limited(s: &[u8], at: usize, w: usize, most: u64) -> Number
+    requires { ⌜ w ≤ 64 ⌝ }
+    ensures { λ r. ⌜ reading.limited w most (now (s .entry)) at ≡ numberPart r (at + w) ⌝ }
+{
+    within(field(s, at, w), most)
 }
 
 // A yes/no takes 1 bit.

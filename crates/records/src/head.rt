@@ -9,7 +9,9 @@ use crate::bits::filled;
 use crate::fields::Flag;
 use crate::fields::governed;
 use crate::fields::index;
+use crate::fields::within;
 use crate::fields::yes_no;
+use crate::reader::two_fields;
 use crate::scan::End;
 use crate::scan::scan_entries;
 use crate::scan::scan_rows;
@@ -67,11 +69,14 @@ fn finish(s: &[u8], at: usize, head: Head) -> Head
 fn read_view(s: &[u8]) -> Head
     ensures { λ r. ⌜ Reads reading.viewFields (now (s .entry)) r ⌝ }
 {
-    let n = match field(s, 4, 6) {
+    let fields = two_fields(s, 4, 6, 10);
+    let node = fields.first;
+    let entries = fields.second;
+    let n = match node {
         Number::Is(n) => n,
         Number::Not(f) => return Head::Unreadable(f),
     };
-    let c = match index(s, 10) {
+    let c = match within(entries, 256) {
         Number::Is(c) => c,
         Number::Not(f) => return Head::Unreadable(f),
     };
@@ -93,11 +98,14 @@ fn read_view(s: &[u8]) -> Head
 fn read_commit(s: &[u8]) -> Head
     ensures { λ r. ⌜ Reads reading.commitFields (now (s .entry)) r ⌝ }
 {
-    let n = match field(s, 4, 6) {
+    let fields = two_fields(s, 4, 6, 10);
+    let node = fields.first;
+    let commit = fields.second;
+    let n = match node {
         Number::Is(n) => n,
         Number::Not(f) => return Head::Unreadable(f),
     };
-    let i = match index(s, 10) {
+    let i = match within(commit, 256) {
         Number::Is(i) => i,
         Number::Not(f) => return Head::Unreadable(f),
     };
@@ -115,11 +123,14 @@ fn read_commit(s: &[u8]) -> Head
 fn read_terms(s: &[u8]) -> Head
     ensures { λ r. ⌜ Reads reading.termsFields (now (s .entry)) r ⌝ }
 {
-    let o = match index(s, 4) {
+    let fields = two_fields(s, 4, 10, 10);
+    let old = fields.first;
+    let new = fields.second;
+    let o = match within(old, 256) {
         Number::Is(o) => o,
         Number::Not(f) => return Head::Unreadable(f),
     };
-    let n = match index(s, 14) {
+    let n = match within(new, 256) {
         Number::Is(n) => n,
         Number::Not(f) => return Head::Unreadable(f),
     };
@@ -142,11 +153,14 @@ fn read_terms(s: &[u8]) -> Head
 fn read_election(s: &[u8]) -> Head
     ensures { λ r. ⌜ Reads reading.electionFields (now (s .entry)) r ⌝ }
 {
-    let l = match field(s, 4, 6) {
+    let fields = two_fields(s, 4, 6, 32);
+    let leader = fields.first;
+    let term = fields.second;
+    let l = match leader {
         Number::Is(l) => l,
         Number::Not(f) => return Head::Unreadable(f),
     };
-    let t = match field(s, 10, 32) {
+    let t = match term {
         Number::Is(t) => t,
         Number::Not(f) => return Head::Unreadable(f),
     };
