@@ -1,5 +1,6 @@
-//! Times per record of the Rust's functions on five kinds of chains, and the
-//! place where the library's `submit` goes beside them. See harness/README.md.
+//! Times per record on five kinds of chains: the Rust's functions alone, the
+//! Rust from the record's bytes, and the library's `submit`, which is handed
+//! the same bytes. See harness/README.md.
 
 mod chains;
 
@@ -55,7 +56,7 @@ fn main() {
     }
 }
 
-/// The library, once it is linked. Until then there is nothing to time: the
+/// The library, where it is linked. Without it there is nothing to time: the
 /// model is made for reading, not for speed.
 fn column() -> Option<Column> {
     cfg!(history).then(subject)
