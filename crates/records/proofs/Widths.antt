@@ -59,17 +59,50 @@ more s k i (suc n) h =
     let o : ℕ = (k + i) % 8 in
     rw (add-suc i n, one-more s k (i + n), q, r, chunk-more b o n (omega arith), ih, pow-suc 2 n) (omega arith)
 
--- one turn of the code: v has the bits before p, counted from the first byte
-pub turn : (s : Bytes) (k p n v : ℕ) → v ≡ fieldAt s k (p - k % 8) → k % 8 ≤ p → p % 8 + n ≤ 8 → p + n - k % 8 ≤ 64
-    → (v * 2 ^ n) % 2 ^ 64 + getD s (k / 8 + p / 8) 0 / 2 ^ (8 - p % 8 - n) % ((1 * 2 ^ n) % 2 ^ 64) ≡ fieldAt s k (p + n - k % 8)
-turn s k p n v e l h w =
-    let i : ℕ = p - k % 8 in
-    let q : k / 8 + p / 8 ≡ (k + i) / 8 = omega arith in
-    let r : p % 8 ≡ (k + i) % 8 = omega arith in
-    let t : p + n - k % 8 ≡ i + n = omega arith in
-    let z : (1 * 2 ^ n) % 2 ^ 64 ≡ 2 ^ n = one-shl n (omega arith) in
-    let y : (v * 2 ^ n) % 2 ^ 64 ≡ v * 2 ^ n = shl-exact i n 64 (rw e (field-lt s k i)) (omega arith) in
-    rw (y, z, e, q, r, t) (sym (more s k i n (omega arith)))
+-- a field of two parts
+pub split : (s : Bytes) (k a b : ℕ) → fieldAt s k (a + b) ≡ fieldAt s k a * 2 ^ b + fieldAt s (k + a) b
+split s k a zero = rw (add-zero a, ← field-none s (k + a) 0 refl) (omega arith)
+split s k a (suc b) =
+    let e : k + (a + b) ≡ k + a + b = omega arith in
+    rw (add-suc a b, one-more s k (a + b), one-more s (k + a) b, e, split s k a b, pow-suc 2 b) (omega arith)
+
+-- the 48 bits before an entry's content: its index, its term and its content length
+pub head-parts : (s : Bytes) (k v : ℕ) → v ≡ fieldAt s k 48
+    → (v / 2 ^ 38 ≡ fieldAt s k 10) × (v / 2 ^ 6 % 4294967296 ≡ fieldAt s (k + 10) 32) × (v % 64 ≡ fieldAt s (k + 42) 6)
+head-parts s k v e =
+    let a = split s k 42 6 in
+    let b = split s k 10 32 in
+    let i = field-lt s k 10 in
+    let t = field-lt s (k + 10) 32 in
+    let n = field-lt s (k + 42) 6 in
+    (omega arith, omega arith, omega arith)
+
+-- one turn of the code: v has the bits of the k bytes from byte f on, and b is the next
+pub turn : (s : Bytes) (f k v b : ℕ) → v ≡ fieldAt s (8 * f) (8 * k) → k < 8 → b ≡ getD s (f + k) 0 → b < 256
+    → (v * 2 ^ 8) % 2 ^ 64 + b ≡ fieldAt s (8 * f) (8 * (k + 1))
+turn s f k v b e l d h =
+    let q : (8 * f + 8 * k) / 8 ≡ f + k = omega arith in
+    let r : (8 * f + 8 * k) % 8 ≡ 0 = omega arith in
+    let y : (v * 2 ^ 8) % 2 ^ 64 ≡ v * 2 ^ 8 = shl-exact (8 * k) 8 64 (rw e (field-lt s (8 * f) (8 * k))) (omega arith) in
+    let n : 8 * (k + 1) ≡ 8 * k + 8 = omega arith in
+    let m = rw (q, r) at (more s (8 * f) (8 * k) 8 (omega arith)) in
+    rw (y, n, m, ← e, ← d) (omega arith)
+
+-- what stands before and after the bits is cut off
+pub cut : (s : Bytes) (at w n v : ℕ) → v ≡ fieldAt s (8 * (at / 8)) (8 * n) → at % 8 + w ≤ 8 * n → w ≤ 57
+    → v / 2 ^ (8 * n - (at % 8 + w)) % ((1 * 2 ^ w) % 2 ^ 64) ≡ fieldAt s at w
+cut s at w n v e l h =
+    let k : ℕ = 8 * (at / 8) in
+    let o : ℕ = at % 8 in
+    let r : ℕ = 8 * n - (o + w) in
+    let a : 8 * n ≡ o + w + r = omega arith in
+    let b : k + o ≡ at = omega arith in
+    let past = split s k (o + w) r in
+    let before = split s k o w in
+    let z : (1 * 2 ^ w) % 2 ^ 64 ≡ 2 ^ w = one-shl w (omega arith) in
+    let d : v / 2 ^ r ≡ fieldAt s k (o + w) =
+    ap (λ (x : ℕ). x / 2 ^ r) (e ∙ ap (fieldAt s k) a ∙ past) ∙ high (fieldAt s k (o + w)) r (field-lt s (k + (o + w)) r) in
+    rw (z, d, before, low (fieldAt s k o) w (field-lt s (k + o) w), b)
 
 -- ---- content bytes, through a window of two
 

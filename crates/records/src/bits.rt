@@ -1,6 +1,6 @@
-// Bits of a record, most significant first: the number in any 64 or fewer of them, and a field that may be missing.
+// Bits of a record, most significant first: the number in any 57 or fewer of them, and a field that may be missing.
 ghost use mathlib.Core.Path.{_≡_};
-ghost use Prim.Native.Nat.{ℕ, _+_, _*_, _≤_, min};
+ghost use Prim.Native.Nat.{ℕ, _+_, _*_, _≤_};
 ghost use lib.ListN.{length};
 ghost use lib.Dec.{leb};
 ghost use Rattle.model.specs.Reading as reading;
@@ -46,30 +46,22 @@ fn wide(x: u8) -> u64
     x as u64
 }
 
-fn lesser(a: usize, b: usize) -> usize
-    ensures { λ r. ⌜ r ≡ min a b ⌝ }
-{
-    if a <= b { a } else { b }
-}
-
-// The number in the w bits from bit `at` on, as many bits at a time as a byte has of them.
+// The number in the w bits from bit `at` on: the bytes that hold them make one word, and what stands before and after the bits is
+// cut off. With the bits before them in their first byte, 57 bits are the most that a word always holds.
 pub fn bits_at(s: &[u8], at: usize, w: usize) -> u64
-    requires { ⌜ (w ≤ 64) × (at + w ≤ 8 * length (now s)) ⌝ }
+    requires { ⌜ (w ≤ 57) × (at + w ≤ 8 * length (now s)) ⌝ }
     ensures { λ r. ⌜ r ≡ reading.fieldAt (now (s .entry)) at w ⌝ }
 {
     let first = at / 8;
-    let from = at % 8;
-    let end = from + w;
-    let mut p = from;
+    let end = at % 8 + w;
+    let n = (end + 7) / 8;
+    let mut k = 0;
     let mut v: u64 = 0;
-    while p < end {
-        let o = p % 8;
-        let n = lesser(8 - o, end - p);
-        let byte = wide(s[first + p / 8]);
-        v = (v << n) + (byte >> (8 - o - n)) % (1 << n);
-        p += n;
+    while k < n {
+        v = (v << 8) + wide(s[first + k]);
+        k += 1;
     }
-    v
+    (v >> (8 * n - end)) % (1 << w)
 }
 
 // Whether the record has the w bits from bit `at` on. Counted in bytes, so that no sum wraps.
@@ -82,7 +74,7 @@ pub fn holds(s: &[u8], at: usize, w: usize) -> bool
 
 // A field of w bits: 2 where its bits are missing.
 pub fn field(s: &[u8], at: usize, w: usize) -> Number
-    requires { ⌜ w ≤ 64 ⌝ }
+    requires { ⌜ w ≤ 57 ⌝ }
     ensures { λ r. ⌜ reading.field w (now (s .entry)) at ≡ numberPart r (at + w) ⌝ }
 {
     if holds(s, at, w) {

@@ -31,7 +31,7 @@ pub fn within(n: Number, most: u64) -> Number
 
 // A field of w bits that is at most `most`.
 pub fn limited(s: &[u8], at: usize, w: usize, most: u64) -> Number
-    requires { ⌜ w ≤ 64 ⌝ }
+    requires { ⌜ w ≤ 57 ⌝ }
     ensures { λ r. ⌜ reading.limited w most (now (s .entry)) at ≡ numberPart r (at + w) ⌝ }
 {
     within(field(s, at, w), most)
@@ -49,7 +49,7 @@ pub fn yes_no(s: &[u8], at: usize) -> Flag
 
 // A field that "present" governs: it is zero where absent.
 pub fn governed(s: &[u8], at: usize, present: bool, w: usize, most: u64) -> Number
-    requires { ⌜ w ≤ 64 ⌝ }
+    requires { ⌜ w ≤ 57 ⌝ }
     ensures { λ r. ⌜ reading.governed present w most (now (s .entry)) at ≡ numberPart r (at + w) ⌝ }
 {
     if present {

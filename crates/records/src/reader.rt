@@ -34,7 +34,7 @@ pub fn new<'a>(bytes: &'a [u8], at: usize) -> RecordReader<'a>
 
 // The field of the next w bits. The reader is moved past them also where they are missing.
 pub fn next<'a>(r: RecordReader<'a>, w: usize) -> Taken<'a>
-    requires { ⌜ (w ≤ 64) × (r .next + w < 2 ^ 64) ⌝ }
+    requires { ⌜ (w ≤ 57) × (r .next + w < 2 ^ 64) ⌝ }
     ensures { λ t. ⌜ (reading.field w (now (r .entry .bytes)) (r .entry .next) ≡ numberPart (t .number) (r .entry .next + w))
         × (t .rest .bytes ≡ r .entry .bytes) × (t .rest .next ≡ r .entry .next + w) ⌝ }
 {
@@ -50,7 +50,7 @@ pub fn next<'a>(r: RecordReader<'a>, w: usize) -> Taken<'a>
 
 // The field of a bits from bit `at` on, and the field of b bits after it.
 pub fn two_fields(s: &[u8], at: usize, a: usize, b: usize) -> Pair
-    requires { ⌜ (a ≤ 64) × (b ≤ 64) × (at + a + b < 2 ^ 64) ⌝ }
+    requires { ⌜ (a ≤ 57) × (b ≤ 57) × (at + a + b < 2 ^ 64) ⌝ }
     ensures { λ r. ⌜ (reading.field a (now (s .entry)) at ≡ numberPart (r .first) (at + a))
         × (reading.field b (now (s .entry)) (at + a) ≡ numberPart (r .second) (at + a + b)) ⌝ }
 {

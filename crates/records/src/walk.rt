@@ -94,18 +94,17 @@ pub fn next_at(s: &[u8], at: usize) -> usize
     at + 48 + 8 * bits_at(s, at + 42, 6) as usize
 }
 
-// The entry at bit `at`.
+// The entry at bit `at`. Its index, term and content length are 48 bits, taken at once.
 pub fn entry_at(s: &[u8], at: usize) -> ShownEntry
     requires { ⌜ Here (now s) at ⌝ }
     ensures { λ r. ⌜ r ≡ shownEntry (now (s .entry)) at ⌝ }
 {
-    let i = bits_at(s, at, 10);
-    let t = bits_at(s, at + 10, 32);
-    let n = bits_at(s, at + 42, 6) as usize;
+    let head = bits_at(s, at, 48);
+    let n = (head % 64) as usize;
     let content = content_at(s, at + 48, n);
     ShownEntry {
-        index: LogIndex(i as usize),
-        term: Term(t as u32),
+        index: LogIndex((head >> 38) as usize),
+        term: Term(((head >> 6) % 4294967296) as u32),
         length: n,
         content,
         next: at + 48 + 8 * n,

@@ -1,44 +1,39 @@
--- `records::bits::bits_at` meets its contract: a turn takes the bits of one byte that are wanted, and v is the number of the bits before p.
+-- `records::bits::bits_at` meets its contract: a turn takes one whole byte, and v is the number of the bytes before byte k.
 -- Assumes nothing.
-use Prim.Native.Nat.{_+_, _-_, _*_, _/_, _%_, _^_, _≤_}
+use Prim.Native.Nat.{ℕ, _+_, _-_, _*_, _/_, _%_, _^_, _≤_}
 use mathlib.Core.Path.{_≡_, ap, _∙_}
 use native.Mathlib.Omega.{arith}
 use borrow.Author.Needs.{needs}
 use Rattle.model.specs.Reading.{fieldAt}
-use Rattle.records.proofs.Widths.{turn, field-none, field-lt-64, one-shl-pos}
+use Rattle.records.proofs.Widths.{turn, cut, field-none, field-lt-64, one-shl-pos}
 use Rattle.records.proofs.bits.bits_at.Statement.{statement}
 use Rattle.records.proofs.bits.bits_at.Tie as tie
 
 abbrev Inv-loop : tie.InvT-loop
-Inv-loop s at w first from end p₀ v₀ p v = (at % 8 ≤ p) × (p ≤ at % 8 + w) × (v ≡ fieldAt s at (p - at % 8))
+Inv-loop s at w first end n k₀ v₀ k v = (k ≤ n) × (v ≡ fieldAt s (8 * (at / 8)) (8 * k))
 
 abbrev μ-loop : tie.MeasureT-loop
-μ-loop s at w first from end p₀ v₀ p v = at % 8 + w - p
+μ-loop s at w first end n k₀ v₀ k v = n - k
 
 -- what a turn makes of v
 turned : (c : tie.After-wide Inv-loop μ-loop)
-    → let l = c .before .before .before .before .loop in
-    let a = c .before .before .before .before .before .before .args in
-    let n = c .before .before .lesser .result in
-    l .v * 2 ^ n % 2 ^ 64 + c .wide .result / 2 ^ (8 - l .p % 8 - n) % (1 * 2 ^ n % 2 ^ 64) ≡ fieldAt (a .s .now) (a .at) (l .p + n - a .at % 8)
+    → let l = c .before .before .before .loop in
+    let a = c .before .before .before .before .before .args in
+    (l .v * 2 ^ 8) % 2 ^ 64 + c .wide .result ≡ fieldAt (a .s .now) (8 * (a .at / 8)) (8 * (l .k + 1))
 turned c =
-    let c₄ = c .before .before .before .before in
-    rw (c .wide .ensures) (turn _ _ _ _ _ (c₄ .loop .inv .2) (omega arith) (omega arith) (omega arith))
+    let l = c .before .before .before .loop in
+    let a = c .before .before .before .before .before .args in
+    let known = c .before .shared-slice-known2 .given (a .at / 8 + l .k) in
+    turn (a .s .now) (a .at / 8) (l .k) (l .v) (c .wide .result) (l .inv .1) (omega arith) (c .wide .ensures) (omega (arith, known, c .wide .ensures))
 
 add-end : tie.Need-add-end Inv-loop μ-loop
 add-end c = search needs
 
+add-n : tie.Need-add-n Inv-loop μ-loop
+add-n c = search needs
+
 loop-holds : tie.Need-loop-holds Inv-loop μ-loop
-loop-holds c = (omega arith, omega arith, field-none _ _ _ (omega arith))
-
-sub-lesser : tie.Need-sub-lesser Inv-loop μ-loop
-sub-lesser c = search needs
-
-sub-lesser-2 : tie.Need-sub-lesser-2 Inv-loop μ-loop
-sub-lesser-2 c = search needs
-
-lesser-requires : tie.Need-lesser-requires Inv-loop μ-loop
-lesser-requires c κs = search needs
+loop-holds c = (omega arith, field-none _ _ _ (omega arith))
 
 add-wide : tie.Need-add-wide Inv-loop μ-loop
 add-wide c = search needs
@@ -49,38 +44,39 @@ shared-slice-read-wide c = search needs
 wide-requires : tie.Need-wide-requires Inv-loop μ-loop
 wide-requires c κs = search needs
 
-shl-v : tie.Need-shl-v Inv-loop μ-loop
-shl-v c = search needs
-
-sub-v : tie.Need-sub-v Inv-loop μ-loop
-sub-v c = search needs
-
-sub-v-2 : tie.Need-sub-v-2 Inv-loop μ-loop
-sub-v-2 c = search needs
-
-shr-v : tie.Need-shr-v Inv-loop μ-loop
-shr-v c = search needs
-
-shl-v-2 : tie.Need-shl-v-2 Inv-loop μ-loop
-shl-v-2 c = search needs
-
-rem-v : tie.Need-rem-v Inv-loop μ-loop
-rem-v c = one-shl-pos (c .before .before .lesser .result) (omega arith)
-
 add-v : tie.Need-add-v Inv-loop μ-loop
 add-v c = record { fits = rw (turned c) (field-lt-64 _ _ _ (omega arith)) }
 
-add-p : tie.Need-add-p Inv-loop μ-loop
-add-p c = search needs
+add-k : tie.Need-add-k Inv-loop μ-loop
+add-k c = search needs
 
 loop-less : tie.Need-loop-less Inv-loop μ-loop
 loop-less c = search needs
 
 loop-again : tie.Need-loop-again Inv-loop μ-loop
-loop-again c = (omega arith, omega arith, turned c)
+loop-again c = (omega arith, turned c)
+
+mul-result : tie.Need-mul-result Inv-loop μ-loop
+mul-result c = search needs
+
+sub-result : tie.Need-sub-result Inv-loop μ-loop
+sub-result c = search needs
+
+shr-result : tie.Need-shr-result Inv-loop μ-loop
+shr-result c = search needs
+
+shl-result : tie.Need-shl-result Inv-loop μ-loop
+shl-result c = search needs
+
+rem-result : tie.Need-rem-result Inv-loop μ-loop
+rem-result c = one-shl-pos (c .before .before .before .args .w) (omega arith)
 
 returns : tie.Need-returns Inv-loop μ-loop
-returns c = c .before .loop .inv .2 ∙ ap (fieldAt _ _) (omega arith)
+returns c =
+    let a = c .before .before .before .args in
+    let l = c .before .loop in
+    let e : l .k ≡ (a .at % 8 + a .w + 7) / 8 = omega arith in
+    cut (a .s .now) (a .at) (a .w) _ (l .v) (l .inv .1 ∙ ap (λ (m : ℕ). fieldAt (a .s .now) (8 * (a .at / 8)) (8 * m)) e) (omega arith) (omega arith)
 
 pub bits-at-spec : {M : Type 1} → statement M
 bits-at-spec =
@@ -89,21 +85,18 @@ bits-at-spec =
     Inv-loop
     μ-loop
     add-end
+    add-n
     loop-holds
-    sub-lesser
-    sub-lesser-2
-    lesser-requires
     add-wide
     shared-slice-read-wide
     wide-requires
-    shl-v
-    sub-v
-    sub-v-2
-    shr-v
-    shl-v-2
-    rem-v
     add-v
-    add-p
+    add-k
     loop-less
     loop-again
+    mul-result
+    sub-result
+    shr-result
+    shl-result
+    rem-result
     returns)

@@ -77,7 +77,7 @@ module _ {M : Type 1} (𝓤 : URA M) (H : Heap 𝓤) (A : Atoms 𝓤) (mem : Mem
   FieldC = tripleOf 𝓤 H A field.signature (field.spec 𝓤 H A mem run)
 
 module _ {M : Type 1} (𝓤 : URA M) (H : Heap 𝓤) (A : Atoms 𝓤) (W : Given 𝓤 H A) (mem : Memory → SProp 𝓤) (run : Routine → Fun 𝓤)
-    (κ : Lft) (q : Share) (d : RecordReader) (w : ℕ) (fits : w < 2 ^ 64) (narrow : w ≤ 64) (ok : d .next + w < 2 ^ 64) where
+    (κ : Lft) (q : Share) (d : RecordReader) (w : ℕ) (fits : w < 2 ^ 64) (narrow : w ≤ 57) (ok : d .next + w < 2 ^ 64) where
   abbrev α : NamedLft
   α = namedLft 1 0 tt (κ, tt)
 

@@ -150,7 +150,7 @@ module _ {M : Type 1} (𝓤 : URA M) (H : Heap 𝓤) (A : Atoms 𝓤) (W : Given
   abbrev to-next : RecordReader → ℕ → Val → Next 𝓤 H A mem run .Ghost
   to-next r w u = (((κ, tt), (q, tt), tt, (r, (w, tt)), (u ∷ [], (vint w64 w ∷ [], tt))), tt)
 
-  goes-next : (r : RecordReader) (w : ℕ) (u : Val) → w < 2 ^ 64 → (w ≤ 64) × (r .next + w < 2 ^ 64)
+  goes-next : (r : RecordReader) (w : ℕ) (u : Val) → w < 2 ^ 64 → (w ≤ 57) × (r .next + w < 2 ^ 64)
       → ent 𝓤 (⋆ 𝓤 H A (‵ (B (κ, tt) .own r (u ∷ [])) ∷ (‵ (flft κ q) ⊛ ‵ ftrue) ∷ [])) (Next 𝓤 H A mem run .pre (to-next r w u))
   goes-next r w u fits ok =
       qed W (‵ (B (κ, tt) .own r (u ∷ [])) ∷ (‵ (flft κ q) ⊛ ‵ ftrue) ∷ []) ∵ says ! ok $
@@ -163,7 +163,7 @@ module _ {M : Type 1} (𝓤 : URA M) (H : Heap 𝓤) (A : Atoms 𝓤) (W : Given
 
 module _ {M : Type 1} (𝓤 : URA M) (H : Heap 𝓤) (A : Atoms 𝓤) (W : Given 𝓤 H A) (mem : Memory → SProp 𝓤) (run : Routine → Fun 𝓤)
     (κ : Lft) (q : Share) (s : RefT (List ℕ)) (at a b : ℕ)
-    (at-fits : at < 2 ^ 64) (a-fits : a < 2 ^ 64) (b-fits : b < 2 ^ 64) (ok : (a ≤ 64) × (b ≤ 64) × (at + a + b < 2 ^ 64)) where
+    (at-fits : at < 2 ^ 64) (a-fits : a < 2 ^ 64) (b-fits : b < 2 ^ 64) (ok : (a ≤ 57) × (b ≤ 57) × (at + a + b < 2 ^ 64)) where
   -- what the three calls say is what is promised
   read-both : (r : RecordReader) (t t′ : Taken) → (r .bytes ≡ s) × (r .next ≡ at) → Gave a r t → Gave b (t .rest) t′
       → Reads a s at (t .number) × Reads b s (at + a) (t′ .number)

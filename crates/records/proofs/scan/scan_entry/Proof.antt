@@ -5,7 +5,6 @@ use mathlib.Core.Path.{refl, sym, _∙_}
 use native.Mathlib.Omega.{arith}
 use borrow.Author.Needs.{needs}
 use borrow.Author.Tests.{leb-true, leb-false, not-true, not-false}
-use lib.ListN.{length}
 use Rattle.model.specs.Reading.{shown}
 use Rattle.records.proofs.Given.{number-is, limited-is}
 use Rattle.records.proofs.Readers.{field-got, field-missing, content-got, content-missing}
