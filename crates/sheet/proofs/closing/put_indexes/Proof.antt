@@ -1,15 +1,17 @@
--- `sheet::unknown` meets its contract.
+-- `sheet::closing::put_indexes` meets its contract.
 -- Assumes nothing.
-use Prim.Native.Nat.{_-_}
+use Prim.Native.Nat.{_+_, _-_, _*_, _≤_}
+use mathlib.Core.Path.{_≡_}
+use lib.ListN.{length}
 use borrow.Author.Needs.{needs}
-use Rattle.sheet.proofs.unknown.Statement.{statement}
-use Rattle.sheet.proofs.unknown.Tie as tie
+use Rattle.sheet.proofs.closing.put_indexes.Statement.{statement}
+use Rattle.sheet.proofs.closing.put_indexes.Tie as tie
 
 abbrev Inv-loop : tie.InvT-loop
-Inv-loop history k₀ k = Unit {0}
+Inv-loop history out₀ start at₀ k₀ out at k = (length out ≡ length out₀) × (at ≤ start + k * 29) × (k ≤ 256)
 
 abbrev μ-loop : tie.MeasureT-loop
-μ-loop history k₀ k = 256 - k
+μ-loop history out₀ start at₀ k₀ out at k = 256 - k
 
 loop-holds : tie.Need-loop-holds Inv-loop μ-loop
 loop-holds c = search needs
@@ -23,11 +25,14 @@ enum-known-index c = search needs
 enum-told : tie.Need-enum-told Inv-loop μ-loop
 enum-told c = search needs
 
+same-length : tie.Need-same-length Inv-loop μ-loop
+same-length c = search needs
+
 returns : tie.Need-returns Inv-loop μ-loop
 returns c = search needs
 
-say-unknown-requires : tie.Need-say-unknown-requires Inv-loop μ-loop
-say-unknown-requires c κs = search needs
+put-unknown-requires : tie.Need-put-unknown-requires Inv-loop μ-loop
+put-unknown-requires c κs = search needs
 
 add-k : tie.Need-add-k Inv-loop μ-loop
 add-k c = search needs
@@ -38,11 +43,14 @@ loop-less c = search needs
 loop-again : tie.Need-loop-again Inv-loop μ-loop
 loop-again c = search needs
 
+same-length-2 : tie.Need-same-length-2 Inv-loop μ-loop
+same-length-2 c = search needs
+
 returns-2 : tie.Need-returns-2 Inv-loop μ-loop
 returns-2 c = search needs
 
-pub unknown-spec : {M : Type 1} → statement M
-unknown-spec =
+pub put-indexes-spec : {M : Type 1} → statement M
+put-indexes-spec =
     tie.close
     (tie.spec
     Inv-loop
@@ -51,9 +59,11 @@ unknown-spec =
     unknown-at-requires
     enum-known-index
     enum-told
+    same-length
     returns
-    say-unknown-requires
+    put-unknown-requires
     add-k
     loop-less
     loop-again
+    same-length-2
     returns-2)

@@ -1,0 +1,56 @@
+-- `sheet::closing::put_lists` meets its contract.
+-- Assumes nothing.
+use mathlib.Core.Path.{sym, _∙_}
+use borrow.Author.Needs.{needs}
+use borrow.Author.Tests.{not-false}
+use Rattle.sheet.proofs.closing.put_lists.Statement.{statement}
+use Rattle.sheet.proofs.closing.put_lists.Tie as tie
+
+well-formed-requires : tie.Need-well-formed-requires
+well-formed-requires c κs = search needs
+
+returns : tie.Need-returns
+returns c = search needs
+
+put-findings-requires : tie.Need-put-findings-requires
+put-findings-requires c κs = (sym (c .before .before .well-formed .ensures) ∙ not-false _ (c .before .if1 .left), search needs)
+
+put-leaders-requires : tie.Need-put-leaders-requires
+put-leaders-requires c κs = (sym (c .before .before .before .before .before .before .well-formed .ensures) ∙ not-false _ (c .before .before .before .before .before .if1 .left), search needs)
+
+put-marks-requires : tie.Need-put-marks-requires
+put-marks-requires c κs = (sym (c .before .before .before .before .before .before .before .before .before .before .well-formed .ensures) ∙ not-false _ (c .before .before .before .before .before .before .before .before .before .if1 .left), search needs)
+
+put-indexes-requires : tie.Need-put-indexes-requires
+put-indexes-requires c κs = (sym (c .before .before .before .before .before .before .before .before .before .before .before .before .before .before .well-formed .ensures) ∙ not-false _ (c .before .before .before .before .before .before .before .before .before .before .before .before .before .if1 .left), search needs)
+
+committed-length-requires : tie.Need-committed-length-requires
+committed-length-requires c κs = sym (c .before .before .before .before .before .before .before .before .before .before .before .before .before .before .before .before .before .before .well-formed .ensures) ∙ not-false _ (c .before .before .before .before .before .before .before .before .before .before .before .before .before .before .before .before .before .if1 .left)
+
+committed-owner-requires : tie.Need-committed-owner-requires
+committed-owner-requires c κs = sym (c .before .before .before .before .before .before .before .before .before .before .before .before .before .before .before .before .before .before .before .well-formed .ensures) ∙ not-false _ (c .before .before .before .before .before .before .before .before .before .before .before .before .before .before .before .before .before .before .if1 .left)
+
+put-committed-requires : tie.Need-put-committed-requires
+put-committed-requires c κs = search needs
+
+same-length : tie.Need-same-length
+same-length c = search needs
+
+returns-2 : tie.Need-returns-2
+returns-2 c = search needs
+
+pub put-lists-spec : {M : Type 1} → statement M
+put-lists-spec =
+    tie.close
+    (tie.spec
+    well-formed-requires
+    returns
+    put-findings-requires
+    put-leaders-requires
+    put-marks-requires
+    put-indexes-requires
+    committed-length-requires
+    committed-owner-requires
+    put-committed-requires
+    same-length
+    returns-2)
