@@ -4,10 +4,9 @@
 use Prim.Native.Nat.{ℕ, _^_, _<_}
 use mathlib.Core.Path.{_≡_, ap, sym, _∙_, subst}
 use mathlib.Core.Bool.{Bool}
-use lib.ListN.{length}
 use Rattle.model.specs.Sizes.{Bytes}
 use Rattle.model.specs.History.{History}
-use Rattle.model.specs.Election.{held, taken, electionRefusal, certificate, electionEffect}
+use Rattle.model.specs.Election.{electionRefusal, electionEffect}
 use Rattle.storage.proofs.Meanings.{Stands}
 use Rattle.election.specs.declared.certificate.ElectionAnswer.{ElectionAnswer}
 use Rattle.election.specs.Certify.{answerIn, Recorded}

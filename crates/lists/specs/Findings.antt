@@ -2,7 +2,7 @@
 -- ones as it is not before, and each row looked at takes one place in front of the others or behind.
 -- Assumes nothing.
 use Prim.Native.Nat.{ℕ, _+_, _-_}
-use mathlib.Core.Bool.{Bool, cond, not}
+use mathlib.Core.Bool.{Bool, cond}
 use mathlib.Core.List.{List, [], _∷_}
 use lib.Dec.{ltb, eqb}
 use Rattle.model.specs.Sizes.{Bytes}
@@ -10,7 +10,6 @@ use Rattle.model.specs.History.{Finding}
 use Rattle.model.specs.Lists.{before}
 use Rattle.storage.specs.Words.{wordAt}
 use Rattle.storage.specs.Tables.{findingRows, findingsPart}
-use Rattle.storage.specs.declared.findings.Found.{Found}
 use Rattle.lists.specs.declared.findings.FindingAnswer.{FindingAnswer}
 
 unfoldable pub comesBefore : Finding → Finding → Bool

@@ -2,18 +2,17 @@
 -- decides equality of the two lists of entries.
 -- Assumes nothing.
 use Prim.Native.Nat.{ℕ, zero, suc, _+_, _-_, _<_, _≤_}
-use native.Mathlib.Nat.{le-refl, le-of-suc-le-suc, not-suc-le-zero}
+use native.Mathlib.Nat.{le-refl}
 use native.Mathlib.Omega.{arith}
-use native.Mathlib.Numerals.{add-one}
 use mathlib.Core.Path.{_≡_, refl, sym, _∙_, ap, subst, subst₂}
-use mathlib.Core.Bool.{Bool, true, false, cond, not, _&&_, _||_}
-use mathlib.Core.Logic.{_⊎_, inl, inr, ⊎-elim}
+use mathlib.Core.Bool.{true, false, cond, _||_}
+use mathlib.Core.Logic.{_⊎_, ⊎-elim}
 use mathlib.Core.List.{List, [], _∷_, _++_}
 use lib.Dec.{eqb}
 use lib.ListN.{length}
 use borrow.Author.Tests.{eqb-true, eqb-false, eq-eqb, ne-eqb}
-use Rattle.model.specs.Entry.{Entry, Prefix, same}
-use Rattle.model.proofs.Tests.{tf, either, cond-true, cond-false, and-left, and-right, or-false-left, or-false-right, yes-same, no-same, test-ext, same-yes}
+use Rattle.model.specs.Entry.{same}
+use Rattle.model.proofs.Tests.{either, cond-true, cond-false, and-left, and-right, or-false-left, or-false-right, yes-same, test-ext, same-yes}
 use Rattle.storage.specs.Tables.{PrefixRow}
 use Rattle.storage.specs.Decode.{prefixAt, entryOf, resolve}
 use Rattle.storage.proofs.Resolve.{Facts, rowAt, bytes-same}

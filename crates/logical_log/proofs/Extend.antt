@@ -1,28 +1,27 @@
 -- `extend` on rows: the one step that lengthens a prefix finds its row or makes it. What that means of the stored prefixes.
 -- Assumes nothing.
-use Prim.Native.Nat.{ℕ, zero, suc, _+_, _-_, _<_, _≤_, min}
-use native.Mathlib.Nat.{le-refl, le-trans, le-of-suc-le-suc, not-suc-le-zero}
+use Prim.Native.Nat.{ℕ, zero, suc, _+_, _-_, _<_, _≤_}
+use native.Mathlib.Nat.{le-refl, le-trans}
 use native.Mathlib.Omega.{arith}
-use native.Mathlib.Numerals.{add-one}
 use mathlib.Core.Path.{_≡_, refl, sym, _∙_, ap, subst}
-use mathlib.Core.Bool.{Bool, true, false, cond, not, _&&_, _||_}
-use mathlib.Core.Logic.{_⊎_, inl, inr, ⊎-elim}
-use mathlib.Core.List.{List, [], _∷_, _++_, append-nil, append-assoc, List·Memᴰ, Memᴰ·cast}
-use lib.Dec.{leb, eqb}
-use lib.ListN.{length, getD, drop, length-append, length-drop}
+use mathlib.Core.Bool.{true, false, cond, not}
+use mathlib.Core.Logic.{_⊎_, ⊎-elim}
+use mathlib.Core.List.{List, [], _∷_, _++_, append-nil, append-assoc, Memᴰ·cast}
+use lib.Dec.{eqb}
+use lib.ListN.{length, drop, length-append, length-drop}
 use lib.Seq.{getD-drop}
-use borrow.Author.Tests.{le-leb, eqb-true, eqb-false, eq-eqb, ne-eqb}
+use borrow.Author.Tests.{le-leb, eq-eqb, ne-eqb}
 use Rattle.model.specs.Entry.{Entry, Prefix, prefixes, with, withAll}
 use Rattle.model.specs.View.{begun}
-use Rattle.model.proofs.Tests.{tf, either, cond-true, cond-false, and-both, or-cases}
+use Rattle.model.proofs.Tests.{tf, either, cond-false, and-both, or-cases}
 use Rattle.model.proofs.Members.{with-there, with-fresh}
 use Rattle.storage.specs.Tables.{PrefixRow}
-use Rattle.storage.specs.Decode.{prefixAt, entryOf, extended, resolve}
-use Rattle.storage.specs.Rules.{isIndex, indexAmong, extends, sameRow, isAmong, prefixRight, prefixesRightAfter}
+use Rattle.storage.specs.Decode.{prefixAt, extended, resolve}
+use Rattle.storage.specs.Rules.{indexAmong, sameRow, isAmong, prefixRight, prefixesRightAfter}
 use Rattle.storage.proofs.Resolve.{Facts, rowAt, noRow, Sized, resolve-append, facts-more, right-more, stored-at, number-of, prefixAt-old, prefixAt-new}
-use Rattle.logical_log.specs.Prefix.{rowOf, searchFrom, find}
+use Rattle.logical_log.specs.Prefix.{rowOf, find}
 use Rattle.logical_log.specs.Observation.{orNext}
-use Rattle.logical_log.proofs.PrefixLaws.{Rows, Hit, Miss, searched, found, missing, counted}
+use Rattle.logical_log.proofs.PrefixLaws.{Rows, searched, found, missing, counted}
 
 -- the rows with the prefix of number p extended by e to index i, found or made, and its number
 unfoldable pub extendRows : List PrefixRow → ℕ → ℕ → Entry → List PrefixRow

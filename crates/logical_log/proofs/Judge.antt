@@ -1,21 +1,19 @@
 -- The judging walk along a front: how many of its prefixes are not stored, and its LG-03, with nothing written.
 -- Assumes nothing.
 use Prim.Native.Nat.{ℕ, zero, suc, _+_, _-_, _<_, _≤_}
-use native.Mathlib.Nat.{le-refl, le-trans, le-of-suc-le-suc, not-suc-le-zero}
 use native.Mathlib.Omega.{arith}
 use native.Mathlib.Numerals.{add-one}
 use mathlib.Core.Path.{_≡_, refl, sym, _∙_, ap, subst}
 use mathlib.Core.Bool.{Bool, true, false, cond, not, _&&_, _||_}
-use mathlib.Core.Logic.{_⊎_, inl, inr, ⊎-elim}
+use mathlib.Core.Logic.{_⊎_, inl, inr}
 use mathlib.Core.List.{List, [], _∷_, _++_, List·Memᴰ, List·Memᴰ·head, List·Memᴰ·tail}
-use mathlib.Core.Option.{Option, none, some}
 use lib.Dec.{eqb}
 use lib.ListN.{length, length-append}
-use borrow.Author.Tests.{eqb-true, eqb-false, eq-eqb, ne-eqb}
+use borrow.Author.Tests.{eq-eqb, ne-eqb}
 use Rattle.model.specs.Entry.{Entry, Prefix, same, lastTerm}
 use Rattle.model.specs.History.{Finding}
 use Rattle.model.specs.View.{begun, remembered, unlike, mismatch, mismatches}
-use Rattle.model.proofs.Tests.{either, cond-true, cond-false, no-same}
+use Rattle.model.proofs.Tests.{cond-true, cond-false, no-same}
 use Rattle.storage.specs.Tables.{PrefixRow}
 use Rattle.storage.specs.Decode.{prefixAt, entryOf, resolve}
 use Rattle.storage.specs.Rules.{sameRow}

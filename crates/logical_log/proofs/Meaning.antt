@@ -1,37 +1,36 @@
 -- What observing a view means: on bytes that stand for a history the answer is the model's, accepted bytes stand for the model's
 -- effect, and refused ones are as they were.
 -- Assumes nothing.
-use Prim.Native.Nat.{ℕ, zero, suc, _+_, _-_, _*_, _<_, _≤_}
+use Prim.Native.Nat.{ℕ, zero, suc, _+_, _-_, _<_, _≤_}
 use native.Mathlib.Nat.{le-refl}
 use native.Mathlib.Omega.{arith}
 use mathlib.Core.Path.{_≡_, refl, sym, _∙_, ap, subst}
-use mathlib.Core.Bool.{Bool, true, false, cond, _&&_}
-use mathlib.Core.Logic.{_⊎_, inl, inr, ⊎-elim}
-use mathlib.Core.List.{List, [], _∷_, _++_, List·Memᴰ, List·Memᴰ·head, List·Memᴰ·tail, List·Memᴰ·not-nil, List·Memᴰ·cases-cons, List·Memᴰ·append-cases, List·Memᴰ·eq-of-singleton}
+use mathlib.Core.Bool.{Bool, true, false, cond}
+use mathlib.Core.Logic.{_⊎_, inl, ⊎-elim}
+use mathlib.Core.List.{List, [], _∷_, List·Memᴰ, List·Memᴰ·head, List·Memᴰ·tail, List·Memᴰ·not-nil, List·Memᴰ·cases-cons, List·Memᴰ·append-cases, List·Memᴰ·eq-of-singleton}
 use mathlib.Core.Option.{Option, none, some}
-use lib.Dec.{ltb, eqb}
+use lib.Dec.{ltb}
 use lib.ListN.{length, getD, set}
 use lib.Seq.{set-getD}
-use borrow.Author.Tests.{lt-ltb, le-ltb, ltb-true, ltb-false}
+use borrow.Author.Tests.{lt-ltb, ltb-false}
 use Rattle.model.specs.Sizes.{Bytes}
 use Rattle.model.specs.Entry.{Entry, Prefix, prefixes, withAll}
 use Rattle.model.specs.Refusal.{Refusal, prefixesFull, findingsFull}
 use Rattle.model.specs.Record.{Shown, front, lastFrom, lastIndex}
 use Rattle.model.specs.History.{Finding, History, sameFinding, noted}
 use Rattle.model.specs.View.{begunBy, mismatches, stored, viewFindings, viewRefusal, viewEffect}
-use Rattle.model.proofs.Tests.{tf, either, cond-cases, cond-true, cond-false, and-left, and-right, and-both}
+use Rattle.model.proofs.Tests.{and-left, and-right, and-both}
 use Rattle.model.proofs.Members.{all-cases}
 use Rattle.records.specs.Places.{Walk, firstEntry, indexAt, nextAt, shownAt, entriesAt}
 use Rattle.records.proofs.Walks.{entries-none, entries-next, next-walk, walk-entered}
 use Rattle.storage.specs.Lists.{every}
-use Rattle.storage.specs.Words.{wordAt, putBytes, wordBytes}
-use Rattle.storage.specs.Tables.{PrefixRow, NodeRow, prefixRow, prefixesPart, headPart, nodeRow, nodesPart, findingRow, findingRows, findingsPart, tablesIn, tablesOf}
-use Rattle.storage.specs.Writes.{nodeBytes, FindingFits}
+use Rattle.storage.specs.Words.{wordAt}
+use Rattle.storage.specs.Tables.{PrefixRow, NodeRow, prefixRow, prefixesPart, nodeRow, nodesPart, findingRow, findingRows, findingsPart, tablesIn, tablesOf}
 use Rattle.storage.specs.Decode.{prefixAt, resolve}
 use Rattle.storage.specs.Rules.{nodeRight, findingRight}
 use Rattle.storage.proofs.ListLaws.{tabulate-length, tabulate-at, every-at}
 use Rattle.storage.proofs.PartLaws.{word-part}
-use Rattle.storage.proofs.DecodeLaws.{NodeNamed, node-named, FindingNamed, finding-test}
+use Rattle.storage.proofs.DecodeLaws.{NodeNamed, node-named, finding-test}
 use Rattle.storage.proofs.Resolve.{resolve-length}
 use Rattle.storage.proofs.Meanings.{Stands, withPrefixes, withFront, withNoted, prefixes-is, rows-count, kept, is, unseen-read, node-written, findings-taken}
 use Rattle.logical_log.specs.Observation.{nextNumber, counted, missingFrom, noteOf, notesFrom, other, writtenBytes, writtenCount, writtenNumber, viewReplaced, findingsKept, viewWritten, missingIn, notesIn, heldIn, tableIn, observed, observedBytes}
@@ -39,7 +38,7 @@ use Rattle.logical_log.specs.Violation.{heldAll, bytesAll}
 use Rattle.logical_log.specs.declared.observation.Observed.{Observed}
 use Rattle.logical_log.proofs.Extend.{Fits, extendAll, extends-all}
 use Rattle.logical_log.proofs.Judge.{missing-made, notes-are}
-use Rattle.logical_log.proofs.ViolationLaws.{Holds, all-hold, all-length}
+use Rattle.logical_log.proofs.ViolationLaws.{Holds, all-hold}
 use Rattle.logical_log.proofs.Whole.{whole-few, findings-long, written-count, table-length}
 use Rattle.logical_log.proofs.Stored.{Sound, front-sound, rows-good, rows-by-place, Whole, front-stands}
 

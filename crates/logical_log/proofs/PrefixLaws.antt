@@ -1,26 +1,25 @@
 -- What the searches over the rows mean of the prefixes that the rows resolve to.
 -- Assumes nothing.
-use Prim.Native.Nat.{ℕ, zero, suc, _+_, _-_, _<_, _≤_, min, suc-le-suc}
+use Prim.Native.Nat.{ℕ, zero, suc, _+_, _-_, _<_, _≤_, suc-le-suc}
 use native.Mathlib.Nat.{le-refl, le-of-suc-le-suc, not-suc-le-zero}
 use native.Mathlib.Omega.{arith}
 use native.Mathlib.Numerals.{add-one}
 use mathlib.Core.Path.{_≡_, refl, sym, _∙_, ap, subst}
-use mathlib.Core.Bool.{Bool, true, false, cond, not, _&&_, _||_}
-use mathlib.Core.Logic.{_⊎_, inl, inr, ⊎-elim, _↔_}
+use mathlib.Core.Bool.{Bool, true, false, _&&_}
+use mathlib.Core.Logic.{_⊎_, inl, inr, ⊎-elim}
 use mathlib.Core.List.{List, [], _∷_, _++_, map}
-use mathlib.Core.Option.{Option, none, some}
-use lib.Dec.{leb, ltb, eqb}
-use lib.ListN.{length, getD, drop, length-append, length-map, List·getD-map}
-use borrow.Author.Tests.{leb-true, leb-false, le-leb, lt-leb, eqb-true, eqb-false, eq-eqb, ne-eqb, ltb-true, ltb-false}
-use Rattle.model.specs.Entry.{Entry, Prefix, lastTerm, same}
+use mathlib.Core.Option.{none, some}
+use lib.Dec.{ltb, eqb}
+use lib.ListN.{length, getD, length-append, List·getD-map}
+use borrow.Author.Tests.{eqb-true, eqb-false, ltb-true, ltb-false}
+use Rattle.model.specs.Entry.{Entry, Prefix, lastTerm}
 use Rattle.model.specs.View.{remembered}
-use Rattle.model.proofs.Tests.{tf, either, cond-true, cond-false, and-left, and-right, and-both, yes-same, no-same}
+use Rattle.model.proofs.Tests.{tf, either, cond-true, cond-false, and-left, and-right}
 use Rattle.storage.specs.Tables.{PrefixRow}
-use Rattle.storage.specs.Decode.{prefixAt, entryOf, extended, resolve}
-use Rattle.storage.specs.Rules.{indexAmong, sameRow, isAmong}
-use Rattle.storage.proofs.Resolve.{Facts, rowAt, noRow, Sized, snoc-inj, nil≢snoc, same-row, bytes-same, resolve-length}
+use Rattle.storage.specs.Decode.{prefixAt, entryOf, resolve}
+use Rattle.storage.specs.Rules.{sameRow}
+use Rattle.storage.proofs.Resolve.{Facts, rowAt, noRow, snoc-inj, nil≢snoc, same-row, bytes-same, resolve-length}
 use Rattle.logical_log.specs.Prefix.{rowOf, searchFrom, find, isOf, first}
-use Rattle.logical_log.specs.Comparison.{sameEntry, sameFrom}
 
 -- the rows by place are those of the list
 abbrev pub Rows : (ℕ → PrefixRow) → List PrefixRow → Type 0

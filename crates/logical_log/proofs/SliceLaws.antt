@@ -4,13 +4,12 @@ use Prim.Native.Nat.{ℕ, zero, suc, _+_, _-_, _<_, _≤_}
 use native.Mathlib.Omega.{arith}
 use native.Mathlib.Numerals.{add-one}
 use mathlib.Core.Path.{_≡_, refl, sym, _∙_, ap, subst}
-use mathlib.Core.Bool.{Bool, true, false, cond}
 use mathlib.Core.Logic.{_⊎_, inl, inr, ⊎-elim}
 use mathlib.Core.List.{List, [], _∷_, _++_}
 use lib.Dec.{leb, ltb, eqb}
 use lib.ListN.{length, take, length-append}
-use lib.Seq.{take-all, take-nil, take-append-le}
-use borrow.Author.Tests.{le-leb, leb-true, leb-false, ltb-true, ltb-false, eq-eqb, ne-eqb}
+use lib.Seq.{take-all, take-append-le}
+use borrow.Author.Tests.{le-leb, leb-true, leb-false, ltb-true, ltb-false, ne-eqb}
 use Rattle.model.specs.Entry.{Prefix}
 use Rattle.model.proofs.Tests.{either, cond-true, cond-false}
 use Rattle.storage.specs.Tables.{PrefixRow}

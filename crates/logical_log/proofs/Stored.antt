@@ -1,37 +1,37 @@
 -- The front of a view stored in bytes that stand for a history: after it they stand for the history with the front's prefixes.
 -- Assumes nothing.
 use Prim.Native.Nat.{ℕ, zero, suc, _+_, _-_, _*_, _<_, _≤_}
-use native.Mathlib.Nat.{le-refl, le-trans}
+use native.Mathlib.Nat.{le-refl}
 use native.Mathlib.Omega.{arith}
 use mathlib.Core.Path.{_≡_, refl, sym, _∙_, ap, subst}
-use mathlib.Core.Bool.{Bool, true, false, cond}
-use mathlib.Core.Logic.{_⊎_, inl, inr, ⊎-elim}
-use mathlib.Core.List.{List, [], _∷_, _++_, append-nil, append-assoc, List·Memᴰ, List·Memᴰ·head, List·Memᴰ·tail, List·Memᴰ·not-nil, List·Memᴰ·cases-cons}
+use mathlib.Core.Bool.{true, false}
+use mathlib.Core.Logic.{_⊎_, ⊎-elim}
+use mathlib.Core.List.{List, [], _∷_, _++_, append-nil, append-assoc}
 use lib.Dec.{eqb}
-use lib.ListN.{length, take, replicate, length-append, length-replicate}
+use lib.ListN.{length, replicate, length-append, length-replicate}
 use lib.Seq.{take-at}
 use borrow.Author.Tests.{eq-eqb, ne-eqb, eqb-true, eqb-false}
 use Rattle.model.specs.Sizes.{Bytes}
 use Rattle.model.specs.Entry.{Entry, Prefix, prefixes, with, withAll}
-use Rattle.model.specs.Record.{frontFrom, front}
+use Rattle.model.specs.Record.{frontFrom}
 use Rattle.model.specs.History.{History}
 use Rattle.model.specs.View.{begun}
 use Rattle.model.proofs.Tests.{either, cond-true, cond-false}
-use Rattle.records.specs.Places.{Walk, indexAt, termAt, lengthAt, contentAt, nextAt, shownAt, entriesAt}
+use Rattle.records.specs.Places.{Walk, indexAt, lengthAt, nextAt, entriesAt}
 use Rattle.records.proofs.Widths.{field-lt, bytes-length}
 use Rattle.records.proofs.Walks.{next-walk, walk-entered}
 use Rattle.storage.specs.Words.{wordAt, putBytes, wordBytes}
-use Rattle.storage.specs.Tables.{PrefixRow, prefixRow, prefixRows, prefixesPart, headPart, tablesIn, tablesOf}
+use Rattle.storage.specs.Tables.{prefixRow, prefixesPart, headPart, tablesIn, tablesOf}
 use Rattle.storage.specs.Writes.{prefixBytes, prefixAppended, PrefixFits, prefixOf}
 use Rattle.storage.specs.Rules.{prefixRight}
-use Rattle.storage.specs.Decode.{prefixAt, entryOf, extended, resolve}
+use Rattle.storage.specs.Decode.{prefixAt, extended, resolve}
 use Rattle.storage.proofs.PartLaws.{word-part, part-length}
 use Rattle.storage.proofs.RuleLaws.{within}
-use Rattle.storage.proofs.Resolve.{Facts, rowAt, resolve-append, resolve-length}
+use Rattle.storage.proofs.Resolve.{rowAt, resolve-append, resolve-length}
 use Rattle.storage.proofs.Meanings.{Stands, withPrefixes, prefix-written, prefixes-read, prefixes-is, rows-count, long, kept}
 use Rattle.logical_log.specs.Table.{Table}
 use Rattle.logical_log.specs.Prefix.{rowOf, find}
-use Rattle.logical_log.specs.Observation.{orNext, extensionIn, storedContent, appended, extendedBytes, extendedCount, extendedNumber, writtenBytes, writtenCount, writtenNumber}
+use Rattle.logical_log.specs.Observation.{extensionIn, storedContent, appended, extendedBytes, extendedCount, extendedNumber, writtenBytes, writtenCount, writtenNumber}
 use Rattle.logical_log.proofs.PrefixLaws.{Rows}
 use Rattle.logical_log.proofs.TableLaws.{rows-at, table-facts}
 use Rattle.logical_log.proofs.Extend.{Good, Extended, extendRows, extendNumber, extends-rows, right-row}

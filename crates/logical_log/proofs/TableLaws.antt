@@ -2,13 +2,13 @@
 -- Assumes nothing.
 use Prim.Native.Nat.{ℕ, _+_, _*_, _<_, _≤_, min}
 use native.Mathlib.Omega.{arith}
-use mathlib.Core.Path.{_≡_, refl, sym, _∙_, ap, subst}
+use mathlib.Core.Path.{_≡_, sym, _∙_, ap, subst}
 use lib.ListN.{length}
 use Rattle.model.specs.Sizes.{Bytes}
 use Rattle.storage.specs.Words.{wordAt, bytesAt}
 use Rattle.storage.specs.Tables.{PrefixRow, prefixRow, prefixRows}
 use Rattle.storage.proofs.ListLaws.{tabulate-length, tabulate-at}
-use Rattle.storage.proofs.Resolve.{Facts, rowAt, noRow, Sized, facts}
+use Rattle.storage.proofs.Resolve.{Facts, noRow, Sized, facts}
 use Rattle.logical_log.specs.Table.{Table}
 use Rattle.logical_log.proofs.PrefixLaws.{Rows}
 

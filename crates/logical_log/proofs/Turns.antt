@@ -1,10 +1,10 @@
 -- The turns of the two walks along a front, judged and written: each from what was read.
 -- Assumes nothing.
-use Prim.Native.Nat.{ℕ, zero, suc, _+_, _-_, _*_, _<_, _≤_}
+use Prim.Native.Nat.{ℕ, _+_, _-_, _<_, _≤_}
 use native.Mathlib.Omega.{arith}
 use mathlib.Core.Path.{_≡_, refl, sym, _∙_, ap, subst}
-use mathlib.Core.Bool.{Bool, true, false, cond, not, _&&_, _||_}
-use mathlib.Core.Logic.{_⊎_, inl, inr, ⊎-elim}
+use mathlib.Core.Bool.{Bool, true, false, not, _&&_, _||_}
+use mathlib.Core.Logic.{_⊎_, ⊎-elim}
 use mathlib.Core.List.{List, [], _∷_, _++_}
 use lib.Dec.{ltb, eqb}
 use lib.ListN.{length, getD, take, replicate, length-append, length-replicate}
@@ -29,7 +29,7 @@ use Rattle.logical_log.specs.Violation.{notedAt, noteHeld, noteBytes, he
 use Rattle.logical_log.specs.Prefix.{rowOf, searchFrom, find, isOf, first}
 use Rattle.logical_log.specs.Comparison.{sameFrom}
 use Rattle.logical_log.specs.Observation.{nextNumber, differs, other, counted, missingFrom, noteOf, notesFrom, JudgedAs}
-use Rattle.logical_log.proofs.PrefixLaws.{Hit, Miss, searched}
+use Rattle.logical_log.proofs.PrefixLaws.{searched}
 use Rattle.logical_log.proofs.ViolationLaws.{all-length}
 
 -- ---- the next number

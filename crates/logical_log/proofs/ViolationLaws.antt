@@ -3,7 +3,7 @@
 use Prim.Native.Nat.{ℕ, zero, suc, _+_, _-_, _*_, _<_, _≤_}
 use native.Mathlib.Omega.{arith}
 use mathlib.Core.Path.{_≡_, refl, sym, _∙_, ap, subst}
-use mathlib.Core.Bool.{Bool, true, false, cond, _&&_}
+use mathlib.Core.Bool.{true, false}
 use mathlib.Core.Logic.{_⊎_, inl, inr, ⊎-elim}
 use mathlib.Core.List.{List, [], _∷_, _++_, List·Memᴰ, List·Memᴰ·head, List·Memᴰ·tail, List·Memᴰ·not-nil, List·Memᴰ·cases-cons}
 use lib.Dec.{leb, ltb, eqb}
@@ -13,7 +13,7 @@ use Rattle.model.specs.Sizes.{Bytes}
 use Rattle.model.specs.Entry.{with, withAll}
 use Rattle.model.specs.History.{Finding, sameFinding, noted}
 use Rattle.model.proofs.Tests.{tf, either, cond-cases, cond-true, cond-false, and-left, and-right, and-both}
-use Rattle.model.proofs.Members.{with-there, with-fresh, at-most, all-old, member}
+use Rattle.model.proofs.Members.{with-there, with-fresh, member}
 use Rattle.storage.specs.Words.{putBytes}
 use Rattle.storage.specs.Tables.{findingRow, findingRows}
 use Rattle.storage.specs.Writes.{findingBytes, FindingFits}

@@ -3,8 +3,8 @@
 use Prim.Native.Nat.{ℕ, zero, suc, _+_, _-_, _*_, _<_, _≤_}
 use native.Mathlib.Omega.{arith}
 use mathlib.Core.Path.{_≡_, refl, sym, _∙_, ap, subst, subst₂}
-use mathlib.Core.Bool.{Bool, true, false, cond}
-use mathlib.Core.List.{List, [], _∷_, _++_}
+use mathlib.Core.Bool.{true, false}
+use mathlib.Core.List.{List, [], _∷_}
 use lib.Dec.{ltb, eqb}
 use lib.ListN.{length}
 use borrow.Author.Tests.{lt-ltb, le-ltb, eq-eqb, ne-eqb}
@@ -12,21 +12,21 @@ use Rattle.model.specs.Sizes.{Bytes}
 use Rattle.model.specs.Entry.{Entry}
 use Rattle.model.specs.Record.{front, lastIndex}
 use Rattle.model.proofs.Tests.{cond-true, cond-false}
-use Rattle.records.specs.Places.{Walk, firstEntry, entriesAt}
+use Rattle.records.specs.Places.{firstEntry, entriesAt}
 use Rattle.storage.specs.Words.{wordAt, putBytes, wordBytes}
-use Rattle.storage.specs.Tables.{prefixRow, prefixRows, prefixesPart, headPart, findingRow, findingsPart, tablesIn, tablesOf}
+use Rattle.storage.specs.Tables.{prefixRow, prefixRows, prefixesPart, headPart, findingRow, findingsPart, tablesIn}
 use Rattle.storage.specs.Rules.{prefixesRightAfter, wellFormed}
 use Rattle.storage.proofs.ListLaws.{tabulate-length}
 use Rattle.storage.proofs.WordLaws.{put-length}
 use Rattle.storage.proofs.PartLaws.{word-part, part-length, put-whole}
 use Rattle.storage.proofs.RuleLaws.{within}
-use Rattle.storage.proofs.DecodeLaws.{Kept, well-formed-parts}
+use Rattle.storage.proofs.DecodeLaws.{well-formed-parts}
 use Rattle.logical_log.specs.Table.{Table}
-use Rattle.logical_log.specs.Prefix.{rowOf, searchFrom, find}
+use Rattle.logical_log.specs.Prefix.{searchFrom, find}
 use Rattle.logical_log.specs.Violation.{heldAll, bytesAll}
-use Rattle.logical_log.specs.Observation.{nextNumber, counted, missingFrom, notesFrom, JudgedAs, orNext, extensionIn, appended, extendedBytes, extendedCount, extendedNumber, writtenBytes, writtenCount, writtenNumber, Storing, StoredAs, viewReplaced, findingsKept, viewWritten, missingIn, notesIn, heldIn, tableIn, observed, observedBytes, Observing, ViewJudged}
+use Rattle.logical_log.specs.Observation.{nextNumber, counted, missingFrom, notesFrom, JudgedAs, extensionIn, extendedBytes, extendedCount, extendedNumber, writtenBytes, writtenCount, Storing, StoredAs, viewReplaced, findingsKept, viewWritten, missingIn, notesIn, heldIn, tableIn, observed, observedBytes, Observing, ViewJudged}
 use Rattle.logical_log.proofs.Judge.{lost}
-use Rattle.logical_log.proofs.Written.{number-found, number-made, count-found, count-made, bytes-found, bytes-made, bytes-length-one}
+use Rattle.logical_log.proofs.Written.{number-found, number-made, count-found, count-made, bytes-found, bytes-length-one}
 use Rattle.logical_log.proofs.ViolationLaws.{all-length}
 use Rattle.logical_log.specs.declared.observation.Observed.{Observed}
 

@@ -1,10 +1,10 @@
 -- The writing walk along a front, turn by turn.
 -- Assumes nothing.
-use Prim.Native.Nat.{ℕ, zero, suc, _+_, _-_, _*_, _<_, _≤_}
+use Prim.Native.Nat.{ℕ, _+_, _-_, _*_, _<_, _≤_}
 use native.Mathlib.Omega.{arith}
 use mathlib.Core.Path.{_≡_, refl, sym, _∙_, ap, subst}
-use mathlib.Core.Bool.{Bool, true, false, cond}
-use mathlib.Core.Logic.{_⊎_, inl, inr, ⊎-elim}
+use mathlib.Core.Bool.{true, false}
+use mathlib.Core.Logic.{_⊎_, ⊎-elim}
 use mathlib.Core.List.{List, [], _∷_, _++_}
 use lib.Dec.{eqb}
 use lib.ListN.{length, replicate}
@@ -12,7 +12,7 @@ use borrow.Author.Tests.{eq-eqb, ne-eqb}
 use Rattle.model.specs.Sizes.{Bytes}
 use Rattle.model.specs.Entry.{Entry}
 use Rattle.model.specs.Record.{frontFrom, front}
-use Rattle.records.specs.Places.{Walk, firstEntry, indexAt, lengthAt, contentAt, nextAt, shownAt, entriesAt}
+use Rattle.records.specs.Places.{Walk, firstEntry, lengthAt, contentAt, nextAt, shownAt, entriesAt}
 use Rattle.records.specs.Values.{Here, shownEntry}
 use Rattle.records.proofs.Widths.{bytes-length}
 use Rattle.records.proofs.Walks.{next-walk, walk-entered, here}
@@ -26,7 +26,7 @@ use Rattle.storage.proofs.WordLaws.{put-length}
 use Rattle.logical_log.proofs.Turns.{entry-read, front-more, front-stop, front-none, find-within}
 use Rattle.logical_log.specs.Table.{entryValue}
 use Rattle.logical_log.specs.Prefix.{rowOf, find}
-use Rattle.logical_log.specs.Observation.{orNext, extensionIn, storedContent, appended, extendedBytes, extendedCount, extendedNumber, Extending, ExtendedAs, writtenBytes, writtenCount, writtenNumber, Storing, StoredAs}
+use Rattle.logical_log.specs.Observation.{extensionIn, storedContent, appended, extendedBytes, extendedCount, extendedNumber, Extending, ExtendedAs, writtenBytes, writtenCount, writtenNumber, Storing, StoredAs}
 
 pub value-length : (e : ShownEntry) → length (entryValue e .content) ≡ e .length
 unfolding bytesAt

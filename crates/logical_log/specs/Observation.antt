@@ -1,11 +1,11 @@
 -- Observation of a view on the rows of the prefix table, in the order of its two walks along the front: judged, then written.
 -- Assumes nothing.
-use Prim.Native.Nat.{ℕ, zero, suc, _+_, _-_, _*_, _≤_, _<_}
+use Prim.Native.Nat.{ℕ, _+_, _-_, _*_, _≤_, _<_}
 use mathlib.Core.Path.{_≡_}
-use mathlib.Core.Bool.{Bool, true, false, cond, not, _&&_, _||_}
+use mathlib.Core.Bool.{Bool, true, cond, not, _&&_, _||_}
 use mathlib.Core.List.{List, [], _∷_, _++_}
-use lib.Dec.{leb, ltb, eqb}
-use lib.ListN.{length, getD, replicate}
+use lib.Dec.{ltb, eqb}
+use lib.ListN.{length, replicate}
 use Rattle.model.specs.Entry.{Entry}
 use Rattle.model.specs.History.{Finding}
 use Rattle.model.specs.Sizes.{Bytes}

@@ -3,12 +3,12 @@
 -- Assumes nothing.
 use Prim.Native.Nat.{ℕ}
 use mathlib.Core.Path.{_≡_, refl, sym, _∙_, ap, subst}
-use mathlib.Core.Bool.{Bool, true, false}
+use mathlib.Core.Bool.{true}
 use mathlib.Core.Logic.{_↔_}
 use mathlib.Core.List.{List, [], _∷_, _++_, List·Memᴰ}
 use Rattle.model.specs.Sizes.{Bytes}
 use Rattle.model.specs.Refusal.{Refusal}
-use Rattle.model.specs.Record.{Record, check}
+use Rattle.model.specs.Record.{check}
 use Rattle.model.specs.Reading.{readable, read}
 use Rattle.model.specs.History.{Finding, History, fresh}
 use Rattle.model.specs.Answer.{Answer, refused, isAccepted, answer, after}

@@ -1,28 +1,28 @@
 -- Committed prefixes: from fresh, the LG-04 list is empty exactly if any two committed prefixes seen agree through the shorter.
 -- Assumes nothing.
-use Prim.Native.Nat.{ℕ, zero, suc, _+_, _<_, _≤_, min}
+use Prim.Native.Nat.{ℕ, _+_, _<_, _≤_, min}
 use native.Mathlib.Omega.{arith}
 use mathlib.Core.Path.{_≡_, refl, sym, _∙_, ap, subst}
-use mathlib.Core.Bool.{Bool, true, false, cond, _&&_}
+use mathlib.Core.Bool.{true, false, cond, _&&_}
 use mathlib.Core.Logic.{_⊎_, inl, inr, ⊎-elim, _↔_}
-use mathlib.Core.List.{List, [], _∷_, _++_, append-nil, append-assoc, List·Memᴰ, List·Memᴰ·head, List·Memᴰ·tail, List·Memᴰ·not-nil, Memᴰ·cast, Memᴰ·append-left, Memᴰ·append-right, List·Memᴰ·append-cases, List·Memᴰ·eq-of-singleton}
+use mathlib.Core.List.{List, [], _∷_, _++_, append-nil, append-assoc, List·Memᴰ, List·Memᴰ·head, List·Memᴰ·not-nil, Memᴰ·cast, Memᴰ·append-left, Memᴰ·append-right, List·Memᴰ·append-cases, List·Memᴰ·eq-of-singleton}
 use lib.Dec.{leb, ltb}
 use lib.ListN.{length, getD, take, set, length-take}
-use lib.Seq.{take-all, take-length, take-take}
-use borrow.Author.Tests.{ltb-true, ltb-false, lt-ltb, le-ltb, leb-true, leb-false, le-leb, lt-leb}
+use lib.Seq.{take-length, take-take}
+use borrow.Author.Tests.{ltb-true, ltb-false, lt-ltb, le-leb}
 use Rattle.model.specs.Sizes.{Bytes}
 use Rattle.model.specs.Entry.{Prefix, agree}
-use Rattle.model.specs.Record.{Shown, Record, view, commit, terms, election, check, rows, front}
-use Rattle.model.specs.History.{Finding, History, fresh, frontOf}
+use Rattle.model.specs.Record.{Record, view, commit, terms, election, check, rows, front}
+use Rattle.model.specs.History.{Finding, History, frontOf}
 use Rattle.model.specs.View.{begunBy, viewEffect}
 use Rattle.model.specs.Commit.{through, seen, replaces, differences, commitEffect}
 use Rattle.model.specs.Terms.{termsEffect}
 use Rattle.model.specs.Election.{electionEffect}
 use Rattle.model.specs.Check.{checkEffect}
-use Rattle.model.specs.Answer.{refusal, effect}
+use Rattle.model.specs.Answer.{effect}
 use Rattle.model.specs.Ledger.{Ledger, entered}
 use Rattle.model.specs.Run.{historyOf, ledgerOf, Event, eventsOf}
-use Rattle.model.proofs.Tests.{tf, either, cond-true, cond-false, and-left, and-right, and-both, and-false, same-yes, yes-same}
+use Rattle.model.proofs.Tests.{either, cond-true, cond-false, and-right, and-both, and-false, same-yes, yes-same}
 use Rattle.model.proofs.Run.{by-events}
 use Rattle.model.proofs.Stored.{broughtBy}
 use Rattle.model.proofs.Matching.{NoFinding, Without, none-printed, without-after, without-nil, mismatches-name, lackings-name}

@@ -2,13 +2,13 @@
 -- for the mistake near at hand that none of the twelve would show.
 -- A case has the records in bytes, and what document 01 says of the answers and of the history after them.
 -- Assumes nothing.
-use Prim.Native.Nat.{ℕ, _+_}
+use Prim.Native.Nat.{ℕ}
 use mathlib.Core.Path.{_≡_, refl}
 use mathlib.Core.List.{List, [], _∷_, map}
 use lib.ListN.{length}
 use Rattle.model.specs.Sizes.{Bytes}
 use Rattle.model.specs.Refusal.{number}
-use Rattle.model.specs.History.{Finding, History, numbers}
+use Rattle.model.specs.History.{numbers}
 use Rattle.model.specs.Answer.{Answer, accepted, refused}
 use Rattle.model.specs.Leaders.{Leader}
 use Rattle.model.specs.Lists.{Unseen, marksFrom, findingList, leaderList, unseenList, unknownList, committedLength, committedOwner}

@@ -1,7 +1,7 @@
 -- Log Matching, as in the Raft paper: if two logs contain an entry with the same index and term, then the logs are identical
 -- in all entries up through that index. From fresh, the LG-03 list is empty exactly if the accepted views match so.
 -- Assumes nothing.
-use Prim.Native.Nat.{ℕ, zero, suc, _+_, _<_, _≤_, min}
+use Prim.Native.Nat.{ℕ, _+_, _<_, _≤_, min}
 use native.Mathlib.Omega.{arith}
 use mathlib.Core.Path.{_≡_, refl, sym, _∙_, ap, subst}
 use mathlib.Core.Bool.{Bool, true, false, cond, _&&_}
@@ -9,24 +9,24 @@ use mathlib.Core.Logic.{_⊎_, inl, inr, ⊎-elim, _↔_}
 use mathlib.Core.List.{List, [], _∷_, _++_, List·Memᴰ, List·Memᴰ·head, List·Memᴰ·tail, List·Memᴰ·not-nil, List·Memᴰ·cases-cons, Memᴰ·append-left, Memᴰ·append-right, List·Memᴰ·append-cases, List·Memᴰ·eq-of-singleton}
 use mathlib.Core.Option.{Option, none, some}
 use lib.Dec.{ltb, eqb}
-use lib.ListN.{length, take, length-take}
+use lib.ListN.{length, take}
 use lib.Seq.{length-take-le}
 use borrow.Author.Tests.{eqb-true, eq-eqb}
 use Rattle.model.specs.Sizes.{Bytes}
 use Rattle.model.specs.Entry.{Prefix, same, agree, lastTerm}
 use Rattle.model.specs.Record.{Shown, Record, view, commit, terms, election, check, rows, front}
-use Rattle.model.specs.History.{Finding, Certificate, History, fresh}
+use Rattle.model.specs.History.{Finding, Certificate, History}
 use Rattle.model.specs.View.{begunBy, remembered, unlike, mismatch, mismatches, stored, viewEffect}
 use Rattle.model.specs.Commit.{seen, differences, commitEffect}
 use Rattle.model.specs.Terms.{termsEffect}
 use Rattle.model.specs.Election.{electionEffect}
 use Rattle.model.specs.Check.{relevant, lacks, lacking, lackings, checkEffect}
-use Rattle.model.specs.Answer.{refusal, effect}
+use Rattle.model.specs.Answer.{effect}
 use Rattle.model.specs.Lists.{before, insert, ordered, findingList}
 use Rattle.model.specs.Run.{historyOf}
-use Rattle.model.proofs.Tests.{tf, either, cond-cases, cond-true, cond-false, and-left, and-right, and-both, same-yes, same-no, yes-same}
+use Rattle.model.proofs.Tests.{tf, either, cond-cases, cond-true, cond-false, and-left, and-right, and-both, same-yes, yes-same}
 use Rattle.model.proofs.Run.{by-events}
-use Rattle.model.proofs.Stored.{acceptedFronts, PrefixOf, PrefixIn, stored-exactly, stored-mem, begun-prefix, broughtBy, findings-after}
+use Rattle.model.proofs.Stored.{acceptedFronts, PrefixOf, stored-exactly, stored-mem, begun-prefix, broughtBy, findings-after}
 
 -- ---- statements
 

@@ -1,15 +1,14 @@
 -- Lists without doubles: what `isIn`, `with` and `withAll` of the model do to the members of a list.
 -- Assumes nothing.
-use Prim.Native.Nat.{ℕ, zero, suc, _+_, _<_, _≤_, zero-le, suc-le-suc}
-use native.Mathlib.Nat.{le-trans, le-antisymm, le-of-suc-le-suc}
-use native.Mathlib.Omega.{arith}
+use Prim.Native.Nat.{ℕ, suc, _+_, _≤_, zero-le, suc-le-suc}
+use native.Mathlib.Nat.{le-antisymm}
 use mathlib.Core.Path.{_≡_, refl, sym, _∙_, ap, subst}
-use mathlib.Core.Bool.{Bool, true, false, cond, _||_}
-use mathlib.Core.Logic.{_⊎_, inl, inr, ⊎-elim, _↔_}
+use mathlib.Core.Bool.{true, false, cond}
+use mathlib.Core.Logic.{_⊎_, inl, inr, ⊎-elim}
 use mathlib.Core.List.{List, [], _∷_, _++_, append-nil, append-assoc, List·Memᴰ, List·Memᴰ·head, List·Memᴰ·tail, List·Memᴰ·not-nil, List·Memᴰ·cases-cons, Memᴰ·cast, Memᴰ·append-left, Memᴰ·append-right, List·Memᴰ·append-cases, List·Memᴰ·eq-of-singleton}
-use lib.ListN.{length, length-append}
+use lib.ListN.{length}
 use Rattle.model.specs.Entry.{holds, isIn, with, withAll}
-use Rattle.model.proofs.Tests.{tf, either, holds-yes, yes-holds, holds-no, or-cases, or-left, or-right, or-false-left, or-false-right, cond-cases}
+use Rattle.model.proofs.Tests.{tf, either, holds-yes, yes-holds, holds-no, or-cases, or-left, or-right, cond-cases}
 
 -- a list without doubles
 abbrev pub Distinct : {A : Type 0} → List A → Type 0

@@ -1,7 +1,7 @@
 -- Runs: a refused record leaves everything as it was, and what each accepted record keeps holds after every list.
 -- Assumes nothing.
 use Prim.Native.Nat.{ℕ}
-use mathlib.Core.Path.{_≡_, refl, sym, _∙_, ap, subst}
+use mathlib.Core.Path.{_≡_, refl, sym, ap, subst}
 use mathlib.Core.Bool.{Bool, true, false}
 use mathlib.Core.List.{List, [], _∷_, _++_, append-nil, append-assoc}
 use mathlib.Core.Option.{Option, none, some}
@@ -10,9 +10,9 @@ use Rattle.model.specs.Refusal.{Refusal}
 use Rattle.model.specs.Record.{Record}
 use Rattle.model.specs.Reading.{Reading, readable, unreadable, read}
 use Rattle.model.specs.History.{History, fresh}
-use Rattle.model.specs.Answer.{Answer, accepted, refused, isAccepted, refusal, effect, value, failingNode, answerUnless, answerRead, answer, afterUnless, afterRead, after}
+use Rattle.model.specs.Answer.{accepted, refused, isAccepted, refusal, effect, answerUnless, answerRead, answer, afterUnless, afterRead, after}
 use Rattle.model.specs.Ledger.{Ledger, empty, entered, enteredRead, fed}
-use Rattle.model.specs.Run.{historyFrom, historyOf, answersFrom, told, ledgerFrom, ledgerOf, Event, eventUnless, eventRead, eventsFrom, eventsOf}
+use Rattle.model.specs.Run.{historyFrom, historyOf, told, ledgerFrom, ledgerOf, Event, eventUnless, eventRead, eventsFrom, eventsOf}
 use Rattle.model.proofs.Tests.{tf}
 
 -- ---- statements

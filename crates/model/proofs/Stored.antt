@@ -1,7 +1,7 @@
 -- Stored prefixes: from fresh they are distinct and exactly the nonempty prefixes of the accepted fronts. So refusal 6 is
 -- answered exactly when those, with the view's own, would exceed 512; and 7 when the findings would exceed 128.
 -- Assumes nothing.
-use Prim.Native.Nat.{ℕ, zero, suc, _+_, _<_, _≤_, zero-le, suc-le-suc}
+use Prim.Native.Nat.{ℕ, zero, suc, _+_, _<_, _≤_, zero-le}
 use native.Mathlib.Nat.{le-of-suc-le-suc, not-suc-le-zero}
 use native.Mathlib.Omega.{arith}
 use mathlib.Core.Path.{_≡_, refl, sym, _∙_, ap, subst}
@@ -10,22 +10,22 @@ use mathlib.Core.Logic.{_⊎_, inl, inr, ⊎-elim, _↔_}
 use mathlib.Core.List.{List, [], _∷_, _++_, append-nil, append-assoc, List·Memᴰ, List·Memᴰ·head, List·Memᴰ·tail, List·Memᴰ·not-nil, List·Memᴰ·cases-cons, Memᴰ·cast, Memᴰ·append-left, Memᴰ·append-right, List·Memᴰ·append-cases, List·Memᴰ·eq-of-singleton}
 use mathlib.Core.Option.{Option, none, some}
 use lib.Dec.{leb, ltb}
-use lib.ListN.{length, take, length-take}
-use borrow.Author.Tests.{ltb-true, ltb-false, lt-ltb, le-ltb}
+use lib.ListN.{length, take}
+use borrow.Author.Tests.{ltb-true, ltb-false, lt-ltb}
 use Rattle.model.specs.Sizes.{Bytes}
-use Rattle.model.specs.Entry.{Entry, Prefix, prefixes, withAll}
+use Rattle.model.specs.Entry.{Prefix, prefixes}
 use Rattle.model.specs.Refusal.{Refusal, number, prefixesFull, findingsFull, oldExceedsNew, lengthExceedsFront, certificatesFull, numberTaken}
 use Rattle.model.specs.Record.{Shown, Record, view, commit, terms, election, check, rows, front}
-use Rattle.model.specs.History.{Finding, History, fresh, frontOf, sameFinding, noted}
+use Rattle.model.specs.History.{Finding, History, frontOf, sameFinding, noted}
 use Rattle.model.specs.View.{begun, begunBy, stored, mismatches, viewFindings, viewRefusal, viewEffect}
 use Rattle.model.specs.Commit.{seen, differences, commitFindings, commitRefusal, commitEffect}
-use Rattle.model.specs.Terms.{termsRefusal, termsEffect}
+use Rattle.model.specs.Terms.{termsEffect}
 use Rattle.model.specs.Election.{held, taken, electionRefusal, electionEffect}
 use Rattle.model.specs.Check.{lackings, checkFindings, checkRefusal, checkEffect}
 use Rattle.model.specs.Answer.{refusal, effect}
-use Rattle.model.specs.Ledger.{Ledger, entered}
+use Rattle.model.specs.Ledger.{Ledger}
 use Rattle.model.specs.Run.{historyOf, Event, eventsOf}
-use Rattle.model.proofs.Tests.{tf, either, cond-cases, cond-true, cond-false}
+use Rattle.model.proofs.Tests.{either, cond-true, cond-false}
 use Rattle.model.proofs.Members.{Distinct, all-old, all-new, all-cases, all-distinct, equally-long}
 use Rattle.model.proofs.Run.{by-events}
 

@@ -1,13 +1,12 @@
 -- What a test of the model tells: Boolean tests, decisions, and the definitions of `Entry` that are built of them.
 -- Assumes nothing.
-use Prim.Native.Nat.{ℕ, _<_, _≤_, min}
+use Prim.Native.Nat.{ℕ, _≤_, min}
 use native.Mathlib.Omega.{arith}
 use mathlib.Core.Path.{_≡_, refl, sym, _∙_, ap}
-use mathlib.Core.Bool.{Bool, true, false, cond, not, _&&_, _||_}
+use mathlib.Core.Bool.{Bool, true, false, cond, _&&_, _||_}
 use mathlib.Core.Logic.{_⊎_, inl, inr}
-use mathlib.Core.List.{List, [], _∷_, _++_, append-nil}
-use lib.ListN.{length, take, drop, length-take, take-append-drop}
-use lib.Seq.{take-all, take-at, take-take}
+use lib.ListN.{length, take}
+use lib.Seq.{take-all}
 use Rattle.model.specs.Entry.{Prefix, holds, same, prefixes, begins, agree}
 
 -- ---- tests

@@ -7,15 +7,15 @@ use native.Mathlib.Decide.{decLe}
 use native.Mathlib.Omega.{arith}
 use native.Mathlib.Numerals.{add-one}
 use mathlib.Core.Path.{_≡_, refl, sym, _∙_, ap, subst}
-use mathlib.Core.Bool.{Bool, true, false, cond, not, _&&_, _||_}
-use mathlib.Core.Logic.{_⊎_, inl, inr, ⊎-elim, _↔_}
-use mathlib.Core.List.{List, [], _∷_, _++_, map, append-nil, append-assoc, nil≢cons, cons≢nil, head-eq-of-cons-eq, tail-eq-of-cons-eq, List·Memᴰ, List·Memᴰ·head, List·Memᴰ·tail, List·Memᴰ·not-nil, List·Memᴰ·cases-cons}
+use mathlib.Core.Bool.{Bool, true, false, not, _&&_}
+use mathlib.Core.Logic.{_⊎_, ⊎-elim}
+use mathlib.Core.List.{List, [], _∷_, _++_, map, append-nil, append-assoc, nil≢cons, head-eq-of-cons-eq, tail-eq-of-cons-eq, List·Memᴰ, List·Memᴰ·head, List·Memᴰ·tail, List·Memᴰ·not-nil, List·Memᴰ·cases-cons}
 use lib.Dec.{leb, eqb}
 use lib.ListN.{length, getD, drop, length-append, length-map, length-drop, List·getD-append}
 use lib.Seq.{getD-append-seam, getD-at, getD-drop}
 use borrow.Author.Tests.{leb-true, eqb-true, eq-eqb, not-true}
 use Rattle.model.specs.Entry.{Entry, Prefix}
-use Rattle.model.proofs.Tests.{tf, either, and-left, and-right, and-both, or-cases, or-left, or-right}
+use Rattle.model.proofs.Tests.{tf, and-left, and-right, and-both, or-left, or-right}
 use Rattle.storage.specs.Tables.{PrefixRow}
 use Rattle.storage.specs.Decode.{prefixAt, entryOf, extended, resolveFrom, resolve}
 use Rattle.storage.specs.Rules.{isIndex, indexAmong, extends, sameBytes, sameRow, isAmong, prefixRight, prefixesRightAfter}

@@ -4,8 +4,6 @@
 use Prim.Native.Nat.{ℕ}
 use mathlib.Core.Bool.{cond}
 use lib.Dec.{leb}
-use Rattle.units.specs.declared.NodeId.{NodeId}
-use Rattle.units.specs.declared.LogIndex.{LogIndex}
 use Rattle.units.specs.declared.NodeAnswer.{NodeAnswer}
 use Rattle.units.specs.declared.IndexAnswer.{IndexAnswer}
 

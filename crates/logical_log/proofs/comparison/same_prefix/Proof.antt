@@ -1,9 +1,9 @@
-use Prim.Native.Nat.{ℕ, suc, _+_, _-_, _*_, _≤_, _<_}
-use mathlib.Core.Path.{_≡_, refl, ap, sym, _∙_, subst}
-use mathlib.Core.Bool.{Bool, true, false}
-use mathlib.Core.Logic.{⊎-elim}
-use native.Mathlib.Omega.{arith}
-use lib.ListN.{length, getD, set, length-set}
+-- `logical_log::comparison::same_prefix` meets its contract.
+-- Assumes nothing.
+use Prim.Native.Nat.{ℕ, _+_, _-_, _≤_}
+use mathlib.Core.Path.{_≡_, refl, sym, _∙_, subst}
+use mathlib.Core.Bool.{true}
+use lib.ListN.{length}
 use borrow.Author.Count.{falls}
 use borrow.Author.Needs.{needs}
 use native.Mathlib.Nat.{le-refl}
@@ -16,11 +16,6 @@ use Rattle.logical_log.proofs.TableLaws.{table-parent, table-size}
 use Rattle.logical_log.proofs.Loops.{Compared, compare-equal, compare-first-empty, compare-second-empty, compare-differs, compare-next, entry-term, entry-size, entry-content, place-before, parent-within, parent-below, content-within}
 use Rattle.logical_log.proofs.comparison.same_prefix.Statement.{statement}
 use Rattle.logical_log.proofs.comparison.same_prefix.Tie as tie
-use Rattle.logical_log.proofs.comparison.same_prefix.Reads as reads
-use Rattle.logical_log.proofs.comparison.same_prefix.Lts as lts
-use Rattle.storage.proofs.prefixes.parent_at.Reads as parent-at-reads
-use Rattle.storage.proofs.prefixes.size_at.Reads as size-at-reads
-use Rattle.storage.proofs.prefixes.term_at.Reads as term-at-reads
 
 abbrev Inv-loop : tie.InvT-loop
 Inv-loop prefixes count a b p q same₀ i j n x y k₀ same k =

@@ -1,15 +1,11 @@
-use Prim.Native.Nat.{ℕ, suc, _+_, _-_, _*_, _≤_, _<_}
-use mathlib.Core.Path.{_≡_, refl, ap, sym, _∙_}
-use mathlib.Core.Bool.{Bool, true, false}
-use mathlib.Core.Logic.{⊎-elim}
+-- `logical_log::observation::counted` meets its contract.
+-- Assumes nothing.
+use Prim.Native.Nat.{_-_}
 use native.Mathlib.Omega.{arith}
-use lib.ListN.{length, getD, set, length-set}
 use borrow.Author.Tests.{eq-eqb, ne-eqb}
 use borrow.Author.Needs.{needs}
 use Rattle.logical_log.proofs.observation.counted.Statement.{statement}
 use Rattle.logical_log.proofs.observation.counted.Tie as tie
-use Rattle.logical_log.proofs.observation.counted.Reads as reads
-use Rattle.logical_log.proofs.observation.counted.Lts as lts
 
 add-result : tie.Need-add-result
 add-result c = search needs

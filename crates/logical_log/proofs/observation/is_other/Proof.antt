@@ -1,18 +1,12 @@
-use Prim.Native.Nat.{ℕ, suc, _+_, _-_, _*_, _≤_, _<_}
-use mathlib.Core.Path.{_≡_, refl, ap, sym, _∙_, subst}
-use mathlib.Core.Bool.{Bool, true, false}
-use mathlib.Core.Logic.{⊎-elim}
-use native.Mathlib.Omega.{arith}
-use lib.ListN.{length, getD, set, length-set}
+-- `logical_log::observation::is_other` meets its contract.
+-- Assumes nothing.
+use Prim.Native.Nat.{ℕ, _-_, _≤_}
+use mathlib.Core.Path.{sym, subst}
 use borrow.Author.Needs.{needs}
 use Rattle.storage.specs.Tables.{prefixRow}
 use Rattle.logical_log.proofs.Turns.{first-within, other-none, other-new, other-same}
 use Rattle.logical_log.proofs.observation.is_other.Statement.{statement}
 use Rattle.logical_log.proofs.observation.is_other.Tie as tie
-use Rattle.logical_log.proofs.observation.is_other.Reads as reads
-use Rattle.logical_log.proofs.observation.is_other.Lts as lts
-use Rattle.logical_log.proofs.comparison.same_prefix.Reads as same-prefix-reads
-use Rattle.logical_log.proofs.prefix.first_of.Reads as first-of-reads
 
 first-of-requires : tie.Need-first-of-requires
 first-of-requires c κs = search needs

@@ -1,21 +1,12 @@
-use Prim.Native.Nat.{ℕ, suc, _+_, _-_, _*_, _≤_, _<_}
-use mathlib.Core.Path.{_≡_, refl, ap, sym, _∙_, subst}
-use mathlib.Core.Bool.{Bool, true, false}
-use mathlib.Core.Logic.{⊎-elim}
-use native.Mathlib.Omega.{arith}
-use lib.ListN.{length, getD, set, length-set}
+-- `logical_log::observation::judge` meets its contract.
+-- Assumes nothing.
+use Prim.Native.Nat.{ℕ, _-_, _≤_}
+use mathlib.Core.Path.{sym, subst}
 use borrow.Author.Needs.{needs}
 use Rattle.records.proofs.Walks.{here}
 use Rattle.logical_log.proofs.Turns.{Judging, judging-starts, judging-ends, judging-gap, judging-next, entry-short, next-within}
 use Rattle.logical_log.proofs.observation.judge.Statement.{statement}
 use Rattle.logical_log.proofs.observation.judge.Tie as tie
-use Rattle.logical_log.proofs.observation.judge.Reads as reads
-use Rattle.logical_log.proofs.observation.judge.Lts as lts
-use Rattle.logical_log.proofs.observation.counted.Reads as counted-reads
-use Rattle.logical_log.proofs.observation.is_other.Reads as is-other-reads
-use Rattle.logical_log.proofs.observation.next_number.Reads as next-number-reads
-use Rattle.logical_log.proofs.observation.note_other.Reads as note-other-reads
-use Rattle.records.proofs.walk.entry_at.Reads as entry-at-reads
 
 abbrev Inv-loop : tie.InvT-loop
 Inv-loop prefixes count view entries node findings₀ held at₀ left₀ i₀ p₀ missing₀ n₀ findings at left i p missing n =

@@ -1,22 +1,14 @@
-use Prim.Native.Nat.{ℕ, suc, _+_, _-_, _*_, _≤_, _<_}
-use mathlib.Core.Path.{_≡_, refl, ap, sym, _∙_}
-use mathlib.Core.Bool.{Bool, true, false}
-use mathlib.Core.Logic.{⊎-elim}
+-- `logical_log::observation::judge_view` meets its contract.
+-- Assumes nothing.
+use Prim.Native.Nat.{_-_}
+use mathlib.Core.Path.{ap, _∙_}
 use native.Mathlib.Omega.{arith}
-use lib.ListN.{length, getD, set, length-set}
-use borrow.Author.Needs.{needs}
+use lib.ListN.{length}
 use Rattle.storage.proofs.WordLaws.{put-length}
 use Rattle.logical_log.proofs.ViolationLaws.{all-length}
 use Rattle.logical_log.proofs.Whole.{whole-long, whole-few, whole-table, table-for, copied, view-judged}
 use Rattle.logical_log.proofs.observation.judge_view.Statement.{statement}
 use Rattle.logical_log.proofs.observation.judge_view.Tie as tie
-use Rattle.logical_log.proofs.observation.judge_view.Reads as reads
-use Rattle.logical_log.proofs.observation.judge_view.Lts as lts
-use Rattle.logical_log.proofs.observation.judge.Reads as judge-reads
-use Rattle.storage.proofs.head.finding_count.Reads as finding-count-reads
-use Rattle.storage.proofs.head.prefix_count.Reads as prefix-count-reads
-use Rattle.storage.proofs.layout.part.Reads as part-reads
-use Rattle.storage.proofs.words.put_bytes.Reads as put-bytes-reads
 
 prefix-count-requires : tie.Need-prefix-count-requires
 prefix-count-requires c κs =

@@ -1,19 +1,13 @@
-use Prim.Native.Nat.{ℕ, suc, _+_, _-_, _*_, _≤_, _<_}
-use mathlib.Core.Path.{_≡_, refl, ap, sym, _∙_}
-use mathlib.Core.Bool.{Bool, true, false}
-use mathlib.Core.Logic.{⊎-elim}
-use native.Mathlib.Omega.{arith}
-use lib.ListN.{length, getD, set, length-set}
+-- `logical_log::observation::keep_findings` meets its contract.
+-- Assumes nothing.
+use Prim.Native.Nat.{_-_}
+use mathlib.Core.Path.{ap, _∙_}
 use borrow.Author.Needs.{needs}
 use Rattle.model.specs.Sizes.{Bytes}
 use Rattle.storage.specs.Words.{putBytes, wordBytes}
 use Rattle.logical_log.specs.Observation.{findingsKept}
 use Rattle.logical_log.proofs.observation.keep_findings.Statement.{statement}
 use Rattle.logical_log.proofs.observation.keep_findings.Tie as tie
-use Rattle.logical_log.proofs.observation.keep_findings.Reads as reads
-use Rattle.logical_log.proofs.observation.keep_findings.Lts as lts
-use Rattle.storage.proofs.head.set_finding_count.Reads as set-finding-count-reads
-use Rattle.storage.proofs.words.put_bytes.Reads as put-bytes-reads
 
 put-bytes-requires : tie.Need-put-bytes-requires
 put-bytes-requires c κs = search needs

@@ -1,18 +1,12 @@
-use Prim.Native.Nat.{ℕ, suc, _+_, _-_, _*_, _≤_, _<_}
-use mathlib.Core.Path.{_≡_, refl, ap, sym, _∙_}
-use mathlib.Core.Bool.{Bool, true, false}
-use mathlib.Core.Logic.{⊎-elim}
-use native.Mathlib.Omega.{arith}
-use lib.ListN.{length, getD, set, length-set}
+-- `logical_log::observation::next_number` meets its contract.
+-- Assumes nothing.
+use Prim.Native.Nat.{_-_}
 use borrow.Author.Needs.{needs}
 use Rattle.storage.specs.Tables.{prefixRow}
 use Rattle.logical_log.specs.Table.{entryValue}
 use Rattle.logical_log.proofs.Turns.{next-lost, next-found}
 use Rattle.logical_log.proofs.observation.next_number.Statement.{statement}
 use Rattle.logical_log.proofs.observation.next_number.Tie as tie
-use Rattle.logical_log.proofs.observation.next_number.Reads as reads
-use Rattle.logical_log.proofs.observation.next_number.Lts as lts
-use Rattle.logical_log.proofs.prefix.find_extension.Reads as find-extension-reads
 
 returns : tie.Need-returns
 returns c =

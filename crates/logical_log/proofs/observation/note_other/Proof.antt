@@ -1,18 +1,14 @@
-use Prim.Native.Nat.{ℕ, suc, _+_, _-_, _*_, _≤_, _<_}
-use mathlib.Core.Path.{_≡_, refl, ap, sym, _∙_}
-use mathlib.Core.Bool.{Bool, true, false}
-use mathlib.Core.Logic.{⊎-elim}
-use native.Mathlib.Omega.{arith}
-use lib.ListN.{length, getD, set, length-set}
+-- `logical_log::observation::note_other` meets its contract.
+-- Assumes nothing.
+use Prim.Native.Nat.{_-_}
+use mathlib.Core.Path.{ap, _∙_}
+use lib.ListN.{length}
 use borrow.Author.Tests.{not-true, not-false}
 use borrow.Author.Needs.{needs}
 use Rattle.logical_log.proofs.ViolationLaws.{note-length}
 use Rattle.logical_log.proofs.Turns.{note-one, note-other-one}
 use Rattle.logical_log.proofs.observation.note_other.Statement.{statement}
 use Rattle.logical_log.proofs.observation.note_other.Tie as tie
-use Rattle.logical_log.proofs.observation.note_other.Reads as reads
-use Rattle.logical_log.proofs.observation.note_other.Lts as lts
-use Rattle.logical_log.proofs.violation.note.Reads as note-reads
 
 returns : tie.Need-returns
 returns c =

@@ -1,18 +1,13 @@
-use Prim.Native.Nat.{ℕ, suc, _+_, _-_, _*_, _≤_, _<_}
-use mathlib.Core.Path.{_≡_, refl, ap, sym, _∙_}
-use mathlib.Core.Bool.{Bool, true, false}
-use mathlib.Core.Logic.{⊎-elim}
+-- `logical_log::observation::observe_prefixes` meets its contract.
+-- Assumes nothing.
+use Prim.Native.Nat.{_-_}
+use mathlib.Core.Path.{ap, _∙_}
 use native.Mathlib.Omega.{arith}
-use lib.ListN.{length, getD, set, length-set}
+use lib.ListN.{length}
 use borrow.Author.Needs.{needs}
 use Rattle.logical_log.proofs.Whole.{whole-long, observed-six, observed-seven, observed-ok, observed-room, table-length, written-length}
 use Rattle.logical_log.proofs.observation.observe_prefixes.Statement.{statement}
 use Rattle.logical_log.proofs.observation.observe_prefixes.Tie as tie
-use Rattle.logical_log.proofs.observation.observe_prefixes.Reads as reads
-use Rattle.logical_log.proofs.observation.observe_prefixes.Lts as lts
-use Rattle.logical_log.proofs.observation.judge_view.Reads as judge-view-reads
-use Rattle.logical_log.proofs.observation.write_view.Reads as write-view-reads
-use Rattle.storage.proofs.head.prefix_count.Reads as prefix-count-reads
 
 slice-aggregate-judge-view : tie.Need-slice-aggregate-judge-view
 slice-aggregate-judge-view c = search needs

@@ -1,9 +1,8 @@
-use Prim.Native.Nat.{ℕ, suc, _+_, _-_, _*_, _≤_, _<_}
-use mathlib.Core.Path.{_≡_, refl, ap, sym, _∙_}
-use mathlib.Core.Bool.{Bool, true, false}
-use mathlib.Core.Logic.{⊎-elim}
-use native.Mathlib.Omega.{arith}
-use lib.ListN.{length, getD, set, length-set}
+-- `logical_log::observation::replace_view` meets its contract.
+-- Assumes nothing.
+use Prim.Native.Nat.{ℕ, _+_, _-_, _*_}
+use mathlib.Core.Path.{ap, _∙_}
+use lib.ListN.{length}
 use borrow.Author.Needs.{needs}
 use Rattle.model.specs.Sizes.{Bytes}
 use Rattle.storage.specs.Words.{putBytes}
@@ -13,11 +12,6 @@ use Rattle.storage.proofs.WordLaws.{put-length}
 use Rattle.logical_log.specs.Observation.{viewReplaced}
 use Rattle.logical_log.proofs.observation.replace_view.Statement.{statement}
 use Rattle.logical_log.proofs.observation.replace_view.Tie as tie
-use Rattle.logical_log.proofs.observation.replace_view.Reads as reads
-use Rattle.logical_log.proofs.observation.replace_view.Lts as lts
-use Rattle.storage.proofs.layout.part.Reads as part-reads
-use Rattle.storage.proofs.nodes.node_at.Reads as node-at-reads
-use Rattle.storage.proofs.nodes.set_node.Reads as set-node-reads
 
 cast-k : tie.Need-cast-k
 cast-k c = search needs

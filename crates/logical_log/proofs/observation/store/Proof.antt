@@ -1,18 +1,12 @@
-use Prim.Native.Nat.{ℕ, suc, _+_, _-_, _*_, _≤_, _<_}
-use mathlib.Core.Path.{_≡_, refl, ap, sym, _∙_}
-use mathlib.Core.Bool.{Bool, true, false}
-use mathlib.Core.Logic.{⊎-elim}
-use native.Mathlib.Omega.{arith}
-use lib.ListN.{length, getD, set, length-set}
+-- `logical_log::observation::store` meets its contract.
+-- Assumes nothing.
+use Prim.Native.Nat.{_-_}
+use mathlib.Core.Path.{sym, _∙_}
 use borrow.Author.Needs.{needs}
 use Rattle.records.proofs.Walks.{here}
 use Rattle.logical_log.proofs.Written.{Written, writing-starts, writing-ends, writing-gap, writing-asks, writing-next}
 use Rattle.logical_log.proofs.observation.store.Statement.{statement}
 use Rattle.logical_log.proofs.observation.store.Tie as tie
-use Rattle.logical_log.proofs.observation.store.Reads as reads
-use Rattle.logical_log.proofs.observation.store.Lts as lts
-use Rattle.logical_log.proofs.prefix.extend.Reads as extend-reads
-use Rattle.records.proofs.walk.entry_at.Reads as entry-at-reads
 
 abbrev Inv-loop : tie.InvT-loop
 Inv-loop history₀ count view entries at₀ left₀ i₀ p₀ n₀ history at left i p n = Written history₀ count view entries history at left i p n

@@ -1,20 +1,13 @@
-use Prim.Native.Nat.{ℕ, suc, _+_, _-_, _*_, _≤_, _<_}
-use mathlib.Core.Path.{_≡_, refl, ap, sym, _∙_}
-use mathlib.Core.Bool.{Bool, true, false}
-use mathlib.Core.Logic.{⊎-elim}
-use native.Mathlib.Omega.{arith}
-use lib.ListN.{length, getD, set, length-set}
+-- `logical_log::observation::write_view` meets its contract.
+-- Assumes nothing.
+use Prim.Native.Nat.{_-_}
+use mathlib.Core.Path.{ap, sym, _∙_}
+use lib.ListN.{length}
 use borrow.Author.Needs.{needs}
 use Rattle.records.specs.declared.walk.Front.{Front}
 use Rattle.logical_log.proofs.Whole.{view-written, kept-length, replaced-length}
 use Rattle.logical_log.proofs.observation.write_view.Statement.{statement}
 use Rattle.logical_log.proofs.observation.write_view.Tie as tie
-use Rattle.logical_log.proofs.observation.write_view.Reads as reads
-use Rattle.logical_log.proofs.observation.write_view.Lts as lts
-use Rattle.logical_log.proofs.observation.keep_findings.Reads as keep-findings-reads
-use Rattle.logical_log.proofs.observation.replace_view.Reads as replace-view-reads
-use Rattle.logical_log.proofs.observation.store.Reads as store-reads
-use Rattle.records.proofs.walk.front_of.Reads as front-of-reads
 
 store-requires : tie.Need-store-requires
 store-requires c κs = search needs

@@ -1,19 +1,15 @@
-use Prim.Native.Nat.{ℕ, suc, _+_, _-_, _*_, _≤_, _<_}
-use mathlib.Core.Path.{_≡_, refl, ap, sym, _∙_}
-use mathlib.Core.Bool.{Bool, true, false}
-use mathlib.Core.Logic.{⊎-elim}
+-- `logical_log::prefix::append` meets its contract.
+-- Assumes nothing.
+use Prim.Native.Nat.{_+_, _-_}
+use mathlib.Core.Path.{ap, _∙_}
 use native.Mathlib.Omega.{arith}
-use lib.ListN.{length, getD, set, length-set}
+use lib.ListN.{length}
 use borrow.Author.Needs.{needs}
 use Rattle.model.specs.Sizes.{Bytes}
 use Rattle.storage.specs.Words.{putBytes, wordBytes}
 use Rattle.storage.proofs.WordLaws.{put-length}
 use Rattle.logical_log.proofs.prefix.append.Statement.{statement}
 use Rattle.logical_log.proofs.prefix.append.Tie as tie
-use Rattle.logical_log.proofs.prefix.append.Reads as reads
-use Rattle.logical_log.proofs.prefix.append.Lts as lts
-use Rattle.storage.proofs.head.set_prefix_count.Reads as set-prefix-count-reads
-use Rattle.storage.proofs.prefixes.set_prefix.Reads as set-prefix-reads
 
 slice-aggregate-set-prefix : tie.Need-slice-aggregate-set-prefix
 slice-aggregate-set-prefix c = search needs

@@ -1,19 +1,13 @@
-use Prim.Native.Nat.{ℕ, suc, _+_, _-_, _*_, _≤_, _<_}
-use mathlib.Core.Path.{_≡_, refl, ap, sym, _∙_}
-use mathlib.Core.Bool.{Bool, true, false}
-use mathlib.Core.Logic.{⊎-elim}
-use native.Mathlib.Omega.{arith}
-use lib.ListN.{length, getD, set, length-set}
+-- `logical_log::prefix::extend` meets its contract.
+-- Assumes nothing.
+use Prim.Native.Nat.{_-_}
+use mathlib.Core.Path.{ap, _∙_}
+use lib.ListN.{length}
 use borrow.Author.Needs.{needs}
 use Rattle.storage.proofs.WordLaws.{put-length}
 use Rattle.logical_log.proofs.Written.{extend-found, extend-room, extend-made}
 use Rattle.logical_log.proofs.prefix.extend.Statement.{statement}
 use Rattle.logical_log.proofs.prefix.extend.Tie as tie
-use Rattle.logical_log.proofs.prefix.extend.Reads as reads
-use Rattle.logical_log.proofs.prefix.extend.Lts as lts
-use Rattle.logical_log.proofs.prefix.append.Reads as append-reads
-use Rattle.logical_log.proofs.prefix.find_extension.Reads as find-extension-reads
-use Rattle.storage.proofs.layout.part.Reads as part-reads
 
 part-requires : tie.Need-part-requires
 part-requires c κs = search needs

@@ -1,9 +1,8 @@
-use Prim.Native.Nat.{ℕ, suc, _+_, _-_, _*_, _≤_, _<_}
-use mathlib.Core.Path.{_≡_, refl, ap, sym, _∙_}
-use mathlib.Core.Bool.{Bool, true, false}
-use mathlib.Core.Logic.{⊎-elim}
+-- `logical_log::prefix::find_extension` meets its contract.
+-- Assumes nothing.
+use Prim.Native.Nat.{_-_, _≤_}
+use mathlib.Core.Path.{_≡_, refl, sym, _∙_}
 use native.Mathlib.Omega.{arith}
-use lib.ListN.{length, getD, set, length-set}
 use borrow.Author.Count.{falls}
 use borrow.Author.Needs.{needs}
 use Rattle.storage.specs.Tables.{prefixRow}
@@ -13,9 +12,6 @@ use Rattle.logical_log.specs.Prefix.{rowOf, searchFrom, find}
 use Rattle.logical_log.proofs.Loops.{search-next, search-stop, search-none}
 use Rattle.logical_log.proofs.prefix.find_extension.Statement.{statement}
 use Rattle.logical_log.proofs.prefix.find_extension.Tie as tie
-use Rattle.logical_log.proofs.prefix.find_extension.Reads as reads
-use Rattle.logical_log.proofs.prefix.find_extension.Lts as lts
-use Rattle.logical_log.proofs.prefix.matches_extension.Reads as matches-extension-reads
 
 abbrev Inv-loop : tie.InvT-loop
 Inv-loop prefixes count p e k₀ k =

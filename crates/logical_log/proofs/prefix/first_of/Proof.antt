@@ -1,9 +1,7 @@
-use Prim.Native.Nat.{ℕ, suc, _+_, _-_, _*_, _≤_, _<_}
-use mathlib.Core.Path.{_≡_, refl, ap, sym, _∙_}
-use mathlib.Core.Bool.{Bool, true, false}
-use mathlib.Core.Logic.{⊎-elim}
-use native.Mathlib.Omega.{arith}
-use lib.ListN.{length, getD, set, length-set}
+-- `logical_log::prefix::first_of` meets its contract.
+-- Assumes nothing.
+use Prim.Native.Nat.{_-_}
+use mathlib.Core.Path.{_≡_, refl, sym, _∙_}
 use borrow.Author.Count.{falls}
 use borrow.Author.Needs.{needs}
 use Rattle.storage.specs.Tables.{prefixRow}
@@ -11,9 +9,6 @@ use Rattle.logical_log.specs.Prefix.{searchFrom, isOf, first}
 use Rattle.logical_log.proofs.Loops.{search-next, search-stop, search-none}
 use Rattle.logical_log.proofs.prefix.first_of.Statement.{statement}
 use Rattle.logical_log.proofs.prefix.first_of.Tie as tie
-use Rattle.logical_log.proofs.prefix.first_of.Reads as reads
-use Rattle.logical_log.proofs.prefix.first_of.Lts as lts
-use Rattle.logical_log.proofs.prefix.is_of.Reads as is-of-reads
 
 abbrev Inv-loop : tie.InvT-loop
 Inv-loop prefixes count index term k₀ k =

@@ -1,17 +1,10 @@
-use Prim.Native.Nat.{ℕ, suc, _+_, _-_, _*_, _≤_, _<_}
-use mathlib.Core.Path.{_≡_, refl, ap, sym, _∙_}
-use mathlib.Core.Bool.{Bool, true, false}
-use mathlib.Core.Logic.{⊎-elim}
-use native.Mathlib.Omega.{arith}
-use lib.ListN.{length, getD, set, length-set}
+-- `logical_log::prefix::is_of` meets its contract.
+-- Assumes nothing.
+use Prim.Native.Nat.{_-_}
 use borrow.Author.Tests.{eq-eqb, ne-eqb}
 use borrow.Author.Needs.{needs}
 use Rattle.logical_log.proofs.prefix.is_of.Statement.{statement}
 use Rattle.logical_log.proofs.prefix.is_of.Tie as tie
-use Rattle.logical_log.proofs.prefix.is_of.Reads as reads
-use Rattle.logical_log.proofs.prefix.is_of.Lts as lts
-use Rattle.storage.proofs.prefixes.index_at.Reads as index-at-reads
-use Rattle.storage.proofs.prefixes.term_at.Reads as term-at-reads
 
 index-at-requires : tie.Need-index-at-requires
 index-at-requires c κs = search needs

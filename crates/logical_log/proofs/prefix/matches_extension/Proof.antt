@@ -1,19 +1,11 @@
-use Prim.Native.Nat.{ℕ, suc, _+_, _-_, _*_, _≤_, _<_}
-use mathlib.Core.Path.{_≡_, refl, ap, sym, _∙_}
-use mathlib.Core.Bool.{Bool, true, false}
-use mathlib.Core.Logic.{⊎-elim}
-use native.Mathlib.Omega.{arith}
-use lib.ListN.{length, getD, set, length-set}
+-- `logical_log::prefix::matches_extension` meets its contract.
+-- Assumes nothing.
+use Prim.Native.Nat.{_-_}
+use lib.ListN.{length}
 use borrow.Author.Needs.{needs}
 use Rattle.logical_log.proofs.Loops.{match-parent, match-term, match-size, match-content}
 use Rattle.logical_log.proofs.prefix.matches_extension.Statement.{statement}
 use Rattle.logical_log.proofs.prefix.matches_extension.Tie as tie
-use Rattle.logical_log.proofs.prefix.matches_extension.Reads as reads
-use Rattle.logical_log.proofs.prefix.matches_extension.Lts as lts
-use Rattle.logical_log.proofs.prefix.same_content.Reads as same-content-reads
-use Rattle.storage.proofs.prefixes.parent_at.Reads as parent-at-reads
-use Rattle.storage.proofs.prefixes.size_at.Reads as size-at-reads
-use Rattle.storage.proofs.prefixes.term_at.Reads as term-at-reads
 
 parent-at-requires : tie.Need-parent-at-requires
 parent-at-requires c κs = search needs

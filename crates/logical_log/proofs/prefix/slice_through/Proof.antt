@@ -1,9 +1,8 @@
-use Prim.Native.Nat.{ℕ, suc, _+_, _-_, _*_, _≤_, _<_}
-use mathlib.Core.Path.{_≡_, refl, ap, sym, _∙_}
-use mathlib.Core.Bool.{Bool, true, false}
-use mathlib.Core.Logic.{⊎-elim}
+-- `logical_log::prefix::slice_through` meets its contract.
+-- Assumes nothing.
+use Prim.Native.Nat.{_-_, _≤_}
+use mathlib.Core.Path.{refl}
 use native.Mathlib.Omega.{arith}
-use lib.ListN.{length, getD, set, length-set}
 use borrow.Author.Needs.{needs}
 use native.Mathlib.Nat.{le-refl}
 use Rattle.storage.specs.Tables.{prefixRow}
@@ -12,10 +11,6 @@ use Rattle.logical_log.proofs.TableLaws.{table-parent}
 use Rattle.logical_log.proofs.Loops.{Sliced, index-is, passes-some, slice-done, slice-next, slice-beyond, slice-found, place-before, parent-within, parent-below}
 use Rattle.logical_log.proofs.prefix.slice_through.Statement.{statement}
 use Rattle.logical_log.proofs.prefix.slice_through.Tie as tie
-use Rattle.logical_log.proofs.prefix.slice_through.Reads as reads
-use Rattle.logical_log.proofs.prefix.slice_through.Lts as lts
-use Rattle.storage.proofs.prefixes.index_of.Reads as index-of-reads
-use Rattle.storage.proofs.prefixes.parent_at.Reads as parent-at-reads
 
 abbrev Inv-loop : tie.InvT-loop
 Inv-loop prefixes count p i q₀ q = (q ≤ count) × Sliced (prefixRow prefixes) i (sliceFrom (prefixRow prefixes) i p p) q

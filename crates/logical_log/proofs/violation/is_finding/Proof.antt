@@ -1,16 +1,10 @@
-use Prim.Native.Nat.{ℕ, suc, _+_, _-_, _*_, _≤_, _<_}
-use mathlib.Core.Path.{_≡_, refl, ap, sym, _∙_}
-use mathlib.Core.Bool.{Bool, true, false}
-use mathlib.Core.Logic.{⊎-elim}
-use native.Mathlib.Omega.{arith}
-use lib.ListN.{length, getD, set, length-set}
+-- `logical_log::violation::is_finding` meets its contract.
+-- Assumes nothing.
+use Prim.Native.Nat.{_-_}
 use borrow.Author.Needs.{needs}
 use Rattle.logical_log.proofs.ViolationLaws.{other-name, other-node, other-index, other-term}
 use Rattle.logical_log.proofs.violation.is_finding.Statement.{statement}
 use Rattle.logical_log.proofs.violation.is_finding.Tie as tie
-use Rattle.logical_log.proofs.violation.is_finding.Reads as reads
-use Rattle.logical_log.proofs.violation.is_finding.Lts as lts
-use Rattle.storage.proofs.findings.finding_at.Reads as finding-at-reads
 
 finding-at-requires : tie.Need-finding-at-requires
 finding-at-requires c κs = search needs

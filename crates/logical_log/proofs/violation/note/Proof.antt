@@ -1,19 +1,14 @@
-use Prim.Native.Nat.{ℕ, suc, _+_, _-_, _*_, _≤_, _<_}
-use mathlib.Core.Path.{_≡_, refl, ap, sym, _∙_}
-use mathlib.Core.Bool.{Bool, true, false}
-use mathlib.Core.Logic.{⊎-elim}
-use native.Mathlib.Omega.{arith}
-use lib.ListN.{length, getD, set, length-set}
+-- `logical_log::violation::note` meets its contract.
+-- Assumes nothing.
+use Prim.Native.Nat.{_-_}
+use mathlib.Core.Path.{ap, _∙_}
+use lib.ListN.{length}
 use borrow.Author.Needs.{needs}
 use Rattle.storage.specs.Values.{findingValue}
 use Rattle.storage.proofs.WordLaws.{put-length}
 use Rattle.logical_log.proofs.ViolationLaws.{note-over, note-again, note-full, note-new}
 use Rattle.logical_log.proofs.violation.note.Statement.{statement}
 use Rattle.logical_log.proofs.violation.note.Tie as tie
-use Rattle.logical_log.proofs.violation.note.Reads as reads
-use Rattle.logical_log.proofs.violation.note.Lts as lts
-use Rattle.logical_log.proofs.violation.noted_at.Reads as noted-at-reads
-use Rattle.storage.proofs.findings.put_finding.Reads as put-finding-reads
 
 returns : tie.Need-returns
 returns c =

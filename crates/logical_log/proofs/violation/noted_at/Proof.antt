@@ -1,9 +1,8 @@
-use Prim.Native.Nat.{ℕ, suc, _+_, _-_, _*_, _≤_, _<_}
-use mathlib.Core.Path.{_≡_, refl, ap, sym, _∙_}
-use mathlib.Core.Bool.{Bool, true, false}
-use mathlib.Core.Logic.{⊎-elim}
+-- `logical_log::violation::noted_at` meets its contract.
+-- Assumes nothing.
+use Prim.Native.Nat.{_-_, _≤_}
+use mathlib.Core.Path.{_≡_, ap, sym, _∙_}
 use native.Mathlib.Omega.{arith}
-use lib.ListN.{length, getD, set, length-set}
 use borrow.Author.Count.{falls}
 use borrow.Author.Needs.{needs}
 use Rattle.storage.specs.Tables.{findingRow}
@@ -13,9 +12,6 @@ use Rattle.logical_log.specs.Violation.{sameNumbers, notedAt}
 use Rattle.logical_log.proofs.Loops.{search-next, search-stop, search-none}
 use Rattle.logical_log.proofs.violation.noted_at.Statement.{statement}
 use Rattle.logical_log.proofs.violation.noted_at.Tie as tie
-use Rattle.logical_log.proofs.violation.noted_at.Reads as reads
-use Rattle.logical_log.proofs.violation.noted_at.Lts as lts
-use Rattle.logical_log.proofs.violation.is_finding.Reads as is-finding-reads
 
 abbrev Inv-loop : tie.InvT-loop
 Inv-loop findings n f k₀ k =
