@@ -25,7 +25,7 @@ use Rattle.storage.proofs.PartLaws.{word-part, part-length}
 use Rattle.storage.proofs.RuleLaws.{pass}
 use Rattle.storage.proofs.TableLaws.{findings-written}
 use Rattle.storage.proofs.DecodeLaws.{Kept, FindingNamed, finding-test, kept-findings, well-formed-of, decode-is}
-use Rattle.storage.proofs.Resolve.{Facts}
+use Rattle.storage.proofs.RowFacts.{Facts}
 use Rattle.storage.proofs.Meanings.{Stands, withNoted, long, kept, is, prefixes-is, prefixes-read, findings-read, committed-read, owner-read, front-read, last-read, node-written, committed-written}
 use Rattle.logical_log.specs.Prefix.{indexOf, sliceOf}
 use Rattle.logical_log.specs.Comparison.{sameFrom}
@@ -110,7 +110,7 @@ module _ (h : Bytes) (x : History) (s : Stands h x) where
 
   pub empty-is : (p : ℕ) → p ≤ wordAt h 0 2 → at p ≡ [] → p ≡ 0
   empty-is p l e =
-      known .apart p 0 (number p l) (omega arith) (ap (λ (ps : List Prefix). prefixAt ps p) resolves ∙ e)
+      known .distinct p 0 (number p l) (omega arith) (ap (λ (ps : List Prefix). prefixAt ps p) resolves ∙ e)
 
   pub index-is : (p : ℕ) → p ≤ wordAt h 0 2 → indexOf (rowsOf h) p ≡ length (at p)
   index-is p l =
@@ -177,7 +177,7 @@ module _ (h : Bytes) (x : History) (s : Stands h x) where
         index-limit zero l = omega arith
         index-limit (suc k) l =
             let r : rowsOf h k .index ≤ 256 =
-            subst (λ (y : PrefixRow). y .index ≤ 256) (sym (rows-at (prefixesPart h) (wordAt h 0 2) k (number (suc k) l))) (known .indexes k (number (suc k) l)) in
+            subst (λ (y : PrefixRow). y .index ≤ 256) (sym (rows-at (prefixesPart h) (wordAt h 0 2) k (number (suc k) l))) (known .small k (number (suc k) l) .0) in
             cond-cases (λ (z : ℕ). z ≤ 256) (eqb (suc k) 0) 0 (rowsOf h (suc k - 1) .index) (λ _. omega arith)
             (λ _. subst (λ (j : ℕ). rowsOf h j .index ≤ 256) (let q : k ≡ suc k - 1 = omega arith in q) r)
 

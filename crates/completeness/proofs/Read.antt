@@ -18,7 +18,7 @@ use Rattle.storage.specs.Tables.{PrefixRow, prefixRow, prefixRows, prefixesPart
 use Rattle.storage.specs.Decode.{prefixAt, certificateIn, resolve}
 use Rattle.storage.specs.Values.{numberIndex}
 use Rattle.storage.proofs.Meanings.{Stands, is, prefixes-is, certificates-is, committed-read}
-use Rattle.storage.proofs.Resolve.{Facts}
+use Rattle.storage.proofs.RowFacts.{Facts}
 use Rattle.logical_log.proofs.PrefixLaws.{Rows}
 use Rattle.logical_log.proofs.TableLaws.{rows-length, rows-at, table-facts}
 use Rattle.logical_log.proofs.SliceLaws.{index-length}
@@ -72,7 +72,7 @@ module _ (h : Bytes) (x : History) (s : Stands h x) where
       (λ e.
       let z = eqb-false p 0 e in
       let l : p - 1 < length rows = omega arith in
-      subst (λ (r : PrefixRow). r .index ≤ 256) (sym (rows-here (p - 1) l)) (rows-facts .indexes (p - 1) l))
+      subst (λ (r : PrefixRow). r .index ≤ 256) (sym (rows-here (p - 1) l)) (rows-facts .small (p - 1) l .0))
 
   pub terms-is : tabulate (termRow (termsPart h)) 0 (wordAt h 2 2) ≡ x .terms
   unfolding tablesIn

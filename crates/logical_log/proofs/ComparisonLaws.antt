@@ -15,7 +15,8 @@ use Rattle.model.specs.Entry.{same}
 use Rattle.model.proofs.Tests.{either, cond-true, cond-false, and-left, and-right, or-false-left, or-false-right, yes-same, test-ext, same-yes}
 use Rattle.storage.specs.Tables.{PrefixRow}
 use Rattle.storage.specs.Decode.{prefixAt, entryOf, resolve}
-use Rattle.storage.proofs.Resolve.{Facts, rowAt, bytes-same}
+use Rattle.storage.proofs.RowFacts.{Facts, rowAt}
+use Rattle.storage.proofs.PrefixLaws.{same-bytes-eq}
 use Rattle.logical_log.specs.Comparison.{sameEntry, sameFrom}
 use Rattle.logical_log.proofs.PrefixLaws.{Rows}
 
@@ -23,7 +24,7 @@ entry-same : (r s : PrefixRow) → sameEntry r s ≡ true → entryOf r ≡ entr
 unfolding sameEntry
 entry-same r s e =
     let a = eqb-true _ _ (and-left (eqb (r .term) (s .term)) _ e) in
-    let c = bytes-same (r .content) (s .content) (and-right (eqb (r .size) (s .size)) _ (and-right (eqb (r .term) (s .term)) _ e)) in
+    let c = same-bytes-eq (r .content) (s .content) (and-right (eqb (r .size) (s .size)) _ (and-right (eqb (r .term) (s .term)) _ e)) in
     λ i. record { term = a i; content = c i }
 
 module _ (row : ℕ → PrefixRow) (rs : List PrefixRow) (f : Facts rs) (at : Rows row rs) where
@@ -41,16 +42,16 @@ module _ (row : ℕ → PrefixRow) (rs : List PrefixRow) (f : Facts rs) (at : Ro
       let same-parent : rowAt rs a .parent ≡ rowAt rs b .parent =
       sym (ap (λ (x : PrefixRow). x .parent) ea) ∙ par ∙ ap (λ (x : PrefixRow). x .parent) eb in
       let whole : prefixAt (resolve rs) (a + 1) ≡ prefixAt (resolve rs) (b + 1) =
-      f .steps a la ∙ (λ i. prefixAt (resolve rs) (same-parent i) ++ (same-last i ∷ [])) ∙ sym (f .steps b lb) in
-      n (let z = f .apart (a + 1) (b + 1) (omega arith) (omega arith) whole in omega arith)
+      f .entry a la ∙ (λ i. prefixAt (resolve rs) (same-parent i) ++ (same-last i ∷ [])) ∙ sym (f .entry b lb) in
+      n (let z = f .distinct (a + 1) (b + 1) (omega arith) (omega arith) whole in omega arith)
 
   step : (fuel a b : ℕ) → ((x y : ℕ) → Alike fuel x y) → a ≤ fuel → a < length rs → b < length rs → (a ≡ b → ⊥)
       → cond (sameEntry (row a) (row b)) (sameFrom row fuel (row a .parent) (row b .parent)) false ≡ false
   step fuel a b ih h la lb n =
       ⊎-elim
       (λ t.
-      let pa : row a .parent ≤ a = subst (λ (x : PrefixRow). x .parent ≤ a) (sym (at a la)) (f .parents a la) in
-      let pb : row b .parent ≤ b = subst (λ (x : PrefixRow). x .parent ≤ b) (sym (at b lb)) (f .parents b lb) in
+      let pa : row a .parent ≤ a = subst (λ (x : PrefixRow). x .parent ≤ a) (sym (at a la)) (f .parent a la) in
+      let pb : row b .parent ≤ b = subst (λ (x : PrefixRow). x .parent ≤ b) (sym (at b lb)) (f .parent b lb) in
       cond-true (sameEntry (row a) (row b)) (sameFrom row fuel (row a .parent) (row b .parent)) false t
       ∙ ih (row a .parent) (row b .parent) (omega arith) (omega arith) (omega arith)
       ∙ ne-eqb (row a .parent) (row b .parent) (rows-apart a b la lb n t))
@@ -86,4 +87,4 @@ module _ (row : ℕ → PrefixRow) (rs : List PrefixRow) (f : Facts rs) (at : Ro
       same-numbers p p q (le-refl p) hp hq
       ∙ test-ext (eqb p q) (same (prefixAt (resolve rs) p) (prefixAt (resolve rs) q))
       (λ t. yes-same _ _ (ap (prefixAt (resolve rs)) (eqb-true p q t)))
-      (λ t. eq-eqb p q (f .apart p q hp hq (same-yes _ _ t)))
+      (λ t. eq-eqb p q (f .distinct p q hp hq (same-yes _ _ t)))

@@ -1,27 +1,26 @@
 -- `extend` on rows: the one step that lengthens a prefix finds its row or makes it. What that means of the stored prefixes.
 -- Assumes nothing.
-use Prim.Native.Nat.{ℕ, zero, suc, _+_, _-_, _<_, _≤_}
+use Prim.Native.Nat.{ℕ, zero, suc, _+_, _-_, _≤_}
 use native.Mathlib.Nat.{le-refl, le-trans}
 use native.Mathlib.Omega.{arith}
 use mathlib.Core.Path.{_≡_, refl, sym, _∙_, ap, subst}
-use mathlib.Core.Bool.{true, false, cond, not}
-use mathlib.Core.Logic.{_⊎_, ⊎-elim}
+use mathlib.Core.Bool.{true, false, cond}
 use mathlib.Core.List.{List, [], _∷_, _++_, append-nil, append-assoc, Memᴰ·cast}
 use lib.Dec.{eqb}
-use lib.ListN.{length, drop, length-append, length-drop}
-use lib.Seq.{getD-drop}
-use borrow.Author.Tests.{le-leb, eq-eqb, ne-eqb}
+use lib.ListN.{length, length-append}
+use borrow.Author.Tests.{ne-eqb}
 use Rattle.model.specs.Entry.{Entry, Prefix, prefixes, with, withAll}
 use Rattle.model.specs.View.{begun}
-use Rattle.model.proofs.Tests.{tf, either, cond-false, and-both, or-cases}
+use Rattle.model.proofs.Tests.{cond-false, and-both}
 use Rattle.model.proofs.Members.{with-there, with-fresh}
 use Rattle.storage.specs.Tables.{PrefixRow}
 use Rattle.storage.specs.Decode.{prefixAt, extended, resolve}
-use Rattle.storage.specs.Rules.{indexAmong, sameRow, isAmong, prefixRight, prefixesRightAfter}
-use Rattle.storage.proofs.Resolve.{Facts, rowAt, noRow, Sized, resolve-append, facts-more, right-more, stored-at, number-of, prefixAt-old, prefixAt-new}
+use Rattle.storage.specs.Rules.{prefixRight, prefixesRightAfter}
+use Rattle.storage.proofs.RowFacts.{Facts, rowAt, Sized, resolve-snoc, resolve-count, row-right, facts-snoc, right-snoc, stored-at, number-of, number-kept, number-new}
+use Rattle.storage.proofs.PrefixLaws.{new-right}
 use Rattle.logical_log.specs.Prefix.{rowOf, find}
 use Rattle.logical_log.specs.Observation.{orNext}
-use Rattle.logical_log.proofs.PrefixLaws.{Rows, searched, found, missing, counted}
+use Rattle.logical_log.proofs.PrefixLaws.{Rows, found, missing}
 
 -- the rows with the prefix of number p extended by e to index i, found or made, and its number
 unfoldable pub extendRows : List PrefixRow → ℕ → ℕ → Entry → List PrefixRow
@@ -43,15 +42,6 @@ pub record Extended (rs rs′ : List PrefixRow) (p n : ℕ) (e : Entry) : Type 0
   pub within : n ≤ length rs′
   pub is : prefixAt (resolve rs′) n ≡ prefixAt (resolve rs) p ++ (e ∷ [])
   pub stores : resolve rs′ ≡ with prefixes (resolve rs) (prefixAt (resolve rs) p ++ (e ∷ []))
-
--- a row that is among the rows from a on is at some place from a on
-among-place : (r : PrefixRow) (rs : List PrefixRow) → isAmong r rs ≡ true → (k : ℕ) × (k < length rs) × (sameRow (rowAt rs k) r ≡ true)
-unfolding isAmong
-among-place r [] e = absurd (tf (sym e))
-among-place r (s ∷ rs) e =
-    ⊎-elim (λ t. (0, omega arith, t))
-    (λ t. let x = among-place r rs t in (suc (x .0), (let z = x .1 in omega arith), x .2))
-    (or-cases (sameRow s r) (isAmong r rs) e)
 
 module _ (rs : List PrefixRow) (g : Good rs) (p i : ℕ) (e : Entry) (h : p ≤ length rs)
     (next : length (prefixAt (resolve rs) p) + 1 ≡ i) (small : i ≤ 256) (short : length (e .content) ≤ 32) where
@@ -78,26 +68,8 @@ module _ (rs : List PrefixRow) (g : Good rs) (p i : ℕ) (e : Entry) (h : p ≤ 
 
   -- ---- made
 
-  not-among : find (rowAt rs) (length rs) (rowOf p i e) ≡ 0 → isAmong (rowOf p i e) (drop p rs) ≡ false
-  unfolding find
-  not-among z =
-      ⊎-elim
-      (λ t.
-      let a = among-place (rowOf p i e) (drop p rs) t in
-      let l = length-drop p rs in
-      let s : sameRow (rowAt rs (p + a .0)) (rowOf p i e) ≡ true =
-      subst (λ (y : PrefixRow). sameRow y (rowOf p i e) ≡ true) (getD-drop p rs (a .0) noRow) (a .2) in
-      absurd (⊎-elim (λ y. let w = y .number in omega arith)
-      (λ m. tf (sym s ∙ m .fails (p + a .0) (omega arith) (let w = a .1 in omega arith)))
-      (searched (λ k. sameRow (rowAt rs k) (rowOf p i e)) p (length rs - p))))
-      (λ d. d) (either (isAmong (rowOf p i e) (drop p rs)))
-
   pub right-row : find (rowAt rs) (length rs) (rowOf p i e) ≡ 0 → prefixRight rs (rowOf p i e) ≡ true
-  unfolding prefixRight
-  right-row z =
-      and-both _ _
-      (and-both _ _ (le-leb p (length rs) h) (eq-eqb i (indexAmong rs p + 1) (sym next ∙ ap (λ (n : ℕ). n + 1) (f .ends p h))))
-      (and-both _ _ (le-leb i 256 small) (and-both _ _ (le-leb (length (e .content)) 32 short) (ap not (not-among z))))
+  right-row z = new-right rs f (rowOf p i e) h (sym next) small short (missing (rowAt rs) rs f here p i e h short z)
 
   sized : Sized (rowOf p i e)
   sized = omega arith
@@ -105,23 +77,22 @@ module _ (rs : List PrefixRow) (g : Good rs) (p i : ℕ) (e : Entry) (h : p ≤ 
   made : find (rowAt rs) (length rs) (rowOf p i e) ≡ 0 → Extended rs (rs ++ (rowOf p i e ∷ [])) p (length rs + 1) e
   made z =
       let r = rowOf p i e in
-      let grown = resolve-append [] rs r in
-      let count = counted rs f in
+      let grown = resolve-snoc [] rs r in
+      let count = resolve-count rs in
       let size : length (rs ++ (r ∷ [])) ≡ length rs + 1 = length-append rs (r ∷ []) in
       record {
         good = record {
-          right = right-more [] rs r ∙ and-both _ _ (g .right) (right-row z);
-          known = facts-more rs r f (right-row z) sized;
+          right = right-snoc [] rs r ∙ and-both _ _ (g .right) (right-row z);
+          known = facts-snoc rs r f (row-right rs r (right-row z)) sized;
         };
         grows = omega arith;
         keeps = λ x l.
             ap (λ (ps : List Prefix). prefixAt ps x) grown
-            ∙ prefixAt-old (resolve rs) (extended (resolve rs) r ∷ []) x (subst (λ (n : ℕ). x ≤ n) (sym count) l);
+            ∙ number-kept [] (resolve rs) (extended (resolve rs) r) x (subst (λ (n : ℕ). x ≤ n) (sym count) l);
         within = omega arith;
         is =
             ap (λ (ps : List Prefix). prefixAt ps (length rs + 1)) grown
-            ∙ ap (λ (n : ℕ). prefixAt (resolve rs ++ (extended (resolve rs) r ∷ [])) (n + 1)) (sym count)
-            ∙ prefixAt-new (resolve rs) (extended (resolve rs) r);
+            ∙ number-new [] (resolve rs) (extended (resolve rs) r) (length rs + 1) (ap (λ (n : ℕ). n + 1) (sym count));
         stores =
             grown
             ∙ sym (with-fresh prefixes (resolve rs) (prefixAt (resolve rs) p ++ (e ∷ []))

@@ -15,9 +15,9 @@ use Rattle.model.specs.History.{Finding}
 use Rattle.model.specs.View.{begun, remembered, unlike, mismatch, mismatches}
 use Rattle.model.proofs.Tests.{cond-true, cond-false, no-same}
 use Rattle.storage.specs.Tables.{PrefixRow}
-use Rattle.storage.specs.Decode.{prefixAt, entryOf, resolve}
+use Rattle.storage.specs.Decode.{prefixAt, resolve}
 use Rattle.storage.specs.Rules.{sameRow}
-use Rattle.storage.proofs.Resolve.{Facts, rowAt, snoc-inj, nil≢snoc}
+use Rattle.storage.proofs.RowFacts.{Facts, rowAt, nil≢snoc, snoc-injective}
 use Rattle.logical_log.specs.Prefix.{rowOf, searchFrom, find, first}
 use Rattle.logical_log.specs.Comparison.{sameFrom}
 use Rattle.logical_log.specs.Observation.{nextNumber, differs, other, counted, missingFrom, noteOf, notesFrom, orNext}
@@ -116,10 +116,10 @@ module _ (row : ℕ → PrefixRow) (rs : List PrefixRow) (f : Facts rs) (at : Ro
   unstored-next : (q : Prefix) (e : Entry) → Unstored q → Unstored (q ++ (e ∷ []))
   unstored-next q e u zero l w = nil≢snoc q e w
   unstored-next q e u (suc k) l w =
-      let s = ap (λ (j : ℕ). prefixAt (resolve rs) j) (sym (add-one k)) ∙ f .steps k l in
-      let par = f .parents k l in
+      let s = ap (λ (j : ℕ). prefixAt (resolve rs) j) (sym (add-one k)) ∙ f .entry k l in
+      let par = f .parent k l in
       u (rowAt rs k .parent) (omega arith)
-      (snoc-inj (prefixAt (resolve rs) (rowAt rs k .parent)) q (entryOf (rowAt rs k)) e (sym s ∙ w) .0)
+      (snoc-injective (prefixAt (resolve rs) (rowAt rs k .parent)) q (sym s ∙ w) .0)
 
   -- the next number is that of the next prefix
   next-numbers : (q : Prefix) (m p : ℕ) (e : Entry) → length (e .content) ≤ 32 → Stands q m p

@@ -31,7 +31,7 @@ use Rattle.storage.specs.Rules.{nodeRight, findingRight}
 use Rattle.storage.proofs.ListLaws.{tabulate-length, tabulate-at, every-at}
 use Rattle.storage.proofs.PartLaws.{word-part}
 use Rattle.storage.proofs.DecodeLaws.{NodeNamed, node-named, finding-test}
-use Rattle.storage.proofs.Resolve.{resolve-length}
+use Rattle.storage.proofs.RowFacts.{resolve-count}
 use Rattle.storage.proofs.Meanings.{Stands, withPrefixes, withFront, withNoted, prefixes-is, rows-count, kept, is, unseen-read, node-written, findings-taken}
 use Rattle.logical_log.specs.Observation.{nextNumber, counted, missingFrom, noteOf, notesFrom, other, writtenBytes, writtenCount, writtenNumber, viewReplaced, findingsKept, viewWritten, missingIn, notesIn, heldIn, tableIn, observed, observedBytes}
 use Rattle.logical_log.specs.Violation.{heldAll, bytesAll}
@@ -159,7 +159,7 @@ module _ (limit : ℕ) (h : Bytes) (x : History) (s : Bytes) (m node : ℕ) (st 
       let a = extends-all F rs (rows-good h x st) 0 1 (omega arith) refl (sound-fits F 1 sound) in
       (λ j. sym count j + missingFrom (prefixRow (prefixesPart h)) (sym count j) 0 0 1 F)
       ∙ missing-made (prefixRow (prefixesPart h)) rs (rows-by-place h x st) F 0 1
-      ∙ sym (resolve-length [] (extendAll rs 0 1 F) ∙ (let z : 0 + length (extendAll rs 0 1 F) ≡ length (extendAll rs 0 1 F) = omega arith in z))
+      ∙ sym (resolve-count (extendAll rs 0 1 F))
       ∙ ap length (a .stores)
       ∙ ap (λ (ps : List Prefix). length (withAll prefixes ps (begunBy F))) same-prefixes
 

@@ -14,11 +14,12 @@ use lib.ListN.{length, getD, length-append, List·getD-map}
 use borrow.Author.Tests.{eqb-true, eqb-false, ltb-true, ltb-false}
 use Rattle.model.specs.Entry.{Entry, Prefix, lastTerm}
 use Rattle.model.specs.View.{remembered}
-use Rattle.model.proofs.Tests.{tf, either, cond-true, cond-false, and-left, and-right}
+use Rattle.model.proofs.Tests.{tf, either, cond-true, cond-false, and-left}
 use Rattle.storage.specs.Tables.{PrefixRow}
 use Rattle.storage.specs.Decode.{prefixAt, entryOf, resolve}
 use Rattle.storage.specs.Rules.{sameRow}
-use Rattle.storage.proofs.Resolve.{Facts, rowAt, noRow, snoc-inj, nil≢snoc, same-row, bytes-same, resolve-length}
+use Rattle.storage.proofs.RowFacts.{Facts, rowAt, emptyRow, nil≢snoc, snoc-injective, same-row-true, resolve-count}
+use Rattle.storage.proofs.PrefixLaws.{found-is}
 use Rattle.logical_log.specs.Prefix.{rowOf, searchFrom, find, isOf, first}
 
 -- the rows by place are those of the list
@@ -87,17 +88,6 @@ module _ (test : ℕ → Bool) where
 
 -- ---- the row of an extension
 
--- equal rows store the same prefix after the same parent's
-same-entry : (s r : PrefixRow) → sameRow s r ≡ true → (s .parent ≡ r .parent) × (entryOf s ≡ entryOf r)
-unfolding sameRow
-same-entry s r e =
-    let a = eqb-true _ _ (and-left (eqb (s .parent) (r .parent)) _ e) in
-    let x = and-right (eqb (s .parent) (r .parent)) _ e in
-    let b = eqb-true _ _ (and-left (eqb (s .term) (r .term)) _ x) in
-    let y = and-right (eqb (s .term) (r .term)) _ x in
-    let c = bytes-same (s .content) (r .content) (and-right (eqb (s .size) (r .size)) _ y) in
-    (a, λ i. record { term = b i; content = c i })
-
 module _ (row : ℕ → PrefixRow) (rs : List PrefixRow) (f : Facts rs) (at : Rows row rs)
     (p i : ℕ) (e : Entry) (h : p ≤ length rs) (short : length (e .content) ≤ 32) where
   abbrev Next : Prefix
@@ -114,10 +104,9 @@ module _ (row : ℕ → PrefixRow) (rs : List PrefixRow) (f : Facts rs) (at : Ro
           let k = t .place in
           let l : k < length rs = (let z = t .before in let y = t .after in omega arith) in
           let kx : k ≡ x = (let z = t .number in omega arith) in
-          let s = same-entry (rowAt rs k) (rowOf p i e) (subst (λ (y : PrefixRow). sameRow y (rowOf p i e) ≡ true) (at k l) (t .passes)) in (
+          let s : sameRow (rowAt rs k) (rowOf p i e) ≡ true = subst (λ (y : PrefixRow). sameRow y (rowOf p i e) ≡ true) (at k l) (t .passes) in (
             (let z = l in omega arith),
-            ap (λ (j : ℕ). prefixAt (resolve rs) j) (ap suc (sym kx) ∙ sym (add-one k)) ∙ f .steps k l
-                ∙ (λ j. prefixAt (resolve rs) (s .0 j) ++ (s .1 j ∷ [])),
+            ap (λ (j : ℕ). prefixAt (resolve rs) j) (ap suc (sym kx) ∙ sym (add-one k)) ∙ found-is rs f (rowOf p i e) k l s,
           )
 
   -- not found: the extended prefix has no number
@@ -129,15 +118,14 @@ module _ (row : ℕ → PrefixRow) (rs : List PrefixRow) (f : Facts rs) (at : Ro
           → (q : ℕ) → q ≤ length rs → prefixAt (resolve rs) q ≡ Next → ⊥
       gone m zero l w = nil≢snoc (prefixAt (resolve rs) p) e w
       gone m (suc k) l w =
-          let s = ap (λ (j : ℕ). prefixAt (resolve rs) j) (sym (add-one k)) ∙ f .steps k l in
-          let both = snoc-inj (prefixAt (resolve rs) (rowAt rs k .parent)) (prefixAt (resolve rs) p) (entryOf (rowAt rs k)) e (sym s ∙ w) in
-          let below = f .parents k l in
-          let par : rowAt rs k .parent ≡ p = f .apart _ _ (omega arith) h (both .0) in
+          let s = ap (λ (j : ℕ). prefixAt (resolve rs) j) (sym (add-one k)) ∙ f .entry k l in
+          let both = snoc-injective (prefixAt (resolve rs) (rowAt rs k .parent)) (prefixAt (resolve rs) p) (sym s ∙ w) in
+          let below = f .parent k l in
+          let par : rowAt rs k .parent ≡ p = f .distinct _ _ (omega arith) h (both .0) in
           let ct : rowAt rs k .content ≡ e .content = ap (λ (x : Entry). x .content) (both .1) in
-          let sk : rowAt rs k .size ≡ length (e .content) =
-          (let a = f .sized k l in let c = ap length ct in let d = f .sizes k l in omega arith) in
+          let sk : rowAt rs k .size ≡ length (e .content) = sym (f .sized k l) ∙ ap length ct in
           tf (sym (subst (λ (y : PrefixRow). sameRow y (rowOf p i e) ≡ true) (sym (at k l))
-          (same-row (rowAt rs k) (rowOf p i e) par (ap (λ (x : Entry). x .term) (both .1)) sk ct))
+          (same-row-true (rowAt rs k) (rowOf p i e) par (ap (λ (x : Entry). x .term) (both .1)) sk ct))
           ∙ m .fails k (omega arith) (omega arith))
 
 -- ---- the remembered prefix
@@ -168,19 +156,15 @@ remembered-miss i t (p ∷ ps) f =
     cond-false (isAt i t p) (some p) (remembered ps i t) (f 0 (omega arith)) ∙ remembered-miss i t ps (λ j l. f (suc j) (suc-le-suc l))
 
 module _ (rs : List PrefixRow) (f : Facts rs) where
-  -- how many there are
-  pub counted : length (resolve rs) ≡ length rs
-  counted = resolve-length [] rs ∙ (let z : 0 + length rs ≡ length rs = omega arith in z)
-
   -- the index of number k + 1 is its row's
   pub row-index : (k : ℕ) → k < length rs → length (prefixAt (resolve rs) (k + 1)) ≡ rowAt rs k .index
   row-index k l =
-      f .ends (k + 1) (omega arith)
+      f .index (k + 1) (omega arith)
       ∙ ap (λ (j : ℕ). getD (0 ∷ map (λ r. r .index) rs) j 0) (add-one k)
-      ∙ List·getD-map (λ (r : PrefixRow). r .index) rs k noRow
+      ∙ List·getD-map (λ (r : PrefixRow). r .index) rs k emptyRow
 
   pub row-term : (k : ℕ) → k < length rs → lastTerm (prefixAt (resolve rs) (k + 1)) ≡ rowAt rs k .term
-  row-term k l = ap lastTerm (f .steps k l) ∙ lastTerm-snoc (prefixAt (resolve rs) (rowAt rs k .parent)) (entryOf (rowAt rs k))
+  row-term k l = ap lastTerm (f .entry k l) ∙ lastTerm-snoc (prefixAt (resolve rs) (rowAt rs k .parent)) (entryOf (rowAt rs k))
 
   -- a prefix's number is at least its length
   abbrev Bounded : ℕ → Type 0
@@ -189,9 +173,9 @@ module _ (rs : List PrefixRow) (f : Facts rs) where
   bound-step : (p : ℕ) → ((q : ℕ) → q < p → Bounded q) → Bounded p
   bound-step zero ih h = le-refl 0
   bound-step (suc k) ih h =
-      let par = f .parents k h in
+      let par = f .parent k h in
       let below = ih (rowAt rs k .parent) (suc-le-suc par) (omega arith) in
-      let e = ap length (ap (λ (j : ℕ). prefixAt (resolve rs) j) (sym (add-one k)) ∙ f .steps k h)
+      let e = ap length (ap (λ (j : ℕ). prefixAt (resolve rs) j) (sym (add-one k)) ∙ f .entry k h)
       ∙ length-append (prefixAt (resolve rs) (rowAt rs k .parent)) (entryOf (rowAt rs k) ∷ []) in
       omega arith
 
@@ -235,7 +219,7 @@ module _ (rs : List PrefixRow) (f : Facts rs) where
             let l : k < length rs = (let z = h .before in let y = h .after in omega arith) in
             let kx : k ≡ x = (let z = h .number in omega arith) in (
               (let z = l in omega arith),
-              remembered-hit i t (resolve rs) k (subst (λ (n : ℕ). k < n) (sym counted) l)
+              remembered-hit i t (resolve rs) k (subst (λ (n : ℕ). k < n) (sym (resolve-count rs)) l)
                   (test-same i t k l ∙ ap (isOf i t) (sym (at k l)) ∙ h .passes)
                   (λ j m. let jl : j < length rs = omega arith in
                   ⊎-elim (λ t′. before-index i t j (ltb-true j (i - 1) t′) jl)
@@ -252,7 +236,7 @@ module _ (rs : List PrefixRow) (f : Facts rs) where
             → remembered (resolve rs) i t ≡ none
         miss m =
             remembered-miss i t (resolve rs)
-            (λ j l. let jl : j < length rs = subst (λ (n : ℕ). j < n) counted l in
+            (λ j l. let jl : j < length rs = subst (λ (n : ℕ). j < n) (resolve-count rs) l in
             ⊎-elim (λ t′. before-index i t j (ltb-true j (i - 1) t′) jl)
             (λ f′. let a = ltb-false j (i - 1) f′ in test-same i t j jl ∙ ap (isOf i t) (sym (at j jl)) ∙ m .fails j a (omega arith))
             (either (ltb j (i - 1))))

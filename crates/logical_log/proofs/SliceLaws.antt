@@ -14,7 +14,7 @@ use Rattle.model.specs.Entry.{Prefix}
 use Rattle.model.proofs.Tests.{either, cond-true, cond-false}
 use Rattle.storage.specs.Tables.{PrefixRow}
 use Rattle.storage.specs.Decode.{prefixAt, entryOf, resolve}
-use Rattle.storage.proofs.Resolve.{Facts, rowAt}
+use Rattle.storage.proofs.RowFacts.{Facts, rowAt}
 use Rattle.logical_log.specs.Prefix.{indexOf, sliceFrom, sliceOf}
 use Rattle.logical_log.specs.declared.prefix.Slice.{Slice}
 use Rattle.logical_log.proofs.PrefixLaws.{Rows, row-index}
@@ -37,7 +37,7 @@ module _ (row : ℕ → PrefixRow) (rs : List PrefixRow) (f : Facts rs) (at : Ro
   back : (i k q : ℕ) → suc k ≤ length rs → i < length (prefixAt (resolve rs) (suc k)) → Cut i (row k .parent) q → Cut i (suc k) q
   back i k q h l c =
       let s : prefixAt (resolve rs) (suc k) ≡ prefixAt (resolve rs) (row k .parent) ++ (entryOf (rowAt rs k) ∷ []) =
-      ap (λ (j : ℕ). prefixAt (resolve rs) j) (sym (add-one k)) ∙ f .steps k h
+      ap (λ (j : ℕ). prefixAt (resolve rs) j) (sym (add-one k)) ∙ f .entry k h
       ∙ ap (λ (r : PrefixRow). prefixAt (resolve rs) (r .parent) ++ (entryOf (rowAt rs k) ∷ [])) (sym (at k h)) in
       let n = ap length s ∙ length-append (prefixAt (resolve rs) (row k .parent)) (entryOf (rowAt rs k) ∷ []) in
       (c .0, c .1 ∙ sym (ap (take i) s ∙ take-append-le i (prefixAt (resolve rs) (row k .parent)) (entryOf (rowAt rs k) ∷ []) (omega arith)))
@@ -57,7 +57,7 @@ module _ (row : ℕ → PrefixRow) (rs : List PrefixRow) (f : Facts rs) (at : Ro
       (λ t.
       let a = leb-false (indexOf row (suc k)) i t in
       let b = index-length (suc k) h in
-      let par : row k .parent ≤ k = subst (λ (r : PrefixRow). r .parent ≤ k) (sym (at k h)) (f .parents k h) in
+      let par : row k .parent ≤ k = subst (λ (r : PrefixRow). r .parent ≤ k) (sym (at k h)) (f .parent k h) in
       let same : row (suc k - 1) .parent ≡ row k .parent = ap (λ (j : ℕ). row j .parent) (let z : suc k - 1 ≡ k = omega arith in z) in
       subst (Cut i (suc k)) (sym (cond-false (leb (indexOf row (suc k)) i) (suc k) _ t ∙ ap (sliceFrom row i fuel) same))
       (back i k (sliceFrom row i fuel (row k .parent)) h (omega arith) (sliced i fuel (row k .parent) (omega arith) (omega arith))))

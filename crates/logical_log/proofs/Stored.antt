@@ -27,7 +27,7 @@ use Rattle.storage.specs.Rules.{prefixRight}
 use Rattle.storage.specs.Decode.{prefixAt, extended, resolve}
 use Rattle.storage.proofs.PartLaws.{word-part, part-length}
 use Rattle.storage.proofs.RuleLaws.{within}
-use Rattle.storage.proofs.Resolve.{rowAt, resolve-append, resolve-length}
+use Rattle.storage.proofs.RowFacts.{rowAt, resolve-snoc, resolve-count}
 use Rattle.storage.proofs.Meanings.{Stands, withPrefixes, prefix-written, prefixes-read, prefixes-is, rows-count, long, kept}
 use Rattle.logical_log.specs.Table.{Table}
 use Rattle.logical_log.specs.Prefix.{rowOf, find}
@@ -184,7 +184,7 @@ module _ (h : Bytes) (x : History) (s : Stands h x) (n p i : ℕ) (e : Entry) (e
       let same-rows : extendRows (tablesOf h .rows) p i e ≡ tablesOf h .rows ++ (rowOf p i e ∷ []) = cond-true _ _ (tablesOf h .rows) g in
       let list : x .prefixes ++ (extended (x .prefixes) row ∷ []) ≡ with prefixes (x .prefixes) Q =
       (λ j. sym same-prefixes j ++ (extended (sym same-prefixes j) (row-is j) ∷ []))
-      ∙ sym (resolve-append [] (tablesOf h .rows) (rowOf p i e)) ∙ sym (ap resolve same-rows) ∙ stores in
+      ∙ sym (resolve-snoc [] (tablesOf h .rows) (rowOf p i e)) ∙ sym (ap resolve same-rows) ∙ stores in
       let right = ap (prefixRight (tablesOf h .rows)) row-is
       ∙ right-row (tablesOf h .rows) (rows-good h x s) p i e (subst (λ (m : ℕ). p ≤ m) (sym count) hp)
       (ap (λ (ps : List Prefix). length (prefixAt ps p) + 1) same-prefixes ∙ next) small short (sym same-search ∙ z) in
@@ -196,7 +196,7 @@ module _ (h : Bytes) (x : History) (s : Stands h x) (n p i : ℕ) (e : Entry) (e
       number-made h n p e t ∙ ap (λ (m : ℕ). m + 1) (sym count) ∙ sym (cond-true _ (length (tablesOf h .rows) + 1) _ g) in
       let size : length (with prefixes (x .prefixes) Q) ≡ n + 1 =
       ap length (sym list) ∙ length-append (x .prefixes) (extended (x .prefixes) row ∷ [])
-      ∙ ap (λ (m : ℕ). m + 1) (ap length (sym same-prefixes) ∙ resolve-length [] (tablesOf h .rows) ∙ (let y : 0 + length (tablesOf h .rows) ≡ n = (let c = count in omega arith) in y)) in
+      ∙ ap (λ (m : ℕ). m + 1) (ap length (sym same-prefixes) ∙ resolve-count (tablesOf h .rows) ∙ count) in
       record {
         stands = after;
         holds = counts ∙ sym size ∙ sym (ap (λ (y : History). length (y .prefixes)) (after .decodes)) ∙ prefixes-read (extendedBytes h n p i e);

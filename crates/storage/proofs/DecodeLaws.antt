@@ -19,7 +19,7 @@ use Rattle.storage.specs.Decode.{prefixAt, extended, resolve, frontIn, c
 use Rattle.storage.specs.Rules.{nodeRight, certificateRight, findingRight, numbered, prefixRight, prefixesRightAfter, withinLimits, committedRight, tablesRight, wellFormed}
 use Rattle.storage.proofs.ListLaws.{both, every-weaker, every-set, map-set, map-every}
 use Rattle.storage.proofs.RuleLaws.{Limited, within, pass}
-use Rattle.storage.proofs.RowFacts.{Facts, facts-of, rows-sized, number-kept, resolve-snoc, resolve-length, right-snoc}
+use Rattle.storage.proofs.RowFacts.{Facts, facts-of, rows-sized, number-kept, resolve-snoc, resolve-count, right-snoc}
 
 -- ---- the storage rules, one by one
 
@@ -298,4 +298,4 @@ history-row t x k =
     same : (p : ℕ) → p ≤ length (t .rows) → prefixAt (resolve (t .rows ++ (x ∷ []))) p ≡ prefixAt (resolve (t .rows)) p
     same p h =
         ap (λ (l : List Prefix). prefixAt l p) (resolve-snoc [] (t .rows) x)
-        ∙ number-kept [] (resolve (t .rows)) (extended (resolve (t .rows)) x) p (omega (arith, resolve-length [] (t .rows)))
+        ∙ number-kept [] (resolve (t .rows)) (extended (resolve (t .rows)) x) p (omega (arith, resolve-count (t .rows)))

@@ -11,4 +11,3 @@ pub mod DecodeLaws
 pub mod Meanings
 pub mod PrefixLaws
 pub mod OrderLaws
-pub mod Resolve

@@ -20,7 +20,7 @@ use Rattle.storage.specs.Writes.{nodeBytes, certificateBytes, findingByt
 use Rattle.storage.proofs.ListLaws.{tabulate-length, tabulate-at, every-snoc, every-set, every-insert, map-set, map-insert}
 use Rattle.storage.proofs.WordLaws.{put-length}
 use Rattle.storage.proofs.PartLaws.{word-part}
-use Rattle.storage.proofs.RowFacts.{resolve-length}
+use Rattle.storage.proofs.RowFacts.{resolve-count}
 use Rattle.storage.proofs.RuleLaws.{within, pass, SameKey, numbered-set}
 use Rattle.storage.proofs.TableLaws.{findings-written, set-node, set-term, set-certificate, prefix-appended, finding-appended, term-appended, committed-set, certificate-added}
 use Rattle.storage.specs.Fresh.{freshHistory}
@@ -43,7 +43,7 @@ module _ (h : Bytes) where
   pub prefixes-read : length (decode h .prefixes) ≡ wordAt h 0 2
   unfolding decode tablesIn
   prefixes-read =
-      resolve-length [] (tablesOf h .rows) ∙ zero-add (length (tablesOf h .rows)) ∙ tabulate-length _ 0 _ ∙ word-part h 0 9 0 2 (omega arith)
+      resolve-count (tablesOf h .rows) ∙ tabulate-length _ 0 _ ∙ word-part h 0 9 0 2 (omega arith)
 
   pub terms-read : length (decode h .terms) ≡ wordAt h 2 2
   unfolding decode tablesIn

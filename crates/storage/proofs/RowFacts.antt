@@ -8,7 +8,8 @@ use native.Mathlib.Decide.{decLt, decLe}
 use native.Mathlib.Omega.{arith}
 use mathlib.Core.Path.{_≡_, refl, ap, sym, _∙_, subst}
 use mathlib.Core.Bool.{Bool, true, false, _&&_, _||_, and-true, and-assoc}
-use mathlib.Core.List.{List, [], _∷_, _++_, map, append-nil, head-eq-of-cons-eq, tail-eq-of-cons-eq}
+use mathlib.Core.Logic.{⊎-elim}
+use mathlib.Core.List.{List, [], _∷_, _++_, map, append-nil, head-eq-of-cons-eq, tail-eq-of-cons-eq, List·Memᴰ, List·Memᴰ·head, List·Memᴰ·tail, List·Memᴰ·not-nil, List·Memᴰ·cases-cons}
 use lib.Dec.{leb, eqb}
 use lib.ListN.{length, getD, drop, length-append, length-map, List·getD-append}
 use lib.Seq.{getD-at, append-snoc}
@@ -34,10 +35,13 @@ map-snoc : {A B : Type 0} (f : A → B) (xs : List A) (x : A) → map f (xs ++ (
 map-snoc f [] x = refl
 map-snoc f (y ∷ ys) x = ap (λ (l : List _). f y ∷ l) (map-snoc f ys x)
 
-snoc-injective : {A : Type 0} {x y : A} (xs ys : List A) → xs ++ (x ∷ []) ≡ ys ++ (y ∷ []) → (xs ≡ ys) × (x ≡ y)
+pub nil≢snoc : {A : Type 0} (xs : List A) (x : A) → [] ≡ xs ++ (x ∷ []) → ⊥
+nil≢snoc xs x e = let q = ap length e ∙ length-append xs (x ∷ []) in omega arith
+
+pub snoc-injective : {A : Type 0} {x y : A} (xs ys : List A) → xs ++ (x ∷ []) ≡ ys ++ (y ∷ []) → (xs ≡ ys) × (x ≡ y)
 snoc-injective [] [] e = (refl, head-eq-of-cons-eq e)
-snoc-injective {x = x} {y = y} [] (b ∷ bs) e = absurd (let q = ap length e ∙ ap suc (length-append bs (y ∷ [])) in omega arith)
-snoc-injective {x = x} {y = y} (a ∷ as′) [] e = absurd (let q = sym (ap length e) ∙ ap suc (length-append as′ (x ∷ [])) in omega arith)
+snoc-injective {y = y} [] (b ∷ bs) e = absurd (nil≢snoc bs y (tail-eq-of-cons-eq e))
+snoc-injective {x = x} (a ∷ as′) [] e = absurd (nil≢snoc as′ x (sym (tail-eq-of-cons-eq e)))
 snoc-injective (a ∷ as′) (b ∷ bs) e =
     let r = snoc-injective as′ bs (tail-eq-of-cons-eq e) in
     ((λ i. head-eq-of-cons-eq e i ∷ r .0 i), r .1)
@@ -50,13 +54,17 @@ unfolding resolveFrom
 resolve-snoc ps [] r = refl
 resolve-snoc ps (s ∷ rs) r = resolve-snoc (ps ++ (extended ps s ∷ [])) rs r
 
-pub resolve-length : (ps : List Prefix) (rs : List PrefixRow) → length (resolveFrom ps rs) ≡ length ps + length rs
+resolve-length : (ps : List Prefix) (rs : List PrefixRow) → length (resolveFrom ps rs) ≡ length ps + length rs
 unfolding resolveFrom
 resolve-length ps [] = omega arith
 resolve-length ps (r ∷ rs) =
     let e = resolve-length (ps ++ (extended ps r ∷ [])) rs in
     let l = length-append ps (extended ps r ∷ []) in
     omega arith
+
+-- as many prefixes as rows
+pub resolve-count : (rs : List PrefixRow) → length (resolve rs) ≡ length rs
+resolve-count rs = resolve-length [] rs ∙ (let e : 0 + length rs ≡ length rs = omega arith in e)
 
 -- ---- the facts
 
@@ -139,7 +147,7 @@ unfolding sameBytes
 same-bytes-refl [] = refl
 same-bytes-refl (x ∷ xs) = ap (λ (b : Bool). b && sameBytes xs xs) (eq-eqb x x refl) ∙ same-bytes-refl xs
 
-same-row-true : (s r : PrefixRow) → s .parent ≡ r .parent → s .term ≡ r .term → s .size ≡ r .size → s .content ≡ r .content → sameRow s r ≡ true
+pub same-row-true : (s r : PrefixRow) → s .parent ≡ r .parent → s .term ≡ r .term → s .size ≡ r .size → s .content ≡ r .content → sameRow s r ≡ true
 unfolding sameRow
 same-row-true s r p t z c =
     rw (eq-eqb (s .parent) (r .parent) p, eq-eqb (s .term) (r .term) t, eq-eqb (s .size) (r .size) z, c) (same-bytes-refl (r .content))
@@ -165,7 +173,7 @@ module _ (rows : List PrefixRow) (r : PrefixRow) (f : Facts rows) (right : RowRi
 
   count : length P ≡ length rows
   unfolding P
-  count = resolve-length [] rows ∙ (let e : 0 + length rows ≡ length rows = omega arith in e)
+  count = resolve-count rows
 
   more : length (rows ++ (r ∷ [])) ≡ length rows + 1
   more = length-append rows (r ∷ [])
@@ -241,7 +249,7 @@ module _ (rows : List PrefixRow) (r : PrefixRow) (f : Facts rows) (right : RowRi
   -- the new prefix is none of the old ones
   not-old : (p : ℕ) → p ≤ length rows → prefixAt P p ≡ extended P r → ⊥
   unfolding P
-  not-old zero h e = let q = ap length e ∙ length-append (prefixAt P (r .parent)) (entryOf r ∷ []) in omega arith
+  not-old zero h e = nil≢snoc (prefixAt P (r .parent)) (entryOf r) e
   not-old (suc j) h e =
       let l : j < length rows = omega arith in
       let s = rowAt rows j in
@@ -320,3 +328,27 @@ right-snoc before (s ∷ rs) r =
     ap (λ (b : Bool). prefixRight before s && b)
     (right-snoc (before ++ (s ∷ [])) rs r ∙ ap (λ (l : List PrefixRow). prefixesRightAfter (before ++ (s ∷ [])) rs && prefixRight l r) (append-snoc before s rs))
     ∙ sym (and-assoc (prefixRight before s) (prefixesRightAfter (before ++ (s ∷ [])) rs) (prefixRight (before ++ (s ∷ rs)) r))
+
+-- ---- stored prefixes by number
+
+-- a number's prefix, other than the empty one, is stored
+pub stored-at : (rs : List PrefixRow) (p : ℕ) → 0 < p → p ≤ length rs → List·Memᴰ (prefixAt (resolve rs) p) (resolve rs)
+stored-at rs zero z h = absurd (not-suc-le-zero z)
+stored-at rs (suc k) z h = go (resolve rs) k (subst (λ (n : ℕ). k < n) (sym (resolve-count rs)) h)
+  where
+    go : (ps : List Prefix) (j : ℕ) → j < length ps → List·Memᴰ (getD ps j []) ps
+    go [] j l = absurd (not-suc-le-zero l)
+    go (x ∷ ps) zero l = List·Memᴰ·head refl
+    go (x ∷ ps) (suc j) l = List·Memᴰ·tail (go ps j (omega arith))
+
+-- each stored prefix has a number
+pub number-of : (rs : List PrefixRow) (q : Prefix) → List·Memᴰ q (resolve rs)
+    → (p : ℕ) × (0 < p) × (p ≤ length rs) × (prefixAt (resolve rs) p ≡ q)
+number-of rs q m =
+    let r = go (resolve rs) m in
+    (suc (r .0), omega arith, omega (arith, r .1, resolve-count rs), r .2)
+  where
+    go : (ps : List Prefix) → List·Memᴰ q ps → (j : ℕ) × (j < length ps) × (getD ps j [] ≡ q)
+    go [] k = absurd (List·Memᴰ·not-nil k)
+    go (x ∷ ps) k =
+        ⊎-elim (λ e. (0, omega arith, sym e)) (λ l. let s = go ps l in (suc (s .0), omega (arith, s .1), s .2)) (List·Memᴰ·cases-cons k)
