@@ -6,7 +6,7 @@ use native.Mathlib.Omega.{arith}
 use mathlib.Core.Path.{_≡_, refl, sym, _∙_, ap, subst}
 use mathlib.Core.Bool.{Bool, true, false, cond, _||_}
 use lib.Dec.{leb, ltb, eqb}
-use lib.ListN.{length, getD}
+use lib.ListN.{length}
 use borrow.Author.Tests.{eq-eqb, ne-eqb, le-leb, lt-leb, lt-ltb, le-ltb}
 use Rattle.model.specs.Sizes.{Bytes}
 use Rattle.model.proofs.Tests.{cond-true, cond-false}
@@ -126,11 +126,6 @@ module _ (t : Bytes) (i j a b m n : ℕ) (ta : a ≡ wordAt t (i * 41 + 4) 4) (t
         let mi : min (wordAt t (i * 41 + 8) 1) 32 ≡ m = (let x = tm in omega arith) in
         let mj : min (wordAt t (j * 41 + 8) 1) 32 ≡ m = (let x = tn in omega arith) in
         rw (mi, mj, ← ta, ← tb, eq-eqb a b e, ← tm, ← tn, eq-eqb m n d) (same-start t t (i * 41 + 9) (j * 41 + 9) m)
-
--- ---- an array's own places
-
-pub from-zero : (u : Bytes) (i : ℕ) → getD u (0 + i) 0 ≡ getD u i 0
-from-zero u i = ap (λ (j : ℕ). getD u j 0) (let e : 0 + i ≡ i = omega arith in e)
 
 -- ---- a row held against an extension, from what was read of it
 

@@ -1,6 +1,6 @@
 -- The front of a view stored in bytes that stand for a history: after it they stand for the history with the front's prefixes.
 -- Assumes nothing.
-use Prim.Native.Nat.{ℕ, zero, suc, _+_, _-_, _*_, _<_, _≤_}
+use Prim.Native.Nat.{ℕ, zero, suc, _+_, _-_, _<_, _≤_}
 use native.Mathlib.Nat.{le-refl}
 use native.Mathlib.Omega.{arith}
 use mathlib.Core.Path.{_≡_, refl, sym, _∙_, ap, subst}
@@ -20,9 +20,9 @@ use Rattle.model.proofs.Tests.{either, cond-true, cond-false}
 use Rattle.records.specs.Places.{Walk, indexAt, lengthAt, nextAt, entriesAt}
 use Rattle.records.proofs.Widths.{field-lt, bytes-length}
 use Rattle.records.proofs.Walks.{next-walk, walk-entered}
-use Rattle.storage.specs.Words.{wordAt, putBytes, wordBytes}
+use Rattle.storage.specs.Words.{wordAt}
 use Rattle.storage.specs.Tables.{prefixRow, prefixesPart, headPart, tablesIn, tablesOf}
-use Rattle.storage.specs.Writes.{prefixBytes, prefixAppended, PrefixFits, prefixOf}
+use Rattle.storage.specs.Writes.{prefixAppended, PrefixFits, prefixOf}
 use Rattle.storage.specs.Rules.{prefixRight}
 use Rattle.storage.specs.Decode.{prefixAt, extended, resolve}
 use Rattle.storage.proofs.PartLaws.{word-part, part-length}
@@ -31,7 +31,7 @@ use Rattle.storage.proofs.RowFacts.{rowAt, resolve-snoc, resolve-count}
 use Rattle.storage.proofs.Meanings.{Stands, withPrefixes, prefix-written, prefixes-read, prefixes-is, rows-count, long, kept}
 use Rattle.logical_log.specs.Table.{Table}
 use Rattle.logical_log.specs.Prefix.{rowOf, find}
-use Rattle.logical_log.specs.Observation.{extensionIn, storedContent, appended, extendedBytes, extendedCount, extendedNumber, writtenBytes, writtenCount, writtenNumber}
+use Rattle.logical_log.specs.Observation.{extensionIn, storedContent, extendedBytes, extendedCount, extendedNumber, writtenBytes, writtenCount, writtenNumber}
 use Rattle.logical_log.proofs.PrefixLaws.{Rows}
 use Rattle.logical_log.proofs.TableLaws.{rows-at, table-facts}
 use Rattle.logical_log.proofs.Extend.{Good, Extended, extendRows, extendNumber, extends-rows, right-row}
@@ -168,11 +168,6 @@ module _ (h : Bytes) (x : History) (s : Stands h x) (n p i : ℕ) (e : Entry) (e
       let c = take-at (e .content) (replicate (32 - length (e .content)) 0) (length (e .content)) refl in
       λ j. record { parent = p; index = i; term = e .term; size = length (e .content); content = c j }
 
-  appended-is : appended h n p i e ≡ prefixAppended h p i (e .term) (length (e .content)) (storedContent e)
-  unfolding appended prefixAppended
-  appended-is =
-      ap (λ (m : ℕ). putBytes (putBytes h (3145 + m * 41) (prefixBytes p i (e .term) (length (e .content)) (storedContent e))) 0 (wordBytes 2 (m + 1))) en
-
   made-step : extensionIn h n p e ≡ 0 → Step h x n p e (extendedBytes h n p i e) (extendedCount h n p e) (extendedNumber h n p e)
   unfolding extendRows extendNumber
   made-step z =
@@ -189,7 +184,7 @@ module _ (h : Bytes) (x : History) (s : Stands h x) (n p i : ℕ) (e : Entry) (e
       ∙ right-row (tablesOf h .rows) (rows-good h x s) p i e (subst (λ (m : ℕ). p ≤ m) (sym count) hp)
       (ap (λ (ps : List Prefix). length (prefixAt ps p) + 1) same-prefixes ∙ next) small short (sym same-search ∙ z) in
       let after : Stands (extendedBytes h n p i e) (withPrefixes x (with prefixes (x .prefixes) Q)) =
-      subst (λ (u : Bytes). Stands u (withPrefixes x (with prefixes (x .prefixes) Q))) (sym (bytes-made h n p i e t ∙ appended-is))
+      subst (λ (u : Bytes). Stands u (withPrefixes x (with prefixes (x .prefixes) Q))) (sym (bytes-made h n p i e t))
       (subst (λ (ps : List Prefix). Stands (prefixAppended h p i (e .term) (length (e .content)) (storedContent e)) (withPrefixes x ps)) list
       (prefix-written h x s p i (e .term) (length (e .content)) (storedContent e) (subst (λ (m : ℕ). m < 512) en l) (row-fits l) right)) in
       let number : extendedNumber h n p e ≡ extendNumber (tablesOf h .rows) p i e =

@@ -195,6 +195,7 @@ module _ (limit : ℕ) (h s : Bytes) (m node missing held count : ℕ) (t : Byte
     observed-room o g =
         record {
           long = whole-long h (o .right);
+          count = e;
           walk = o .walk;
           fits = (let x = whole-table h (o .right) .fits in omega arith);
           room = subst (λ (x : ℕ). x ≤ 512) (sym (ap (λ (x : ℕ). writtenCount h x 0 1 (front (entriesAt s firstEntry m))) e ∙ written-count (front (entriesAt s firstEntry m)) h (wordAt h 0 2) 0 1))

@@ -18,11 +18,12 @@ use Rattle.records.proofs.Widths.{bytes-length}
 use Rattle.records.proofs.Walks.{next-walk, walk-entered, here}
 use Rattle.model.proofs.Tests.{either, cond-cases, cond-true, cond-false}
 use Rattle.records.specs.declared.walk.ShownEntry.{ShownEntry}
-use Rattle.storage.specs.Words.{bytesAt, putBytes, wordBytes}
+use Rattle.storage.specs.Words.{bytesAt, wordAt, putBytes, wordBytes}
 use Rattle.storage.specs.Tables.{prefixRow, prefixesPart}
-use Rattle.storage.specs.Writes.{prefixBytes}
+use Rattle.storage.specs.Writes.{prefixBytes, prefixAppended}
 use Rattle.storage.proofs.ListLaws.{tabulate-length}
 use Rattle.storage.proofs.WordLaws.{put-length}
+use Rattle.storage.proofs.RowLaws.{word-set}
 use Rattle.logical_log.proofs.Turns.{entry-read, front-more, front-stop, front-none, find-within}
 use Rattle.logical_log.specs.Table.{entryValue}
 use Rattle.logical_log.specs.Prefix.{rowOf, find}
@@ -53,17 +54,37 @@ module _ (h : Bytes) (n p : ℕ) (e : Entry) where
 
 pub bytes-found : (h : Bytes) (n p i : ℕ) (e : Entry) → eqb (extensionIn h n p e) 0 ≡ false → extendedBytes h n p i e ≡ h
 unfolding extendedBytes
-bytes-found h n p i e f = cond-false (eqb (extensionIn h n p e) 0) (appended h n p i e) h f
+bytes-found h n p i e f = cond-false (eqb (extensionIn h n p e) 0) (appended h p i e) h f
 
-pub bytes-made : (h : Bytes) (n p i : ℕ) (e : Entry) → eqb (extensionIn h n p e) 0 ≡ true → extendedBytes h n p i e ≡ appended h n p i e
+pub bytes-made : (h : Bytes) (n p i : ℕ) (e : Entry) → eqb (extensionIn h n p e) 0 ≡ true → extendedBytes h n p i e ≡ appended h p i e
 unfolding extendedBytes
-bytes-made h n p i e t = cond-true (eqb (extensionIn h n p e) 0) (appended h n p i e) h t
+bytes-made h n p i e t = cond-true (eqb (extensionIn h n p e) 0) (appended h p i e) h t
 
-appended-is : (h : Bytes) (n p i : ℕ) (e : Entry) (m : ℕ) (c : Bytes) → length (e .content) ≡ m → c ≡ storedContent e
-    → putBytes (putBytes h (3145 + n * 41) (prefixBytes p i (e .term) m c)) 0 (wordBytes 2 (n + 1)) ≡ appended h n p i e
-unfolding appended
-appended-is h n p i e m c a b =
-    λ j. putBytes (putBytes h (3145 + n * 41) (prefixBytes p i (e .term) (sym a j) (b j))) 0 (wordBytes 2 (n + 1))
+-- one more is counted, and the length stays
+pub appended-length : (h : Bytes) (p i t m : ℕ) (c : Bytes) → length (prefixAppended h p i t m c) ≡ length h
+unfolding prefixAppended
+appended-length h p i t m c =
+    put-length (putBytes h (3145 + wordAt h 0 2 * 41) (prefixBytes p i t m c)) 0 (wordBytes 2 (wordAt h 0 2 + 1))
+    ∙ put-length h (3145 + wordAt h 0 2 * 41) (prefixBytes p i t m c)
+
+appended-count : (h : Bytes) (p i t m : ℕ) (c : Bytes) → length h ≡ 24137 → wordAt h 0 2 < 512
+    → wordAt (prefixAppended h p i t m c) 0 2 ≡ wordAt h 0 2 + 1
+unfolding prefixAppended
+appended-count h p i t m c l f =
+    let k = put-length h (3145 + wordAt h 0 2 * 41) (prefixBytes p i t m c) in
+    word-set (putBytes h (3145 + wordAt h 0 2 * 41) (prefixBytes p i t m c)) 0 2 (wordAt h 0 2 + 1) (omega arith) (omega arith)
+
+-- the count of prefixes is that of the bytes
+extended-count : (h : Bytes) (n p i : ℕ) (e : Entry) → length h ≡ 24137 → n ≡ wordAt h 0 2 → extendedCount h n p e ≤ 512
+    → extendedCount h n p e ≡ wordAt (extendedBytes h n p i e) 0 2
+extended-count h n p i e l c r =
+    ⊎-elim
+    (λ t. let m = count-made h n p e t in
+    m ∙ ap (λ (k : ℕ). k + 1) c
+    ∙ sym (ap (λ (u : Bytes). wordAt u 0 2) (bytes-made h n p i e t)
+    ∙ appended-count h p i (e .term) (length (e .content)) (storedContent e) l (omega arith)))
+    (λ f. count-found h n p e f ∙ c ∙ sym (ap (λ (u : Bytes). wordAt u 0 2) (bytes-found h n p i e f)))
+    (either (eqb (extensionIn h n p e) 0))
 
 module _ (h : Bytes) (n p : ℕ) (e : ShownEntry) (q : Bytes) (eq : q ≡ prefixesPart h) (x : ℕ) (ex : x ≡ find (prefixRow q) n (rowOf p 0 (entryValue e))) where
   extension-is : x ≡ extensionIn h n p (entryValue e)
@@ -85,11 +106,11 @@ module _ (h : Bytes) (n p : ℕ) (e : ShownEntry) (q : Bytes) (eq : q ≡ prefix
     nowhere : eqb (extensionIn h n p (entryValue e)) 0 ≡ true
     nowhere = subst (λ (y : ℕ). eqb y 0 ≡ true) extension-is (eq-eqb x 0 z)
 
-    pub extend-room : n < 512
-    extend-room = (let r = g .room in let c = count-made h n p (entryValue e) nowhere in omega arith)
+    pub extend-room : wordAt h 0 2 < 512
+    extend-room = (let r = g .room in let c = count-made h n p (entryValue e) nowhere in let k = g .count in omega arith)
 
     pub extend-made : (h′ : Bytes)
-        → h′ ≡ putBytes (putBytes h (3145 + n * 41) (prefixBytes p (e .index .0) (e .term .0) (e .length) (e .content))) 0 (wordBytes 2 (n + 1))
+        → h′ ≡ prefixAppended h p (e .index .0) (e .term .0) (e .length) (e .content)
         → ExtendedAs h n p e (n + 1) (n + 1) h′
     extend-made h′ w =
         record {
@@ -98,9 +119,11 @@ module _ (h : Bytes) (n p : ℕ) (e : ShownEntry) (q : Bytes) (eq : q ≡ prefix
           bytes = w ∙ same-bytes ∙ sym (bytes-made h n p (e .index .0) (entryValue e) nowhere);
         }
       where
-        same-bytes : putBytes (putBytes h (3145 + n * 41) (prefixBytes p (e .index .0) (e .term .0) (e .length) (e .content))) 0 (wordBytes 2 (n + 1))
-            ≡ appended h n p (e .index .0) (entryValue e)
-        same-bytes = appended-is h n p (e .index .0) (entryValue e) (e .length) (e .content) (value-length e) (g .padded)
+        same-bytes : prefixAppended h p (e .index .0) (e .term .0) (e .length) (e .content) ≡ appended h p (e .index .0) (entryValue e)
+        same-bytes =
+            let a = sym (value-length e) in
+            let b = g .padded in
+            λ j. prefixAppended h p (e .index .0) (e .term .0) (a j) (b j)
 
 -- ---- the whole front
 
@@ -127,10 +150,10 @@ number-within h n p e =
     (either (eqb (extensionIn h n p e) 0))
 
 pub bytes-length-one : (h : Bytes) (n p i : ℕ) (e : Entry) → length (extendedBytes h n p i e) ≡ length h
-unfolding extendedBytes appended
+unfolding extendedBytes
 bytes-length-one h n p i e =
-    cond-cases (λ (u : Bytes). length u ≡ length h) (eqb (extensionIn h n p e) 0) _ h
-    (λ _. put-length _ 0 (wordBytes 2 (n + 1)) ∙ put-length h (3145 + n * 41) _) (λ _. refl)
+    cond-cases (λ (u : Bytes). length u ≡ length h) (eqb (extensionIn h n p e) 0) (appended h p i e) h
+    (λ _. appended-length h p i (e .term) (length (e .content)) (storedContent e)) (λ _. refl)
 
 pub written-cons : (h : Bytes) (n p i : ℕ) (e : Entry) (es : List Entry)
     → (writtenBytes h n p i (e ∷ es) ≡ writtenBytes (extendedBytes h n p i e) (extendedCount h n p e) (extendedNumber h n p e) (i + 1) es)
@@ -152,13 +175,14 @@ pub record Written (h₀ : Bytes) (n₀ : ℕ) (s : Bytes) (m : ℕ) (h : Bytes)
   pub number : writtenNumber h₀ n₀ 0 1 (front (entriesAt s firstEntry m)) ≡ writtenNumber h n p i (frontFrom i (entriesAt s at left))
   pub walk : Walk s at left
   pub long : length h ≡ 24137
+  pub held : n ≡ wordAt h 0 2
   pub within : p ≤ n
   pub small : i ≤ 257
 
 module _ (h₀ : Bytes) (n₀ : ℕ) (s : Bytes) (m : ℕ) (g : Storing h₀ n₀ s m) where
   pub writing-starts : Written h₀ n₀ s m h₀ firstEntry m 1 0 n₀
   writing-starts =
-      record { bytes = refl; counts = refl; number = refl; walk = g .walk; long = g .long; within = omega arith; small = omega arith }
+      record { bytes = refl; counts = refl; number = refl; walk = g .walk; long = g .long; held = g .count; within = omega arith; small = omega arith }
 
   module _ (h : Bytes) (at left i p n : ℕ) (w : Written h₀ n₀ s m h at left i p n) where
     done : frontFrom i (entriesAt s at left) ≡ [] → StoredAs h₀ n₀ s m p h
@@ -193,16 +217,20 @@ module _ (h₀ : Bytes) (n₀ : ℕ) (s : Bytes) (m : ℕ) (g : Storing h₀ n�
         steps : frontFrom i (entriesAt s at left) ≡ entryValue e ∷ frontFrom (i + 1) (entriesAt s (e .next) (left - 1))
         steps = more ∙ (let a = sym read in let b = sym (ap (λ (z : ShownEntry). z .next) q) in λ z. a z ∷ frontFrom (i + 1) (entriesAt s (b z) (left - 1)))
 
+        room : extendedCount h n p (entryValue e) ≤ 512
+        room =
+            (let a = g .room in
+            let b = w .counts ∙ ap (writtenCount h n p i) steps ∙ written-cons h n p i (entryValue e) _ .1 in
+            let c = count-grows (frontFrom (i + 1) (entriesAt s (e .next) (left - 1))) (extendedBytes h n p i (entryValue e)) (extendedCount h n p (entryValue e)) (extendedNumber h n p (entryValue e)) (i + 1) in
+            omega arith)
+
         pub writing-asks : Extending h n p e
         writing-asks =
             record {
               long = w .long;
+              count = w .held;
               number = w .within;
-              room =
-                  (let a = g .room in
-                  let b = w .counts ∙ ap (writtenCount h n p i) steps ∙ written-cons h n p i (entryValue e) _ .1 in
-                  let c = count-grows (frontFrom (i + 1) (entriesAt s (e .next) (left - 1))) (extendedBytes h n p i (entryValue e)) (extendedCount h n p (entryValue e)) (extendedNumber h n p (entryValue e)) (i + 1) in
-                  omega arith);
+              room = room;
               fits = writing-fits;
               short = subst (λ (z : ShownEntry). z .length ≤ 32) (sym q) (stands .short);
               padded = entry-padded s at e q (stands .short);
@@ -221,6 +249,7 @@ module _ (h₀ : Bytes) (n₀ : ℕ) (s : Bytes) (m : ℕ) (g : Storing h₀ n�
               number = w .number ∙ ap (writtenNumber h n p i) steps ∙ u .2 ∙ (λ z. writtenNumber (bb z) (cc z) (dd z) (i + 1) R);
               walk = subst (λ (z : ℕ). Walk s z (left - 1)) (sym (ap (λ (z : ShownEntry). z .next) q)) (next-walk s at left (w .walk) l);
               long = ap length (sym bb) ∙ bytes-length-one h n p i (entryValue e) ∙ w .long;
+              held = a .holds ∙ extended-count h n p i (entryValue e) (w .long) (w .held) room ∙ ap (λ (u : Bytes). wordAt u 0 2) bb;
               within = (let r = number-within h n p (entryValue e) in let y = a .is in let z = a .holds in omega arith);
               small = (let y = walk-entered s at left (w .walk) l .within in let z = ap (λ (v : ShownEntry). v .index .0) q in omega arith);
             }

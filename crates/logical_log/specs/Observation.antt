@@ -13,7 +13,7 @@ use Rattle.model.specs.Record.{front, lastIndex}
 use Rattle.records.specs.Places.{Walk, firstEntry, entriesAt}
 use Rattle.storage.specs.Words.{putBytes, wordBytes, wordAt}
 use Rattle.storage.specs.Tables.{PrefixRow, prefixRow, prefixesPart, nodeRow, nodesPart, findingsPart}
-use Rattle.storage.specs.Writes.{prefixBytes, nodeBytes}
+use Rattle.storage.specs.Writes.{prefixAppended, nodeBytes}
 use Rattle.storage.specs.Rules.{wellFormed}
 use Rattle.logical_log.specs.declared.observation.Observed.{Observed}
 use Rattle.records.specs.declared.walk.ShownEntry.{ShownEntry}
@@ -85,15 +85,14 @@ extensionIn h n p e = find (prefixRow (prefixesPart h)) n (rowOf p 0 e)
 abbrev pub storedContent : Entry → Bytes
 storedContent e = e .content ++ replicate (32 - length (e .content)) 0
 
--- the history with the extension of p by e to index i as its row n
-unfoldable pub appended : Bytes → ℕ → ℕ → ℕ → Entry → Bytes
-appended h n p i e =
-    putBytes (putBytes h (3145 + n * 41) (prefixBytes p i (e .term) (length (e .content)) (storedContent e))) 0 (wordBytes 2 (n + 1))
+-- the history with the extension of p by e to index i as its next row
+abbrev pub appended : Bytes → ℕ → ℕ → Entry → Bytes
+appended h p i e = prefixAppended h p i (e .term) (length (e .content)) (storedContent e)
 
 -- found or made: the history, how many prefixes it holds, and the number of the extension
 unfoldable pub extendedBytes : Bytes → ℕ → ℕ → ℕ → Entry → Bytes
-unfolding extensionIn appended
-extendedBytes h n p i e = cond (eqb (extensionIn h n p e) 0) (appended h n p i e) h
+unfolding extensionIn prefixAppended
+extendedBytes h n p i e = cond (eqb (extensionIn h n p e) 0) (appended h p i e) h
 
 unfoldable pub extendedCount : Bytes → ℕ → ℕ → Entry → ℕ
 unfolding extensionIn
@@ -119,9 +118,10 @@ unfolding extendedBytes extendedCount extendedNumber
 writtenNumber h n p i [] = p
 writtenNumber h n p i (e ∷ es) = writtenNumber (extendedBytes h n p i e) (extendedCount h n p e) (extendedNumber h n p e) (i + 1) es
 
--- what `extend` asks: a history of the right length, with room for the extension
+-- what `extend` asks: a history of the right length that holds n prefixes, with room for the extension
 pub record Extending (h : Bytes) (n p : ℕ) (e : ShownEntry) : Type 0 where
   pub long : length h ≡ 24137
+  pub count : n ≡ wordAt h 0 2
   pub number : p ≤ n
   pub room : extendedCount h n p (entryValue e) ≤ 512
   pub fits : n ≤ 512
@@ -134,9 +134,10 @@ pub record ExtendedAs (h : Bytes) (n p : ℕ) (e : ShownEntry) (number count : �
   pub holds : count ≡ extendedCount h n p (entryValue e)
   pub bytes : h′ ≡ extendedBytes h n p (e .index .0) (entryValue e)
 
--- what storing the front of a view of m entries asks: room for its prefixes
+-- what storing the front of a view of m entries asks: a history that holds n prefixes, with room for the front's
 pub record Storing (h : Bytes) (n : ℕ) (s : Bytes) (m : ℕ) : Type 0 where
   pub long : length h ≡ 24137
+  pub count : n ≡ wordAt h 0 2
   pub walk : Walk s firstEntry m
   pub fits : n ≤ 512
   pub room : writtenCount h n 0 1 (front (entriesAt s firstEntry m)) ≤ 512

@@ -1,27 +1,25 @@
 // Prefixes by number (types/prefix.rs): a prefix is a stored row, which extends the prefix of a smaller number by one entry;
 // 0 is the empty prefix.
 ghost use mathlib.Core.Path.{_≡_};
-ghost use Prim.Native.Nat.{_+_, _*_, _-_, _≤_, _<_};
+ghost use Prim.Native.Nat.{_≤_, _<_};
 ghost use lib.ListN.{length};
-ghost use Rattle.storage.specs.Words.{bytesAt, putBytes, wordBytes};
-ghost use Rattle.storage.specs.Writes.{prefixBytes};
 ghost use Rattle.storage.specs.Tables.{prefixRow};
-ghost use Rattle.storage.specs.Rules.{sameBytes, sameRow};
+ghost use Rattle.storage.specs.Rules.{sameRow};
 ghost use Rattle.logical_log.specs.Table.{Table, entryValue};
 ghost use Rattle.logical_log.specs.Observation.{Extending, ExtendedAs};
 ghost use Rattle.logical_log.specs.Prefix.{rowOf, find, isOf, first, sliceOf};
 use records::walk::ShownEntry;
-use storage::head::set_prefix_count;
 use storage::layout::PREFIX_WIDTH;
 use storage::layout::PREFIXES_LENGTH;
 use storage::layout::PREFIXES_START;
 use storage::layout::part;
+use storage::prefixes::append_prefix;
 use storage::prefixes::index_at;
 use storage::prefixes::index_of;
 use storage::prefixes::parent_at;
-use storage::prefixes::set_prefix;
 use storage::prefixes::size_at;
 use storage::prefixes::term_at;
+use storage::words::same_bytes;
 use units::LogIndex;
 use units::Term;
 
@@ -29,21 +27,6 @@ use units::Term;
 pub enum Slice {
     Prefix(usize),
     Beyond,
-}
-
-// The n bytes at `o` are the first n of the content.
-fn same_content(prefixes: &[u8], o: usize, content: [u8; 32], n: usize) -> bool
-    requires { ⌜ (n ≤ 32) × (o + n ≤ length (now prefixes)) ⌝ }
-    ensures { λ r. ⌜ r ≡ sameBytes (bytesAt (now (prefixes .entry)) o n) (bytesAt content 0 n) ⌝ }
-{
-    let mut i = 0;
-    while i < n {
-        if prefixes[o + i] != content[i] {
-            return false;
-        }
-        i += 1;
-    }
-    true
 }
 
 // Row k extends the prefix of number p by the entry (`matches_extension`).
@@ -62,7 +45,7 @@ fn matches_extension(prefixes: &[u8], k: usize, p: usize, e: ShownEntry) -> bool
         return false;
     }
     let content = e.content;
-    same_content(prefixes, k * PREFIX_WIDTH + 9, content, n)
+    same_bytes(prefixes, k * PREFIX_WIDTH + 9, &content, 0, n)
 }
 
 // The number of the stored prefix that extends that of number p by the entry, or 0. It comes after p.
@@ -128,24 +111,6 @@ pub struct Extended {
     pub count: usize,
 }
 
-// The extension of the prefix of number p by the entry becomes row `count`.
-fn append(history: &mut [u8], count: usize, p: usize, e: ShownEntry)
-    requires { ⌜ (count < 512) × (length (now history) ≡ 24137) ⌝ }
-    ensures { λ r. ⌜ now (history .exit) ≡ putBytes (putBytes (now (history .entry)) (3145 + count * 41) (prefixBytes p (e .index .0) (e .term .0) (e .length) (e .content))) 0 (wordBytes 2 (count + 1)) ⌝ }
-{
-    let content = e.content;
-    set_prefix(
-        &mut history[..],
-        count,
-        p,
-        e.index,
-        e.term,
-        e.length,
-        &content,
-    );
-    set_prefix_count(&mut history[..], count + 1);
-}
-
 // The one step that lengthens a prefix: the extension of the prefix of number p by the entry is found or made.
 pub fn extend(history: &mut [u8], count: usize, p: usize, e: ShownEntry) -> Extended
     requires { ⌜ Extending (now history) count p e ⌝ }
@@ -160,7 +125,8 @@ pub fn extend(history: &mut [u8], count: usize, p: usize, e: ShownEntry) -> Exte
     if k != 0 {
         return Extended { number: k, count };
     }
-    append(&mut history[..], count, p, e);
+    let content = e.content;
+    append_prefix(&mut history[..], p, e.index, e.term, e.length, &content);
     Extended {
         number: count + 1,
         count: count + 1,

@@ -1,6 +1,7 @@
 -- `logical_log::prefix::matches_extension` meets its contract.
 -- Assumes nothing.
 use Prim.Native.Nat.{_-_}
+use native.Mathlib.Omega.{arith}
 use lib.ListN.{length}
 use borrow.Author.Needs.{needs}
 use Rattle.logical_log.proofs.Loops.{match-parent, match-term, match-size, match-content}
@@ -38,24 +39,27 @@ returns-3 c =
     (b1 .before .parent-at .ensures .is) (b1 .if1 .left) (b2 .before .before .term-at .ensures) (b2 .if2 .left)
     (c .before .size-at .ensures .is) (c .if3 .taken)
 
-mul-same-content : tie.Need-mul-same-content
-mul-same-content c = search needs
+mul-same-bytes : tie.Need-mul-same-bytes
+mul-same-bytes c = search needs
 
-add-same-content : tie.Need-add-same-content
-add-same-content c = search needs
+add-same-bytes : tie.Need-add-same-bytes
+add-same-bytes c = search needs
 
-same-content-requires : tie.Need-same-content-requires
-same-content-requires c κs = search needs
+slice-aggregate-same-bytes : tie.Need-slice-aggregate-same-bytes
+slice-aggregate-same-bytes c = search needs
+
+same-bytes-requires : tie.Need-same-bytes-requires
+same-bytes-requires c κs = (search needs, omega (arith, slice-aggregate-same-bytes c))
 
 returns-4 : tie.Need-returns-4
 returns-4 c =
-    let b3 = c .before .before in
+    let b3 = c .before .before .before in
     let b2 = b3 .before .before in
     let b1 = b2 .before .before .before in
     let s = b1 .before .before .before .args in
     match-content (s .prefixes .now) (s .e .content) (s .k) (s .p) (s .e .term .0) (s .e .length) _ _ _
     (b1 .before .parent-at .ensures .is) (b1 .if1 .left) (b2 .before .before .term-at .ensures) (b2 .if2 .left)
-    (b3 .before .size-at .ensures .is) (b3 .if3 .left) (b1 .before .before .before .pre .2) _ (c .same-content .ensures)
+    (b3 .before .size-at .ensures .is) (b3 .if3 .left) (b1 .before .before .before .pre .2) _ (c .same-bytes .ensures)
 
 pub matches-extension-spec : {M : Type 1} → statement M
 matches-extension-spec =
@@ -67,7 +71,8 @@ matches-extension-spec =
     returns-2
     size-at-requires
     returns-3
-    mul-same-content
-    add-same-content
-    same-content-requires
+    mul-same-bytes
+    add-same-bytes
+    slice-aggregate-same-bytes
+    same-bytes-requires
     returns-4)
