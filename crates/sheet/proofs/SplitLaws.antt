@@ -1,21 +1,23 @@
 -- Laws of the split: which piece is at a place, that a whole one lies within the bytes, and a rest moved to the front.
 -- Assumes nothing.
-use Prim.Native.Nat.{ℕ, suc, _+_, _-_, _≤_, _<_}
-use native.Mathlib.Nat.{zero-add}
+use Prim.Native.Nat.{ℕ, zero, suc, _+_, _-_, _≤_, _<_}
+use native.Mathlib.Nat.{zero-add, eq-or-lt-of-le}
 use native.Mathlib.Omega.{arith}
 use mathlib.Core.Path.{_≡_, refl, ap, sym, _∙_}
 use mathlib.Core.Bool.{Bool, true, false, cond}
 use mathlib.Core.Logic.{⊎-elim}
 use lib.Dec.{ltb, eqb}
-use lib.ListN.{length, getD, set, length-set}
-use lib.Seq.{getD-set-same, getD-set-other}
-use borrow.Author.Tests.{ltb-false, lt-ltb, le-ltb, eq-eqb, ne-eqb}
-use native.Mathlib.Nat.{eq-or-lt-of-le}
+use mathlib.Core.List.{List, [], _∷_}
+use lib.ListN.{length, getD, set, take, drop, length-set, length-drop}
+use lib.Seq.{getD-set-same, getD-set-other, getD-drop, drop-drop}
+use borrow.Author.Tests.{ltb-false, eqb-false, lt-ltb, le-ltb, eq-eqb, ne-eqb}
 use Rattle.model.specs.Sizes.{Bytes}
 use Rattle.storage.specs.Words.{wordAt, bytesAt}
-use Rattle.storage.proofs.WordLaws.{bytes-shift}
+use Rattle.storage.specs.Layout.{part}
+use Rattle.storage.proofs.WordLaws.{word-shift, bytes-shift}
 use Rattle.sheet.specs.declared.split.Piece.{Piece}
-use Rattle.sheet.specs.Pieces.{pieceAt, Moved}
+use Rattle.sheet.specs.Pieces as spec
+use Rattle.sheet.specs.Pieces.{whole, cut, piecesIn, pieces, pieceAt, piecesBy, Split, Moved}
 
 -- ---- the piece at a place
 
@@ -47,6 +49,74 @@ module _ (s : Bytes) (at : ℕ) where
         e,
       )
 
+-- ---- the split by its first piece
+
+cond-both : {A : Type 0} (b : Bool) (x y z w : A) → x ≡ y → (b ≡ false → z ≡ w) → cond b x z ≡ cond b y w
+cond-both true x y z w p q = p
+cond-both false x y z w p q = q refl
+
+-- past the length of s the most does not matter
+pieces-enough : (f g : ℕ) (s : Bytes) → length s < f → length s < g → piecesIn f s ≡ piecesIn g s
+unfolding piecesIn
+pieces-enough zero g s h k = absurd (omega arith)
+pieces-enough (suc f) zero s h k = absurd (omega arith)
+pieces-enough (suc f) (suc g) s h k =
+    cond-both (eqb (length s) 0) [] [] _ _ refl
+    (λ e. let some = eqb-false (length s) 0 e in
+    cond-both (ltb (length s) 2) (cut ∷ []) (cut ∷ []) _ _ refl
+    (λ _. cond-both (ltb (length s - 2) (wordAt s 0 2)) (cut ∷ []) (cut ∷ []) _ _ refl
+    (λ _. let l = length-drop (2 + wordAt s 0 2) s in
+    ap (λ (ps : List spec.Piece). whole (part s 2 (wordAt s 0 2)) ∷ ps)
+    (pieces-enough f g (drop (2 + wordAt s 0 2) s) (omega arith) (omega arith)))))
+
+word-drop : (at : ℕ) (s : Bytes) → wordAt (drop at s) 0 2 ≡ wordAt s at 2
+word-drop at s = word-shift (drop at s) s 0 at 2 (λ i h. ap (λ (k : ℕ). getD (drop at s) k 0) (zero-add i) ∙ getD-drop at s i 0)
+
+part-drop : (at n : ℕ) (s : Bytes) → part (drop at s) 2 n ≡ part s (at + 2) n
+unfolding part
+part-drop at n s = ap (take n) (drop-drop 2 at s)
+
+-- one turn of the split of n bytes: by the length w that is said first, the bytes b behind it and the later pieces ps
+abbrev turn : ℕ → ℕ → Bytes → List spec.Piece → List spec.Piece
+turn n w b ps = cond (eqb n 0) [] (cond (ltb n 2) (cut ∷ []) (cond (ltb (n - 2) w) (cut ∷ []) (whole b ∷ ps)))
+
+pieces-turn : (u : Bytes) → pieces u ≡ turn (length u) (wordAt u 0 2) (part u 2 (wordAt u 0 2)) (piecesIn (length u) (drop (2 + wordAt u 0 2) u))
+unfolding pieces piecesIn
+pieces-turn u = refl
+
+pieces-most : (f : ℕ) (u : Bytes) → length u < f → piecesIn f u ≡ pieces u
+unfolding pieces
+pieces-most f u h = pieces-enough f (suc (length u)) u h (omega arith)
+
+by-tests : (a b c : Bool) (s : Bytes) (at w : ℕ) (ps : List spec.Piece) → (a ≡ false → ps ≡ pieces (drop (at + 2 + w) s))
+    → cond a [] (cond b (cut ∷ []) (cond c (cut ∷ []) (whole (part s (at + 2) w) ∷ ps)))
+    ≡ piecesBy s (cond a Piece.Nothing (cond b Piece.Cut (cond c Piece.Cut (Piece.Whole (at + 2) w))))
+by-tests true b c s at w ps e = refl
+by-tests false true c s at w ps e = refl
+by-tests false false true s at w ps e = refl
+by-tests false false false s at w ps e = ap (λ (x : List spec.Piece). whole (part s (at + 2) w) ∷ x) (e refl)
+
+-- the pieces of what lies from a place on are those that the piece there tells
+pub split-by : (s : Bytes) (at : ℕ) → pieces (drop at s) ≡ piecesBy s (pieceAt s at)
+unfolding pieceAt
+split-by s at =
+    let u = drop at s in
+    let v = wordAt s at 2 in
+    let l : length u ≡ length s - at = length-drop at s in
+    let w : wordAt u 0 2 ≡ v = word-drop at s in
+    let b : part u 2 (wordAt u 0 2) ≡ part s (at + 2) v = ap (part u 2) w ∙ part-drop at v s in
+    let d : drop (2 + wordAt u 0 2) u ≡ drop (at + 2 + v) s
+    = drop-drop (2 + wordAt u 0 2) at s ∙ ap (λ (k : ℕ). drop k s) (let e : at + (2 + wordAt u 0 2) ≡ at + 2 + v = omega arith in e) in
+    pieces-turn u
+    ∙ (λ i. turn (l i) (w i) (b i) (piecesIn (length u) (d i)))
+    ∙ by-tests (eqb (length s - at) 0) (ltb (length s - at) 2) (ltb (length s - at - 2) v) s at v (piecesIn (length u) (drop (at + 2 + v) s))
+    (λ e. let some = eqb-false (length s - at) 0 e in
+    let m = length-drop (at + 2 + v) s in
+    pieces-most (length u) (drop (at + 2 + v) s) (omega arith))
+
+pub split-told : (s : Bytes) (at : ℕ) (r : Piece) → r ≡ pieceAt s at → Split s at r
+split-told s at r e = record { answer = e; rest = split-by s at ∙ ap (piecesBy s) (sym e) }
+
 -- what a whole piece's tests were
 whole-tests : (a b c : Bool) (x y body size : ℕ)
     → cond a Piece.Nothing (cond b Piece.Cut (cond c Piece.Cut (Piece.Whole x y))) ≡ Piece.Whole body size
@@ -62,10 +132,10 @@ pub record Within (s : Bytes) (at body size : ℕ) : Type 0 where
   pub sized : size ≡ wordAt s at 2
   pub ends : body + size ≤ length s
 
-pub whole-within : (s : Bytes) (at body size : ℕ) (p : Piece) → p ≡ pieceAt s at → p ≡ Piece.Whole body size → Within s at body size
+pub whole-within : (s : Bytes) (at body size : ℕ) (p : Piece) → Split s at p → p ≡ Piece.Whole body size → Within s at body size
 unfolding pieceAt
 whole-within s at body size p e f =
-    let w = whole-tests (eqb (length s - at) 0) (ltb (length s - at) 2) (ltb (length s - at - 2) (wordAt s at 2)) (at + 2) (wordAt s at 2) body size (sym e ∙ f) in
+    let w = whole-tests (eqb (length s - at) 0) (ltb (length s - at) 2) (ltb (length s - at - 2) (wordAt s at 2)) (at + 2) (wordAt s at 2) body size (sym (e .answer) ∙ f) in
     let two = ltb-false (length s - at) 2 (w .0) in
     let fits = ltb-false (length s - at - 2) (wordAt s at 2) (w .1) in
     record { begins = sym (w .2); sized = sym (w .3); ends = omega (arith, w .2, w .3) }

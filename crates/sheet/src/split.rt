@@ -1,8 +1,7 @@
 // A recording split into its pieces: each behind its length in two bytes, high byte first.
-ghost use mathlib.Core.Path.{_≡_};
 ghost use Prim.Native.Nat.{_+_, _≤_};
 ghost use lib.ListN.{length};
-ghost use Rattle.sheet.specs.Pieces.{pieceAt, Moved};
+ghost use Rattle.sheet.specs.Pieces.{Split, Moved};
 use storage::words::get16;
 
 // What the bytes from a place on begin with.
@@ -17,7 +16,7 @@ pub enum Piece {
 
 pub fn piece_at(s: &[u8], at: usize) -> Piece
     requires { ⌜ at ≤ length (now s) ⌝ }
-    ensures { λ r. ⌜ r ≡ pieceAt (now (s .entry)) at ⌝ }
+    ensures { λ r. ⌜ Split (now (s .entry)) at r ⌝ }
 {
     let left = s.len() - at;
     if left == 0 {
