@@ -26,7 +26,7 @@ use Rattle.logical_log.specs.Prefix.{sliceOf}
 use Rattle.commit.specs.Prefix.{keptOf, rowsOf, nodeOf, seenOf, longerIn, endIn, agreeIn, flagsOf, unseenSet, keepBytes, findingsSet, difference, heldWith, tableWith, noteAnswer, noteLeaves, commitAnswer, commitBytes, Inserted, Observed}
 use Rattle.commit.specs.declared.prefix.Kept.{Kept}
 use Rattle.commit.specs.declared.prefix.CommitAnswer.{CommitAnswer}
-use Rattle.commit.proofs.Formed.{formed}
+use Rattle.storage.proofs.WellFormed.{formed}
 use Rattle.commit.proofs.PrefixTurns.{insert-differs, insert-longer, insert-shorter, observe-unseen, observe-zero, observe-first, observe-later}
 use Rattle.commit.proofs.PrefixLaws.{changed, at, committed-is, owner-is, front-is, findings-held, empty-is, Part, slice-is, longer-means, end-means, agree-means, end-limit, unseen-written, noted-written, noted-right, difference-holds, table-length, keep-written}
 

@@ -1,4 +1,3 @@
-pub mod Formed
 pub mod MarkTurns
 pub mod MarkLaws
 pub mod TermTurns

@@ -17,16 +17,17 @@ use Rattle.model.specs.Terms.{withMark, lowered}
 use Rattle.model.proofs.Tests.{either, cond-true, cond-false, and-right}
 use Rattle.storage.specs.Words.{wordAt, wordBytes, putBytes}
 use Rattle.storage.specs.Tables.{CertificateRow, certificateRow, certificateRows, certificatesPart, headPart, tablesIn, tablesOf, withCertificates}
-use Rattle.storage.specs.Decode.{certificateIn, historyIn}
+use Rattle.storage.specs.Decode.{certificateIn}
 use Rattle.storage.specs.Rules.{certificateRight}
-use Rattle.storage.proofs.ListLaws.{tabulate-at, tabulate-set, every-at, every-set, map-set}
+use Rattle.storage.proofs.ListLaws.{tabulate-set, every-set, map-set}
 use Rattle.storage.proofs.WordLaws.{put-before, put-after, word-bytes-length}
-use Rattle.storage.proofs.PartLaws.{word-part, part-length}
+use Rattle.storage.proofs.PartLaws.{part-length}
 use Rattle.storage.proofs.RowLaws.{certificate-own, word-set, word-before, word-after}
 use Rattle.storage.proofs.RuleLaws.{pass, within, numbered-set}
 use Rattle.storage.proofs.TableLaws.{tablesFrom, in-certificates}
-use Rattle.storage.proofs.DecodeLaws.{certificate-named, CertificateNamed, certificate-test, kept-certificates, well-formed-of, decode-is, Kept}
-use Rattle.storage.proofs.Meanings.{Stands, withElections, long, kept, is, certificates-count, certificates-is}
+use Rattle.storage.proofs.DecodeLaws.{CertificateNamed, certificate-test, kept-certificates, Kept}
+use Rattle.storage.proofs.Meanings.{Stands, stands, withElections, long, kept, is, certificates-is}
+use Rattle.storage.proofs.WellFormed.{rows-count, certificates-count, certificate-row, formed}
 use Rattle.commit.specs.Marks.{markSet, certificateOf, isPast, lowerBytes, lowerAll}
 use Rattle.commit.proofs.MarkTurns.{mark-length}
 
@@ -88,26 +89,12 @@ tables-marked h k m right l f =
     })
 
 module _ (h : Bytes) (x : History) (s : Stands h x) where
-  row-is : (k : ℕ) (d : CertificateRow) → k < wordAt h 6 1 → getD (tablesOf h .certificates) k d ≡ certificateOf h k
-  unfolding tablesIn
-  row-is k d l =
-      tabulate-at (certificateRow (certificatesPart h)) 0 (wordAt (headPart h) 6 1) k d (let e = word-part h 0 9 6 1 (omega arith) in omega arith)
-      ∙ ap (certificateRow (certificatesPart h)) (zero-add k)
-
-  -- a stored certificate keeps the rules
-  row-named : (k : ℕ) → k < wordAt h 6 1 → CertificateNamed (length (tablesOf h .rows)) (certificateOf h k)
-  row-named k l =
-      subst (CertificateNamed (length (tablesOf h .rows))) (row-is k (certificateOf h k) l)
-      (certificate-named _ _
-      (every-at (certificateRight (length (tablesOf h .rows))) (tablesOf h .certificates) k (certificateOf h k) (kept h x s .certificates)
-      (let e = certificates-count h x s in omega arith)))
-
   -- the certificate of the model at that place
   pub certificate-at : (k : ℕ) → k < wordAt h 6 1 → getD (x .certificates) k (certificateIn (x .prefixes) (certificateOf h k)) ≡ certificateIn (x .prefixes) (certificateOf h k)
   certificate-at k l =
       ap (λ (cs : List Certificate). getD cs k (certificateIn (x .prefixes) (certificateOf h k))) (sym (certificates-is h x s))
       ∙ List·getD-map (certificateIn (x .prefixes)) (tablesOf h .certificates) k (certificateOf h k)
-      ∙ ap (certificateIn (x .prefixes)) (row-is k (certificateOf h k) l)
+      ∙ ap (certificateIn (x .prefixes)) (certificate-row h k (certificateOf h k) l)
 
   pub mark-written : (k m : ℕ) → k < wordAt h 6 1 → m ≤ 256
       → Stands (markSet h k m) (withElections x (set (x .certificates) k (withMark (certificateIn (x .prefixes) (certificateOf h k)) m)))
@@ -116,23 +103,19 @@ module _ (h : Bytes) (x : History) (s : Stands h x) where
       let n = length (tablesOf h .rows) in
       let cs = tablesOf h .certificates in
       let c = marked (certificateOf h k) m in
-      let g = row-named k l in
-      let named : CertificateNamed n c = record { log = g .log; mark = f; leader = g .leader; present = g .present } in
-      let count = certificates-count h x s in
+      let g = formed h (s .right) .certificate k l in
+      let named : CertificateNamed n c = record { log = omega (arith, g .log, rows-count h); mark = f; leader = g .leader; present = g .present } in
+      let count = certificates-count h in
       let e = tables-marked h k m (long h x s) (let y = lim .certificates in omega arith) (omega arith) in
       let keeps : Kept (withCertificates (tablesOf h) (set cs k c)) =
       kept-certificates (tablesOf h) (kept h x s) (set cs k c) (omega (arith, length-set cs k c, lim .certificates))
       (every-set (certificateRight n) cs k c (certificate-test n c named) (kept h x s .certificates))
-      (numbered-set cs k c c (subst (λ (y : CertificateRow). (c .term ≡ y .term) × (c .number ≡ y .number)) (sym (row-is k c l)) (refl, refl)) ∙ kept h x s .numbered) in
-      record {
-        right = well-formed-of (markSet h k m) (mark-length h k m ∙ long h x s) (subst Kept (sym e) keeps);
-        decodes =
-            decode-is (markSet h k m) ∙ ap historyIn e
-            ∙ ap (λ (y : History). withElections y (map (certificateIn (y .prefixes)) (set cs k c))) (is h x s)
-            ∙ ap (withElections x)
-            (map-set (certificateIn (x .prefixes)) cs k c
-            ∙ ap (λ (q : List Certificate). set q k (certificateIn (x .prefixes) c)) (certificates-is h x s));
-      }
+      (numbered-set cs k c c (subst (λ (y : CertificateRow). (c .term ≡ y .term) × (c .number ≡ y .number)) (sym (certificate-row h k c l)) (refl, refl)) ∙ kept h x s .numbered) in
+      stands (markSet h k m) (withCertificates (tablesOf h) (set cs k c)) _ (mark-length h k m ∙ long h x s) e keeps
+      (ap (λ (y : History). withElections y (map (certificateIn (y .prefixes)) (set cs k c))) (is h x s)
+      ∙ ap (withElections x)
+      (map-set (certificateIn (x .prefixes)) cs k c
+      ∙ ap (λ (q : List Certificate). set q k (certificateIn (x .prefixes) c)) (certificates-is h x s)))
 
 -- ---- marks lowered
 
@@ -155,7 +138,7 @@ module _ (t first : ℕ) (some : 0 < first) where
       ⊎-elim
       (λ p.
       let low : first ≤ r .mark = leb-true _ _ (and-right (ltb t (r .term)) _ p) in
-      let most = row-named h x s k l .mark in
+      let most = formed h (s .right) .certificate k l .mark in
       let w = mark-written h x s k (first - 1) l (omega arith) in
       let to : set (x .certificates) k (withMark C (first - 1)) ≡ A ++ (withMark c (first - 1) ∷ B) =
       ap (λ (cs : List Certificate). set cs k (withMark C (first - 1))) e ∙ set-at A c B (withMark C (first - 1)) k a
@@ -184,4 +167,4 @@ module _ (t first : ℕ) (some : 0 < first) where
       (sym (append-assoc A (lowered t first c ∷ []) B)) (length-append A (lowered t first c ∷ []) ∙ ap (λ (n : ℕ). n + 1) a))
     where
       count-map : (u : Bytes) (y : History) (w : Stands u y) → length (map (certificateIn (y .prefixes)) (tablesOf u .certificates)) ≡ wordAt u 6 1
-      count-map u y w = length-map (tablesOf u .certificates) (certificateIn (y .prefixes)) ∙ certificates-count u y w
+      count-map u y w = length-map (tablesOf u .certificates) (certificateIn (y .prefixes)) ∙ certificates-count u

@@ -18,7 +18,7 @@ use Rattle.model.proofs.Tests.{tf, either, cond-true, cond-false}
 use Rattle.storage.proofs.Meanings.{Stands}
 use Rattle.commit.specs.Terms.{termsAnswer, termsBytes, recordBytes, termsReply}
 use Rattle.commit.specs.declared.terms.TermsAnswer.{TermsAnswer}
-use Rattle.commit.proofs.Formed.{formed}
+use Rattle.storage.proofs.WellFormed.{formed}
 use Rattle.commit.specs.Prefix.{commitAnswer, commitBytes, commitReply}
 use Rattle.commit.specs.declared.prefix.CommitAnswer.{CommitAnswer}
 use Rattle.commit.proofs.TermLaws.{terms-held, record-means}

@@ -17,26 +17,24 @@ use Rattle.model.proofs.Tests.{cond-cases}
 use Rattle.model.proofs.Members.{with-there, with-fresh, member}
 use Rattle.storage.specs.Words.{wordAt}
 use Rattle.storage.specs.Lists.{every}
-use Rattle.storage.specs.Tables.{PrefixRow, NodeRow, findingRow, findingRows, prefixRows, findingsPart, prefixesPart, tablesIn, tablesOf, withFindings}
-use Rattle.storage.specs.Decode.{prefixAt, resolve, historyIn}
+use Rattle.storage.specs.Tables.{PrefixRow, NodeRow, findingRows, prefixRows, findingsPart, prefixesPart}
+use Rattle.storage.specs.Decode.{prefixAt, resolve}
 use Rattle.storage.specs.Rules.{findingRight}
-use Rattle.storage.proofs.ListLaws.{tabulate-length, every-snoc}
-use Rattle.storage.proofs.PartLaws.{word-part, part-length}
+use Rattle.storage.proofs.ListLaws.{every-snoc}
+use Rattle.storage.proofs.PartLaws.{part-length}
 use Rattle.storage.proofs.RuleLaws.{pass}
-use Rattle.storage.proofs.TableLaws.{findings-written}
-use Rattle.storage.proofs.DecodeLaws.{Kept, FindingNamed, finding-test, kept-findings, well-formed-of, decode-is}
+use Rattle.storage.proofs.DecodeLaws.{FindingNamed, finding-test}
 use Rattle.storage.proofs.RowFacts.{Facts}
-use Rattle.storage.proofs.Meanings.{Stands, withNoted, long, kept, is, prefixes-is, prefixes-read, findings-read, committed-read, owner-read, front-read, last-read, node-written, committed-written}
+use Rattle.storage.proofs.Meanings.{Stands, withNoted, long, kept, is, prefixes-read, findings-read, owner-read, front-read, last-read, node-written, committed-written, prefixes-stored, findings-stored, committed-stored, findings-taken}
 use Rattle.logical_log.specs.Prefix.{indexOf, sliceOf}
 use Rattle.logical_log.specs.Comparison.{sameFrom}
 use Rattle.logical_log.specs.declared.prefix.Slice.{Slice}
-use Rattle.logical_log.proofs.TableLaws.{rows-length, rows-at, table-facts}
+use Rattle.logical_log.proofs.TableLaws.{rows-length, rows-at}
 use Rattle.logical_log.proofs.SliceLaws.{index-length, slice-cases}
 use Rattle.logical_log.proofs.ComparisonLaws.{same-prefix}
 use Rattle.logical_log.proofs.ViolationLaws.{Holds, note-holds, note-length}
 use Rattle.commit.specs.Prefix.{rowsOf, nodeOf, longerIn, endIn, sameSlices, agreeIn, unseenSet, keepBytes, findingsSet, difference, heldWith, tableWith}
-use Rattle.commit.proofs.Formed.{Formed, formed, rows-are}
-use Rattle.commit.proofs.PrefixTurns.{findings-length}
+use Rattle.storage.proofs.WellFormed.{Formed, formed, formed-rows}
 
 -- the history with a node's unseen mark, the committed prefix with its owner, and the findings anew
 abbrev pub changed : History → ℕ → ℕ → Prefix → ℕ → List Finding → History
@@ -73,10 +71,10 @@ module _ (h : Bytes) (x : History) (s : Stands h x) where
   count = rows-length (prefixesPart h) (wordAt h 0 2)
 
   known : Facts rows
-  known = table-facts (prefixesPart h) (wordAt h 0 2) (facts .table)
+  known = formed-rows h facts
 
   resolves : resolve rows ≡ x .prefixes
-  resolves = ap resolve (sym (rows-are h)) ∙ prefixes-is h x s
+  resolves = prefixes-stored h x s
 
   number : (p : ℕ) → p ≤ wordAt h 0 2 → p ≤ length rows
   number p l = subst (λ (m : ℕ). p ≤ m) (sym count) l
@@ -84,8 +82,7 @@ module _ (h : Bytes) (x : History) (s : Stands h x) where
   -- ---- what is read
 
   pub committed-is : x .committed ≡ at (wordAt h 4 2)
-  committed-is =
-      ap (λ (y : History). y .committed) (sym (s .decodes)) ∙ committed-read h ∙ ap (λ (y : History). prefixAt (y .prefixes) (wordAt h 4 2)) (s .decodes)
+  committed-is = sym (committed-stored h x s)
 
   pub owner-is : x .owner ≡ wordAt h 8 1
   owner-is = ap (λ (y : History). y .owner) (sym (s .decodes)) ∙ owner-read h
@@ -102,11 +99,6 @@ module _ (h : Bytes) (x : History) (s : Stands h x) where
 
   pub findings-held : length (x .findings) ≡ wordAt h 7 1
   findings-held = ap (λ (y : History). length (y .findings)) (sym (s .decodes)) ∙ findings-read h
-
-  findings-are : findingRows (findingsPart h) (wordAt h 7 1) ≡ x .findings
-  unfolding tablesIn
-  findings-are =
-      ap (findingRows (findingsPart h)) (sym (word-part h 0 9 7 1 (omega arith))) ∙ ap (λ (y : History). y .findings) (is h x s)
 
   pub empty-is : (p : ℕ) → p ≤ wordAt h 0 2 → at p ≡ [] → p ≡ 0
   empty-is p l e =
@@ -213,14 +205,8 @@ module _ (h : Bytes) (x : History) (s : Stands h x) where
       → Stands (findingsSet h t m) (withNoted x fs)
   unfolding findingsSet
   noted-written t m fs lt lm e r =
-      let size : length fs ≡ m = ap length (sym e) ∙ tabulate-length (findingRow t) 0 m in
-      let w = findings-written h (long h x s) t m lt (omega arith) ∙ ap (withFindings (tablesOf h)) e in
-      record {
-        right =
-            well-formed-of (findingsSet h t m) (findings-length h t m ∙ long h x s)
-            (subst Kept (sym w) (kept-findings (tablesOf h) (kept h x s) fs (omega arith) r));
-        decodes = decode-is (findingsSet h t m) ∙ ap historyIn w ∙ ap (λ (y : History). withNoted y fs) (is h x s);
-      }
+      subst (λ (gs : List Finding). Stands (findingsSet h t m) (withNoted x gs)) e
+      (findings-taken h x s t m lt lm (ap (every findingRight) e ∙ r))
 
   findings-right : every findingRight (x .findings) ≡ true
   findings-right =
@@ -242,7 +228,7 @@ module _ (h : Bytes) (x : History) (s : Stands h x) where
   difference-holds n i l b =
       note-holds (findingsPart h) (wordAt h 7 1) (difference n i) (x .findings) (part-length h 2121 1024 (let z = long h x s in omega arith))
       (record { name = omega arith; node = omega arith; index = omega arith; term = omega arith })
-      (inl (facts .findings, findings-are))
+      (inl (facts .findings, findings-stored h x s))
 
   pub table-length : (n i : ℕ) → length (tableWith h n i) ≡ 1024
   unfolding tableWith

@@ -2,51 +2,33 @@
 -- Assumes nothing.
 use Prim.Native.Nat.{ℕ, zero, suc, _+_, _*_, _≤_, _<_}
 use native.Mathlib.Omega.{arith}
-use mathlib.Core.Path.{_≡_, refl, sym, _∙_, ap, subst, subst₂}
+use mathlib.Core.Path.{_≡_, refl, sym, _∙_, ap, subst}
 use mathlib.Core.Bool.{Bool, true, false}
-use mathlib.Core.Logic.{⊎-elim}
 use lib.Dec.{ltb, eqb}
 use lib.ListN.{length}
 use borrow.Author.Tests.{eq-eqb, ne-eqb, lt-ltb, le-ltb}
 use Rattle.model.specs.Sizes.{Bytes}
 use Rattle.model.proofs.Tests.{cond-cases, cond-true, cond-false}
 use Rattle.storage.specs.Words.{wordAt, wordBytes, putBytes}
-use Rattle.storage.specs.Tables.{NodeRow, nodeRow, prefixRow, prefixRows, nodesPart, findingsPart, prefixesPart}
+use Rattle.storage.specs.Tables.{NodeRow, nodeRow, prefixRow, nodesPart, findingsPart, prefixesPart}
 use Rattle.storage.specs.Values.{numberIndex}
 use Rattle.storage.specs.Writes.{nodeBytes, committedSet}
 use Rattle.storage.proofs.WordLaws.{put-length}
 use Rattle.storage.proofs.PartLaws.{put-whole}
-use Rattle.logical_log.specs.Table.{Table}
 use Rattle.logical_log.specs.Prefix.{sliceOf}
 use Rattle.logical_log.specs.Comparison.{sameFrom}
 use Rattle.logical_log.specs.Violation.{noteHeld, noteBytes}
 use Rattle.logical_log.specs.declared.prefix.Slice.{Slice}
-use Rattle.logical_log.proofs.TableLaws.{rows-length, rows-at, table-facts}
-use Rattle.logical_log.proofs.SliceLaws.{slice-cases}
+use Rattle.logical_log.proofs.TableLaws.{whole-table, slice-within}
 use Rattle.logical_log.proofs.ViolationLaws.{note-length}
 use Rattle.commit.specs.Prefix.{rowsOf, keptOf, nodeOf, seenOf, longerIn, endIn, sameSlices, agreeIn, flagsOf, unseenSet, keepBytes, findingsSet, difference, heldWith, tableWith, noteAnswer, noteLeaves, insertAnswer, insertLeaves, keptAnswer, keptLeaves, seenAnswer, seenLeaves, commitAnswer, commitBytes, Noted, Inserted, Observed}
 use Rattle.commit.specs.declared.prefix.Kept.{Kept}
 use Rattle.commit.specs.declared.prefix.CommitAnswer.{CommitAnswer}
-use Rattle.commit.proofs.Formed.{Formed}
-
--- ---- the table of prefixes, as it is lent
-
-pub table-lent : (h q : Bytes) (n : ℕ) → Formed h → q ≡ prefixesPart h → n ≡ wordAt h 0 2 → Table q n
-table-lent h q n f e m = subst₂ Table (sym e) (sym m) (f .table)
+use Rattle.storage.proofs.WellFormed.{Formed}
 
 -- a part of a stored prefix is stored
-pub slice-within : (h : Bytes) (p i q : ℕ) → Formed h → p ≤ wordAt h 0 2 → sliceOf (rowsOf h) p i ≡ Slice.Prefix q → q ≤ wordAt h 0 2
-slice-within h p i q f l e =
-    let n = wordAt h 0 2 in
-    let t = prefixesPart h in
-    let size = rows-length t n in
-    ⊎-elim (λ b. absurd (let b0 = b .0 in let z : _≡_ {A = ℕ} 0 1 = cc in omega arith))
-    (λ b.
-    let b1 = b .1 in
-    let same : q ≡ b .0 = cc in
-    let w = b .3 in
-    omega arith)
-    (slice-cases (prefixRow t) (prefixRows t n) (table-facts t n (f .table)) (rows-at t n) p i (omega arith))
+stored-within : (h : Bytes) (p i q : ℕ) → Formed h → p ≤ wordAt h 0 2 → sliceOf (rowsOf h) p i ≡ Slice.Prefix q → q ≤ wordAt h 0 2
+stored-within h p i q f l e = slice-within (prefixesPart h) (wordAt h 0 2) p i q (whole-table h f) l e
 
 -- ---- seen
 
@@ -69,7 +51,7 @@ module _ (h : Bytes) (n : ℕ) (q : Bytes) (eq : q ≡ nodesPart h) (x : NodeRow
 
 pub seen-within : (h : Bytes) (n i p : ℕ) → Formed h → n < 64 → seenOf h n i ≡ Slice.Prefix p → p ≤ wordAt h 0 2
 unfolding seenOf
-seen-within h n i p f l e = slice-within h (nodeOf h n .front) i p f (f .node n l .front) e
+seen-within h n i p f l e = stored-within h (nodeOf h n .front) i p f (f .node n l .front) e
 
 -- ---- compared
 
@@ -106,7 +88,7 @@ module _ (h : Bytes) (a b i : ℕ) (q : Bytes) (eq : q ≡ prefixesPart h) (r : 
       sym (ap (λ (x : Slice). sameSlices (rowsOf h) x (sliceOf (rowsOf h) b i)) (first-slice ∙ e) ∙ none-first (sliceOf (rowsOf h) b i))
 
   pub slice-kept : (p : ℕ) → Formed h → a ≤ wordAt h 0 2 → r ≡ Slice.Prefix p → p ≤ wordAt h 0 2
-  slice-kept p f l e = slice-within h a i p f l (first-slice ∙ e)
+  slice-kept p f l e = stored-within h a i p f l (first-slice ∙ e)
 
   module _ (p : ℕ) (e : r ≡ Slice.Prefix p) (s : Slice) (es : s ≡ sliceOf (prefixRow q) b i) where
     both-slices : agreeIn h a b i ≡ sameSlices (rowsOf h) (Slice.Prefix p) s

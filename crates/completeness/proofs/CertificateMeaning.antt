@@ -20,7 +20,7 @@ use Rattle.model.proofs.Tests.{no-begins}
 use Rattle.storage.specs.Words.{wordAt}
 use Rattle.storage.specs.Tables.{PrefixRow, CertificateRow, prefixRow, prefixesPart, termRow, termsPart}
 use Rattle.storage.specs.Decode.{prefixAt, certificateIn, resolve}
-use Rattle.storage.proofs.Meanings.{Stands}
+use Rattle.storage.proofs.Meanings.{Stands, committed-stored, terms-stored}
 use Rattle.logical_log.specs.Prefix.{sliceOf}
 use Rattle.logical_log.specs.declared.prefix.Slice.{Slice}
 use Rattle.logical_log.proofs.ComparisonLaws.{same-prefix}
@@ -29,7 +29,7 @@ use Rattle.completeness.specs.Relevance.{lastRelevant, committedEnd, rec
 use Rattle.completeness.specs.Judgement.{sameSlice, hasThrough, lacksThrough, lackingOf, lackingAt, lackingIn, flagIn, lackingsIn, flagsIn}
 use Rattle.completeness.proofs.RelevanceLaws.{last-below, at-most}
 use Rattle.completeness.proofs.JudgementLaws.{shorter-differs, both-there}
-use Rattle.completeness.proofs.Read.{right, rows, rows-count, rows-facts, rows-here, resolved, committed-is, end-is, terms-is}
+use Rattle.completeness.proofs.Read.{right, rows, rows-count, rows-facts, rows-here, resolved, end-is}
 
 -- ---- tests
 
@@ -78,7 +78,7 @@ module _ (h : Bytes) (x : History) (s : Stands h x) where
   prefix-is p = ap (λ (ps : List Prefix). prefixAt ps p) (resolved h x s)
 
   committed-here : prefixAt (resolve (rows h x s)) (wordAt h 4 2) ≡ x .committed
-  committed-here = prefix-is (wordAt h 4 2) ∙ committed-is h x s
+  committed-here = prefix-is (wordAt h 4 2) ∙ committed-stored h x s
 
   -- ---- the relevant index
 
@@ -87,7 +87,7 @@ module _ (h : Bytes) (x : History) (s : Stands h x) where
   relevant-means c =
       ap (λ (n : ℕ). lastRelevant (termRow (termsPart h)) (c .mark) (c .term) (min n (wordAt h 2 2))) (end-is h x s)
       ∙ sym (last-below (c .mark) (length (x .committed)) (c .term) (termRow (termsPart h)) (wordAt h 2 2))
-      ∙ ap (lastBelow (c .mark) (length (x .committed)) (c .term) 1) (terms-is h x s)
+      ∙ ap (lastBelow (c .mark) (length (x .committed)) (c .term) 1) (terms-stored h x s)
 
   pub relevant-within : (c : CertificateRow) → (relevantIn h c ≤ length (x .committed)) × (relevantIn h c ≤ 256)
   unfolding relevantIn recordedEnd

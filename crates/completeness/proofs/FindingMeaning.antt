@@ -1,29 +1,25 @@
--- The findings of a check: those that it notes keep the storage rules, and the table written back stands for them.
+-- The findings of a check: those that it notes keep the storage rules.
 -- Assumes nothing.
 use Prim.Native.Nat.{ℕ, _<_, _≤_}
 use native.Mathlib.Omega.{arith}
-use mathlib.Core.Path.{_≡_, refl, sym, _∙_, ap, subst}
+use mathlib.Core.Path.{_≡_, refl, sym, _∙_, subst}
 use mathlib.Core.Bool.{true, cond}
 use mathlib.Core.Logic.{⊎-elim}
 use mathlib.Core.List.{List, [], _∷_, _++_, List·Memᴰ, List·Memᴰ·head, List·Memᴰ·tail, List·Memᴰ·not-nil, List·Memᴰ·append-cases, List·Memᴰ·eq-of-singleton}
 use lib.Dec.{eqb}
-use lib.ListN.{length}
 use Rattle.model.specs.Sizes.{Bytes}
 use Rattle.model.specs.Entry.{isIn, with, withAll}
 use Rattle.model.specs.History.{Finding, History, sameFinding, noted}
 use Rattle.model.proofs.Tests.{cond-cases}
 use Rattle.storage.specs.Lists.{every}
-use Rattle.storage.specs.Words.{wordAt, wordBytes, putBytes}
-use Rattle.storage.specs.Tables.{CertificateRow, findingRows, tablesOf, withFindings}
-use Rattle.storage.specs.Decode.{historyIn}
+use Rattle.storage.specs.Words.{wordAt}
+use Rattle.storage.specs.Tables.{CertificateRow}
 use Rattle.storage.specs.Rules.{findingRight}
 use Rattle.storage.specs.Writes.{FindingFits}
 use Rattle.storage.proofs.ListLaws.{every-snoc}
-use Rattle.storage.proofs.WordLaws.{put-length}
 use Rattle.storage.proofs.RuleLaws.{pass}
-use Rattle.storage.proofs.TableLaws.{findings-written}
-use Rattle.storage.proofs.DecodeLaws.{Kept, well-formed-of, FindingNamed, finding-test, kept-findings, decode-is}
-use Rattle.storage.proofs.Meanings.{Stands, long, kept, is, withNoted}
+use Rattle.storage.proofs.DecodeLaws.{FindingNamed, finding-test}
+use Rattle.storage.proofs.Meanings.{Stands}
 use Rattle.completeness.specs.Relevance.{relevantIn}
 use Rattle.completeness.specs.Judgement.{lacksThrough, lackingOf, lackingAt, lackingIn, lackingsIn}
 use Rattle.completeness.proofs.Fits.{Stored}
@@ -78,17 +74,3 @@ unfolding noted withAll
 noted-right [] fs e f = e
 noted-right (g ∷ gs) fs e f =
     noted-right gs (with sameFinding fs g) (with-right fs g e (finding-test g (f g (List·Memᴰ·head refl) .0))) (λ y m. f y (List·Memᴰ·tail m))
-
--- ---- the table written back, with how many there are
-
-pub findings-mean : (h : Bytes) (x : History) → Stands h x → (t : Bytes) (m : ℕ) (fs : List Finding) → length t ≡ 1024 → m ≤ 128
-    → findingRows t m ≡ fs → length fs ≤ 128 → every findingRight fs ≡ true → Stands (putBytes (putBytes h 2121 t) 7 (wordBytes 1 m)) (withNoted x fs)
-findings-mean h x s t m fs lt lm e lf r =
-    let u = putBytes (putBytes h 2121 t) 7 (wordBytes 1 m) in
-    let tables : tablesOf u ≡ withFindings (tablesOf h) fs =
-    findings-written h (long h x s) t m lt (omega arith) ∙ ap (withFindings (tablesOf h)) e in
-    record {
-      right = well-formed-of u (put-length (putBytes h 2121 t) 7 (wordBytes 1 m) ∙ put-length h 2121 t ∙ long h x s)
-          (subst Kept (sym tables) (kept-findings (tablesOf h) (kept h x s) fs lf r));
-      decodes = decode-is u ∙ ap historyIn tables ∙ ap (λ (y : History). withNoted y fs) (is h x s);
-    }

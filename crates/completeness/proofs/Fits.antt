@@ -17,9 +17,9 @@ use Rattle.storage.specs.Tables.{CertificateRow, certificateRow, certificatesPa
 use Rattle.storage.specs.Decode.{certificateIn}
 use Rattle.storage.proofs.PartLaws.{part-length, part-at}
 use Rattle.storage.proofs.DecodeLaws.{CertificateNamed}
-use Rattle.storage.proofs.Meanings.{Stands}
+use Rattle.storage.proofs.Meanings.{Stands, certificates-stored}
 use Rattle.completeness.specs.Judgement.{certificatesOf}
-use Rattle.completeness.proofs.Read.{right, certificates-are}
+use Rattle.completeness.proofs.Read.{right}
 
 -- the term of every certificate is one of 32 bits
 abbrev pub TermsFit : History → Type 0
@@ -68,9 +68,9 @@ module _ (h : Bytes) (x : History) (s : Stands h x) where
   stored f c m =
       let r = row-of (certificateRow (certificatesPart h)) 0 (wordAt h 6 1) c m in
       let held : List·Memᴰ (certificateIn (x .prefixes) c) (x .certificates) =
-      subst (List·Memᴰ (certificateIn (x .prefixes) c)) (certificates-are h x s) (Memᴰ·map (certificateIn (x .prefixes)) m) in
+      subst (List·Memᴰ (certificateIn (x .prefixes) c)) (certificates-stored h x s) (Memᴰ·map (certificateIn (x .prefixes)) m) in
       record {
-        named = subst (CertificateNamed (wordAt h 0 2)) (sym (r .2)) (right h x s .named (r .0) (let z = r .1 in omega arith));
+        named = subst (CertificateNamed (wordAt h 0 2)) (sym (r .2)) (right h x s .certificate (r .0) (let z = r .1 in omega arith));
         term = f (certificateIn (x .prefixes) c) held;
       }
 
@@ -80,7 +80,7 @@ module _ (h : Bytes) (x : History) (s : Stands h x) where
       let l = right h x s .long in
       let b : Octets (certificatesPart h) = part-octets h 1417 704 (omega arith) o in
       let a : (c : CertificateRow) × List·Memᴰ c (certificatesOf h) × (certificateIn (x .prefixes) c ≡ d) =
-      Memᴰ·of-map (certificateIn (x .prefixes)) (certificatesOf h) (subst (List·Memᴰ d) (sym (certificates-are h x s)) m) in
+      Memᴰ·of-map (certificateIn (x .prefixes)) (certificatesOf h) (subst (List·Memᴰ d) (sym (certificates-stored h x s)) m) in
       let r = row-of (certificateRow (certificatesPart h)) 0 (wordAt h 6 1) (a .0) (a .1) in
       subst (λ (y : Certificate). y .term < 4294967296) (a .2)
       (subst (λ (c : CertificateRow). c .term < 4294967296) (sym (r .2)) (word-below (certificatesPart h) (r .0 * 11) 4 b))

@@ -2,56 +2,36 @@
 -- Assumes nothing.
 use Prim.Native.Nat.{ℕ, _+_, _-_, _<_, _≤_}
 use native.Mathlib.Omega.{arith}
-use mathlib.Core.Path.{_≡_, refl, sym, _∙_, ap, subst, subst₂}
+use mathlib.Core.Path.{_≡_, refl, sym, _∙_, ap, subst}
 use mathlib.Core.Bool.{Bool, true, false, not}
-use mathlib.Core.Logic.{⊎-elim}
-use mathlib.Core.List.{List, [], _∷_, _++_}
-use lib.Dec.{ltb, eqb}
+use mathlib.Core.List.{List, [], _∷_}
+use lib.Dec.{eqb}
 use lib.ListN.{length}
-use borrow.Author.Tests.{eq-eqb, ne-eqb, ltb-false}
+use borrow.Author.Tests.{eq-eqb, ne-eqb}
 use Rattle.model.specs.Sizes.{Bytes}
-use Rattle.model.specs.History.{Finding}
-use Rattle.model.proofs.Tests.{cond-cases, cond-true, cond-false}
+use Rattle.model.proofs.Tests.{cond-true, cond-false}
 use Rattle.storage.specs.Lists.{tabulate}
 use Rattle.storage.specs.Words.{wordAt}
-use Rattle.storage.specs.Tables.{PrefixRow, CertificateRow, prefixRow, prefixRows, prefixesPart, certificateRow, certificatesPart}
+use Rattle.storage.specs.Tables.{PrefixRow, CertificateRow, prefixRow, prefixesPart, certificateRow, certificatesPart}
 use Rattle.storage.proofs.ListLaws.{tabulate-cons, tabulate-none}
-use Rattle.logical_log.specs.Table.{Table}
 use Rattle.logical_log.specs.Prefix.{sliceOf}
 use Rattle.logical_log.specs.Comparison.{sameFrom}
-use Rattle.logical_log.specs.Violation.{notedAt, noteHeld, noteBytes, heldAll, bytesAll}
+use Rattle.logical_log.specs.Violation.{noteHeld, noteBytes, heldAll, bytesAll}
 use Rattle.logical_log.specs.declared.prefix.Slice.{Slice}
 use Rattle.logical_log.specs.declared.prefix.Slice.the-variants.{Prefix, Beyond}
-use Rattle.logical_log.proofs.TableLaws.{rows-length, rows-at, table-facts}
-use Rattle.logical_log.proofs.SliceLaws.{slice-cases}
 use Rattle.logical_log.proofs.ViolationLaws.{all-length}
+use Rattle.storage.proofs.WellFormed.{Formed}
+use Rattle.logical_log.proofs.Turns.{held-append, bytes-append, held-few}
 use Rattle.completeness.specs.Relevance.{relevantIn}
 use Rattle.completeness.specs.Judgement.{sameSlice, hasThrough, lacksThrough, lackingOf, lackingAt, lackingIn, flagIn, NotedAs, JudgedAs, lackingsIn, flagsIn, certificatesOf, JudgedAll}
-use Rattle.completeness.proofs.Sound.{Sound}
-
--- ---- the table of prefixes as it is lent
-
-pub table-read : (h p : Bytes) (n : ℕ) → Sound h → p ≡ prefixesPart h → n ≡ wordAt h 0 2 → Table p n
-table-read h p n s a b = subst₂ Table (sym a) (sym b) (s .table)
 
 -- a certificate as it is read, and its log, which is stored
 pub row-here : (h p : Bytes) (k : ℕ) (c : CertificateRow) → p ≡ certificatesPart h → c ≡ certificateRow p k → c ≡ certificateRow (certificatesPart h) k
 row-here h p k c a e = e ∙ ap (λ (q : Bytes). certificateRow q k) a
 
-pub row-stored : (h p : Bytes) (k : ℕ) → Sound h → k < wordAt h 6 1 → (c : CertificateRow) → p ≡ certificatesPart h → c ≡ certificateRow p k
+pub row-stored : (h p : Bytes) (k : ℕ) → Formed h → k < wordAt h 6 1 → (c : CertificateRow) → p ≡ certificatesPart h → c ≡ certificateRow p k
     → c .log ≤ wordAt h 0 2
-row-stored h p k s l c a e = subst (λ (x : CertificateRow). x .log ≤ wordAt h 0 2) (sym (row-here h p k c a e)) (s .named k l .log)
-
--- a slice is stored
-pub slice-within : (t : Bytes) (n p i q : ℕ) → Table t n → p ≤ n → (s : Slice) → s ≡ sliceOf (prefixRow t) p i → s ≡ Slice.Prefix q → q ≤ n
-slice-within t n p i q w l s e f =
-    ⊎-elim (λ x. let c = x .0 in absurd (let z : _≡_ {A = ℕ} 0 1 = cc in omega arith))
-    (λ x.
-    let c = x .1 in
-    let d : q ≡ x .0 = cc in
-    let b = x .3 in
-    omega (arith, rows-length t n))
-    (slice-cases (prefixRow t) (prefixRows t n) (table-facts t n w) (rows-at t n) p i (omega (arith, rows-length t n)))
+row-stored h p k s l c a e = subst (λ (x : CertificateRow). x .log ≤ wordAt h 0 2) (sym (row-here h p k c a e)) (s .certificate k l .log)
 
 -- ---- whether the log lacks the committed prefix
 
@@ -163,26 +143,6 @@ module _ (h : Bytes) (c : CertificateRow) where
 
   pub judged-length : (t : Bytes) (b : Bool) (held : ℕ) (b′ : Bool) (held′ : ℕ) (t′ : Bytes) → JudgedAs h c t b held b′ held′ t′ → length t′ ≡ length t
   judged-length t b held b′ held′ t′ w = ap length (w .table) ∙ all-length (lackingIn h c) t held
-
--- ---- several notes in two steps as in one
-
-held-append : (xs ys : List Finding) (t : Bytes) (n : ℕ) → heldAll t n (xs ++ ys) ≡ heldAll (bytesAll t n xs) (heldAll t n xs) ys
-unfolding heldAll bytesAll
-held-append [] ys t n = refl
-held-append (x ∷ xs) ys t n = held-append xs ys (noteBytes t n x) (noteHeld t n x)
-
-bytes-append : (xs ys : List Finding) (t : Bytes) (n : ℕ) → bytesAll t n (xs ++ ys) ≡ bytesAll (bytesAll t n xs) (heldAll t n xs) ys
-unfolding heldAll bytesAll
-bytes-append [] ys t n = refl
-bytes-append (x ∷ xs) ys t n = bytes-append xs ys (noteBytes t n x) (noteHeld t n x)
-
-held-few : (xs : List Finding) (t : Bytes) (n : ℕ) → n ≤ 129 → heldAll t n xs ≤ 129
-unfolding heldAll noteHeld
-held-few [] t n h = h
-held-few (x ∷ xs) t n h =
-    held-few xs (noteBytes t n x) (noteHeld t n x)
-    (cond-cases (λ (m : ℕ). m ≤ 129) (ltb 128 n) n _ (λ _. h)
-    (λ f. cond-cases (λ (m : ℕ). m ≤ 129) (eqb (notedAt t n x) 0) (n + 1) n (λ _. let z = ltb-false 128 n f in omega arith) (λ _. h)))
 
 -- ---- the walk over all of them
 

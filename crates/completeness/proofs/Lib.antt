@@ -1,4 +1,3 @@
-pub mod Sound
 pub mod RelevanceLaws
 pub mod JudgementLaws
 pub mod MarkLaws

@@ -25,18 +25,18 @@ use Rattle.storage.specs.Tables.{CertificateRow, certificateRow, certificatesPa
 use Rattle.storage.specs.Rules.{findingRight}
 use Rattle.storage.proofs.ListLaws.{tabulate-length}
 use Rattle.storage.proofs.PartLaws.{part-length}
-use Rattle.storage.proofs.Meanings.{Stands, kept, is, withElections}
+use Rattle.storage.proofs.Meanings.{Stands, kept, is, withElections, withNoted, certificates-stored, findings-stored, findings-taken}
 use Rattle.logical_log.proofs.ViolationLaws.{Holds, all-hold, all-length}
 use Rattle.completeness.specs.declared.leader_completeness.Checked.{Checked}
 use Rattle.completeness.specs.Relevance.{committedEnd}
 use Rattle.completeness.specs.Judgement.{lackingsIn, flagsIn, certificatesOf}
 use Rattle.completeness.specs.Marks.{marksMoved}
 use Rattle.completeness.specs.Check.{refusalOf, valueIn, valueOf, checkHeld, checkTable, checkWritten, checkAnswer, checkBytes, CheckedAs}
-use Rattle.completeness.proofs.Read.{right, end-is, end-small, certificates-are, findings-are}
+use Rattle.completeness.proofs.Read.{right, end-is, end-small}
 use Rattle.completeness.proofs.Fits.{TermsFit, Stored, stored}
 use Rattle.completeness.proofs.CertificateMeaning.{lackings-mean, flags-mean}
 use Rattle.completeness.proofs.MarkMeaning.{raised, marks-mean}
-use Rattle.completeness.proofs.FindingMeaning.{Fitting, fitting, lackings-fit, noted-right, findings-mean}
+use Rattle.completeness.proofs.FindingMeaning.{Fitting, fitting, lackings-fit, noted-right}
 
 -- ---- the statement
 
@@ -61,7 +61,7 @@ module _ (h : Bytes) (x : History) (s : Stands h x) (f : TermsFit x) where
   unfolding checkFindings
   found =
       ap (noted (x .findings))
-      (lackings-mean h x s (certificatesOf h) (λ c m. rows c m .named .log) ∙ ap (lackings (x .committed) (x .terms)) (certificates-are h x s))
+      (lackings-mean h x s (certificatesOf h) (λ c m. rows c m .named .log) ∙ ap (lackings (x .committed) (x .terms)) (certificates-stored h x s))
 
   table-long : length (findingsPart h) ≡ 1024
   table-long = part-length h 2121 1024 (let l = right h x s .long in omega arith)
@@ -72,13 +72,13 @@ module _ (h : Bytes) (x : History) (s : Stands h x) (f : TermsFit x) where
   holds =
       subst (Holds (checkTable h) (checkHeld h)) found
       (all-hold (lackingsIn h (certificatesOf h)) (findingsPart h) (wordAt h 7 1) (x .findings) table-long
-      (λ g m. fitting g (notes-fit g m)) (inl (right h x s .findings, findings-are h x s)))
+      (λ g m. fitting g (notes-fit g m)) (inl (right h x s .findings, findings-stored h x s)))
 
   flag : valueOf (flagsIn h false (certificatesOf h)) ≡ checkValue x
   unfolding checkValue
   flag =
       ap valueOf
-      (flags-mean h x s (certificatesOf h) false ∙ ap (someRelevant (x .committed) (x .terms)) (certificates-are h x s))
+      (flags-mean h x s (certificatesOf h) false ∙ ap (someRelevant (x .committed) (x .terms)) (certificates-stored h x s))
 
   -- the marks have moved, as the model's
   marks : Stands (marksMoved h (committedEnd h) 0 (wordAt h 6 1)) (withElections x (map (moved (x .committed)) (x .certificates)))
@@ -87,8 +87,8 @@ module _ (h : Bytes) (x : History) (s : Stands h x) (f : TermsFit x) where
       subst (λ (n : ℕ). Stands (marksMoved h (committedEnd h) 0 n) (withElections x (map (moved (x .committed)) (x .certificates))))
       (tabulate-length (certificateRow (certificatesPart h)) 0 (wordAt h 6 1))
       (subst (λ (cs : List Certificate). Stands (marksMoved h (committedEnd h) 0 (length (certificatesOf h))) (withElections x cs))
-      (λ i. map (raised (end-is h x s i)) (certificates-are h x s i))
-      (marks-mean (certificatesOf h) [] h x s (committedEnd h) (end-small h x s) (sym (certificates-are h x s))))
+      (λ i. map (raised (end-is h x s i)) (certificates-stored h x s i))
+      (marks-mean (certificatesOf h) [] h x s (committedEnd h) (end-small h x s) (sym (certificates-stored h x s))))
 
   findings-right : every findingRight (checkFindings x) ≡ true
   findings-right =
@@ -117,8 +117,9 @@ module _ (h : Bytes) (x : History) (s : Stands h x) (f : TermsFit x) where
     unfolding checkBytes checkWritten checkEffect
     written =
         subst (λ (u : Bytes). Stands u (checkEffect x)) (sym (cond-false (ltb 128 (checkHeld h)) h _ (le-ltb 128 _ few)))
-        (findings-mean (marksMoved h (committedEnd h) 0 (wordAt h 6 1)) (withElections x (map (moved (x .committed)) (x .certificates))) marks
-        (checkTable h) (checkHeld h) (checkFindings x) table-kept few e (let z = count in omega arith) findings-right)
+        (subst (λ (fs : List Finding). Stands (checkWritten h (checkTable h) (checkHeld h) (committedEnd h)) (withNoted (withElections x (map (moved (x .committed)) (x .certificates))) fs)) e
+        (findings-taken (marksMoved h (committedEnd h) 0 (wordAt h 6 1)) (withElections x (map (moved (x .committed)) (x .certificates))) marks
+        (checkTable h) (checkHeld h) table-kept few (ap (every findingRight) e ∙ findings-right)))
 
     accepted-means : Means h x (checkAnswer h) (checkBytes h)
     accepted-means =

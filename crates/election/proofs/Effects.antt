@@ -25,15 +25,15 @@ use Rattle.storage.specs.Order.{placeOf, heldOf}
 use Rattle.storage.specs.Writes.{CertificateFits, certificateAdded}
 use Rattle.storage.proofs.ListLaws.{tabulate-length}
 use Rattle.storage.proofs.DecodeLaws.{CertificateNamed}
-use Rattle.storage.proofs.Meanings.{Stands, withElections, front-read, prefixes-is, certificates-is}
+use Rattle.storage.proofs.WellFormed.{certificates-are, formed, formed-rows}
+use Rattle.storage.proofs.Meanings.{Stands, withElections, front-read, prefixes-stored, certificates-stored}
 use Rattle.storage.proofs.OrderLaws.{held-is, election-written}
 use Rattle.logical_log.specs.declared.prefix.Slice.{Slice}
-use Rattle.logical_log.proofs.TableLaws.{rows-length, rows-at, table-facts}
+use Rattle.logical_log.proofs.TableLaws.{rows-length, rows-at}
 use Rattle.logical_log.proofs.SliceLaws.{slice-cases}
 use Rattle.election.specs.declared.certificate.ElectionAnswer.{ElectionAnswer}
 use Rattle.election.specs.Order.{takenOf}
 use Rattle.election.specs.Certify.{roomOf, isAccepted, logOf, certificatesIn, heldIn, frontIn, sliceIn, judgedOf, kept, keptIn, answerIn, bytesIn}
-use Rattle.election.proofs.Stored.{table, front-named, rows-are, certificates-are}
 use Rattle.election.proofs.Turns.{room-left}
 
 -- the model's refusal, or none
@@ -87,25 +87,18 @@ module _ (h : Bytes) (x : History) (s : Stands h x) where
   abbrev cs : List CertificateRow
   cs = certificatesIn h
 
-  resolved : resolve rows ≡ x .prefixes
-  resolved = ap resolve (sym (rows-are h (s .right))) ∙ prefixes-is h x s
-
-  certificates-held : map (certificateIn (x .prefixes)) cs ≡ x .certificates
-  certificates-held =
-      ap (map (certificateIn (x .prefixes))) (sym (certificates-are h (s .right))) ∙ certificates-is h x s
-
   count-is : length cs ≡ length (x .certificates)
-  count-is = sym (length-map cs (certificateIn (x .prefixes))) ∙ ap length certificates-held
+  count-is = sym (length-map cs (certificateIn (x .prefixes))) ∙ ap length (certificates-stored h x s)
 
   held-same : (t : ℕ) → heldIn h t ≡ held t (x .certificates)
-  held-same t = sym (held-is (x .prefixes) t cs) ∙ ap (held t) certificates-held
+  held-same t = sym (held-is (x .prefixes) t cs) ∙ ap (held t) (certificates-stored h x s)
 
   taken-same : (t n : ℕ) → takenOf t n cs ≡ taken t n (x .certificates)
-  taken-same t n = sym (taken-is (x .prefixes) t n cs) ∙ ap (taken t n) certificates-held
+  taken-same t n = sym (taken-is (x .prefixes) t n cs) ∙ ap (taken t n) (certificates-stored h x s)
 
   front-is : (l : ℕ) → l < 64 → prefixAt (resolve rows) (frontIn h l) ≡ frontOf x l
   front-is l b =
-      ap (λ (ps : List Prefix). prefixAt ps (frontIn h l)) (resolved ∙ sym (ap (λ (y : History). y .prefixes) (s .decodes)))
+      ap (λ (ps : List Prefix). prefixAt ps (frontIn h l)) (prefixes-stored h x s ∙ sym (ap (λ (y : History). y .prefixes) (s .decodes)))
       ∙ sym (front-read h l b)
       ∙ ap (λ (y : History). frontOf y l) (s .decodes)
 
@@ -131,7 +124,7 @@ module _ (h : Bytes) (x : History) (s : Stands h x) where
     rows-count = rows-length (prefixesPart h) (wordAt h 0 2)
 
     front-stored : frontIn h l ≤ length rows
-    front-stored = omega (arith, rows-count, front-named h (s .right) l leads)
+    front-stored = omega (arith, rows-count, formed h (s .right) .node l leads .front)
 
     model-beyond : length front < n → electionRefusal x l t n ≡ some lengthExceedsFront
     unfolding electionRefusal
@@ -159,7 +152,7 @@ module _ (h : Bytes) (x : History) (s : Stands h x) where
     cut : Cut
     cut =
         ⊎-elim (λ c. beyond (c .0) (c .1)) (λ c. within (c .0) (c .1) (c .2) (c .3) (c .4))
-        (slice-cases (prefixRow (prefixesPart h)) rows (table-facts (prefixesPart h) (wordAt h 0 2) (table h (s .right))) (rows-at (prefixesPart h) (wordAt h 0 2)) (frontIn h l) n front-stored)
+        (slice-cases (prefixRow (prefixesPart h)) rows (formed-rows h (formed h (s .right))) (rows-at (prefixesPart h) (wordAt h 0 2)) (frontIn h l) n front-stored)
 
     refusal-cut : Cut → refusalOf (answerIn h l t n) ≡ electionRefusal x l t n
     refusal-cut (beyond e b) = ap refusalOf (answer-beyond e) ∙ sym (model-beyond b)
@@ -179,7 +172,7 @@ module _ (h : Bytes) (x : History) (s : Stands h x) where
       new-fits =
           let a = held-within t cs in
           let c = tabulate-length (certificateRow (certificatesPart h)) 0 (wordAt h 6 1) in
-          let r = table h (s .right) .fits in
+          let r = formed h (s .right) .prefixes in
           record {
             term = fits;
             log = omega (arith, rows-count);
@@ -193,7 +186,7 @@ module _ (h : Bytes) (x : History) (s : Stands h x) where
       new-named = record { log = omega (arith, rows-count); mark = omega arith; leader = omega arith; present = flag-small p }
 
       log-same : prefixAt (x .prefixes) q ≡ take n (frontOf x l)
-      log-same = ap (λ (ps : List Prefix). prefixAt ps q) (sym resolved) ∙ log ∙ ap (take n) (front-is l leads)
+      log-same = ap (λ (ps : List Prefix). prefixAt ps q) (sym (prefixes-stored h x s)) ∙ log ∙ ap (take n) (front-is l leads)
 
       certificate-is : certificateIn (x .prefixes) new ≡ certificate x l t p n
       unfolding certificate
@@ -208,7 +201,7 @@ module _ (h : Bytes) (x : History) (s : Stands h x) where
 
       kept-stands : Stands (keptIn h l t p q) (electionEffect x l t p n)
       kept-stands =
-          let e = certificates-are h (s .right) in
+          let e = certificates-are h in
           let w = election-written h x s new room new-fits new-named (ap (heldOf t) (sym e)) in
           subst (λ (y : History). Stands (keptIn h l t p q) y) effect-is
           (subst (λ (rs : List CertificateRow). Stands (certificateAdded h (placeOf t rs) new) (withElections x (inOrder (certificateIn (x .prefixes) new) (x .certificates)))) e w)

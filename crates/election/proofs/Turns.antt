@@ -16,6 +16,7 @@ use Rattle.storage.specs.Tables.{CertificateRow, certificateRow, certificateRow
 use Rattle.storage.specs.Order.{heldOf}
 use Rattle.storage.specs.Writes.{certificateAdded}
 use Rattle.storage.proofs.ListLaws.{tabulate-length}
+use Rattle.storage.proofs.OrderLaws.{place-within}
 use Rattle.logical_log.specs.Prefix.{sliceOf}
 use Rattle.logical_log.specs.declared.prefix.Slice.{Slice}
 use Rattle.election.specs.declared.certificate.ElectionAnswer.{ElectionAnswer}
@@ -72,6 +73,11 @@ pub kept-is : (h : Bytes) (l t : ℕ) (p : Bool) (log number place : ℕ) (x : C
     → certificateAdded h place x ≡ keptIn h l t p log
 kept-is h l t p log number place x e n q =
     (λ i. certificateAdded h (q i) (e i)) ∙ ap (λ (m : ℕ). certificateAdded h (placeIn h t) (kept l t m p log)) n
+
+-- a certificate's place is among those held, or behind them
+pub place-fits : (h : Bytes) (t : ℕ) → placeIn h t ≤ wordAt h 6 1
+place-fits h t =
+    omega (arith, place-within t (certificatesIn h), tabulate-length (certificateRow (certificatesPart h)) 0 (wordAt h 6 1))
 
 -- an accepted election leaves room for its certificate
 pub accepted-room : (h : Bytes) (s : Slice) (t : ℕ) → isAccepted (judgedOf h s t) ≡ true → wordAt h 6 1 < 64

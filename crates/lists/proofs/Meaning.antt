@@ -10,7 +10,7 @@ use Rattle.model.specs.Lists.{ordered, findingList, leadersOf, leaderList, mark
 use Rattle.storage.specs.Words.{wordAt}
 use Rattle.storage.specs.Tables.{nodesPart, termsPart, findingRows, findingsPart, tablesIn}
 use Rattle.storage.specs.Decode.{decode}
-use Rattle.storage.proofs.Meanings.{Stands, owner-read}
+use Rattle.storage.proofs.Meanings.{Stands, owner-read, committed-index, findings-stored}
 use Rattle.lists.specs.declared.unseen.UnseenAnswer.{UnseenAnswer}
 use Rattle.lists.specs.declared.unknown.UnknownAnswer.{UnknownAnswer}
 use Rattle.lists.specs.Picked.{nth}
@@ -21,7 +21,6 @@ use Rattle.lists.specs.declared.leaders.LeaderAnswer.{LeaderAnswer}
 use Rattle.lists.specs.Leaders.{leaderAs, leaderAnswer}
 use Rattle.lists.specs.Unseen.{markOf, markIn, unseenAnswer}
 use Rattle.lists.specs.Unknown.{isKnown, indexOf, indexIn, unknownAnswer}
-use Rattle.lists.proofs.Whole.{committed-index, findings-stored}
 use Rattle.lists.proofs.Ordered.{ordered-picked}
 use Rattle.storage.proofs.ListLaws.{tabulate-length}
 use Rattle.model.specs.Leaders.{ascending}
@@ -31,7 +30,7 @@ use Rattle.lists.proofs.Printed.{marks-picked, known-read, indexes-pick
 
 pub length-told : (h : Bytes) (x : History) → Stands h x → lengthIn h ≡ committedLength x
 unfolding lengthIn
-length-told h x s = committed-index h (s .right) ∙ ap committedLength (s .decodes)
+length-told h x s = committed-index h x s
 
 pub owner-told : (h : Bytes) (x : History) → Stands h x → ownerIn h ≡ committedOwner x
 unfolding ownerIn
@@ -58,7 +57,7 @@ pub findings-told : (h : Bytes) (x : History) (n : ℕ) → Stands h x → findi
 unfolding findingAnswer findingList
 findings-told h x n s =
     ordered-picked (findingRows (findingsPart h) (wordAt h 7 1)) n
-    ∙ ap (λ (l : List Finding). nth findingOf FindingAnswer.NoMore (ordered l) n) (findings-stored h ∙ ap (λ (y : History). y .findings) (s .decodes))
+    ∙ ap (λ (l : List Finding). nth findingOf FindingAnswer.NoMore (ordered l) n) (findings-stored h x s)
 
 -- ---- leaders
 
@@ -67,4 +66,4 @@ unfolding leaderAnswer leaderList
 leaders-told h x n s =
     leaders-all (findingRows (findingsPart h) (wordAt h 7 1)) (wordAt h 7 1) n (tabulate-length _ 0 _)
     ∙ ap (λ (l : List Finding). nth leaderAs LeaderAnswer.NoMore (ascending (leadersOf l)) n)
-    (findings-stored h ∙ ap (λ (y : History). y .findings) (s .decodes))
+    (findings-stored h x s)

@@ -32,14 +32,15 @@ use Rattle.storage.proofs.ListLaws.{tabulate-length, tabulate-at, every-at}
 use Rattle.storage.proofs.PartLaws.{word-part}
 use Rattle.storage.proofs.DecodeLaws.{NodeNamed, node-named, finding-test}
 use Rattle.storage.proofs.RowFacts.{resolve-count}
-use Rattle.storage.proofs.Meanings.{Stands, withPrefixes, withFront, withNoted, prefixes-is, rows-count, kept, is, unseen-read, node-written, findings-taken}
+use Rattle.storage.proofs.WellFormed.{rows-count, formed}
+use Rattle.storage.proofs.Meanings.{Stands, withPrefixes, withFront, withNoted, prefixes-is, kept, is, unseen-read, node-written, findings-taken}
 use Rattle.logical_log.specs.Observation.{nextNumber, counted, missingFrom, noteOf, notesFrom, other, writtenBytes, writtenCount, writtenNumber, viewReplaced, findingsKept, viewWritten, missingIn, notesIn, heldIn, tableIn, observed, observedBytes}
 use Rattle.logical_log.specs.Violation.{heldAll, bytesAll}
 use Rattle.logical_log.specs.declared.observation.Observed.{Observed}
 use Rattle.logical_log.proofs.Extend.{Fits, extendAll, extends-all}
 use Rattle.logical_log.proofs.Judge.{missing-made, notes-are}
 use Rattle.logical_log.proofs.ViolationLaws.{Holds, all-hold}
-use Rattle.logical_log.proofs.Whole.{whole-few, findings-long, written-count, table-length}
+use Rattle.logical_log.proofs.Whole.{findings-long, written-count, table-length}
 use Rattle.logical_log.proofs.Stored.{Sound, front-sound, rows-good, rows-by-place, Whole, front-stands}
 
 -- ---- statement
@@ -145,7 +146,7 @@ module _ (limit : ℕ) (h : Bytes) (x : History) (s : Bytes) (m node : ℕ) (st 
   sound = front-sound m s firstEntry 1 w
 
   count : length (tablesOf h .rows) ≡ wordAt h 0 2
-  count = rows-count h x st
+  count = rows-count h
 
   same-prefixes : resolve (tablesOf h .rows) ≡ x .prefixes
   same-prefixes = prefixes-is h x st
@@ -188,7 +189,7 @@ module _ (limit : ℕ) (h : Bytes) (x : History) (s : Bytes) (m node : ℕ) (st 
       (all-hold (notesIn h s m node) (findingsPart h) (wordAt h 7 1) (x .findings) (findings-long h (st .right))
       (λ g k. let n = noted-in g k in
       record { name = (let a = n .name in omega arith); node = (let a = n .isNode in omega arith); index = (let a = n .index in omega arith); term = n .term })
-      (inl (whole-few h (st .right), held-before)))
+      (inl (formed h (st .right) .findings, held-before)))
 
   same-seven : ltb 128 (heldIn h s m node) ≡ ltb 128 (length (viewFindings x node F))
   same-seven =

@@ -25,15 +25,15 @@ use Rattle.storage.specs.Tables.{prefixRow, prefixesPart, headPart, tablesIn, t
 use Rattle.storage.specs.Writes.{prefixAppended, PrefixFits, prefixOf}
 use Rattle.storage.specs.Rules.{prefixRight}
 use Rattle.storage.specs.Decode.{prefixAt, extended, resolve}
-use Rattle.storage.proofs.PartLaws.{word-part, part-length}
 use Rattle.storage.proofs.RuleLaws.{within}
 use Rattle.storage.proofs.RowFacts.{rowAt, resolve-snoc, resolve-count}
-use Rattle.storage.proofs.Meanings.{Stands, withPrefixes, prefix-written, prefixes-read, prefixes-is, rows-count, long, kept}
-use Rattle.logical_log.specs.Table.{Table}
+use Rattle.storage.proofs.DecodeLaws.{row-facts}
+use Rattle.storage.proofs.WellFormed.{rows-count}
+use Rattle.storage.proofs.Meanings.{Stands, withPrefixes, prefix-written, prefixes-read, prefixes-is, kept}
 use Rattle.logical_log.specs.Prefix.{rowOf, find}
 use Rattle.logical_log.specs.Observation.{extensionIn, storedContent, extendedBytes, extendedCount, extendedNumber, writtenBytes, writtenCount, writtenNumber}
 use Rattle.logical_log.proofs.PrefixLaws.{Rows}
-use Rattle.logical_log.proofs.TableLaws.{rows-at, table-facts}
+use Rattle.logical_log.proofs.TableLaws.{rows-at}
 use Rattle.logical_log.proofs.Extend.{Good, Extended, extendRows, extendNumber, extends-rows, right-row}
 use Rattle.logical_log.proofs.Judge.{find-ext, find-index}
 use Rattle.logical_log.proofs.Turns.{front-more, front-stop, front-none}
@@ -68,22 +68,8 @@ front-sound (suc n) s k i w =
 -- ---- the rows of bytes that stand for a history
 
 module _ (h : Bytes) (x : History) (s : Stands h x) where
-  rows-table : Table (prefixesPart h) (wordAt (headPart h) 0 2)
-  unfolding tablesIn
-  rows-table =
-      let k = kept h x s in
-      let l = within _ _ _ _ (k .limits) .prefixes in
-      let c = rows-count h x s in
-      let n = word-part h 0 9 0 2 (omega arith) in
-      record {
-        long = part-length h 3145 20992 (let w = long h x s in omega arith);
-        fits = omega arith;
-        right = k .rows;
-      }
-
   pub rows-good : Good (tablesOf h .rows)
-  unfolding tablesIn
-  rows-good = record { right = kept h x s .rows; known = table-facts (prefixesPart h) (wordAt (headPart h) 0 2) rows-table }
+  rows-good = record { right = kept h x s .rows; known = row-facts h (kept h x s) }
 
   pub rows-by-place : Rows (prefixRow (prefixesPart h)) (tablesOf h .rows)
   unfolding tablesIn
@@ -105,7 +91,7 @@ module _ (h : Bytes) (x : History) (s : Stands h x) (n p i : ℕ) (e : Entry) (e
   same-prefixes = prefixes-is h x s
 
   count : length (tablesOf h .rows) ≡ n
-  count = rows-count h x s ∙ sym en
+  count = rows-count h ∙ sym en
 
   abbrev Q : Prefix
   Q = prefixAt (x .prefixes) p ++ (e ∷ [])

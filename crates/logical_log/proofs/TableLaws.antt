@@ -2,15 +2,21 @@
 -- Assumes nothing.
 use Prim.Native.Nat.{ℕ, _+_, _*_, _<_, _≤_}
 use native.Mathlib.Omega.{arith}
-use mathlib.Core.Path.{_≡_, sym, _∙_, ap, subst}
+use mathlib.Core.Path.{_≡_, sym, _∙_, ap, subst, subst₂}
+use mathlib.Core.Logic.{⊎-elim}
 use lib.ListN.{length}
 use Rattle.model.specs.Sizes.{Bytes}
 use Rattle.storage.specs.Words.{wordAt}
-use Rattle.storage.specs.Tables.{PrefixRow, prefixRow, prefixRows}
+use Rattle.storage.specs.Tables.{PrefixRow, prefixRow, prefixRows, prefixesPart}
 use Rattle.storage.proofs.ListLaws.{tabulate-length, tabulate-at}
+use Rattle.storage.proofs.PartLaws.{part-length}
+use Rattle.storage.proofs.WellFormed.{Formed}
 use Rattle.storage.proofs.RowFacts.{Facts, emptyRow, rows-sized, facts-of}
 use Rattle.logical_log.specs.Table.{Table}
+use Rattle.logical_log.specs.Prefix.{sliceOf}
+use Rattle.logical_log.specs.declared.prefix.Slice.{Slice}
 use Rattle.logical_log.proofs.PrefixLaws.{Rows}
+use Rattle.logical_log.proofs.SliceLaws.{slice-cases}
 
 pub rows-length : (t : Bytes) (n : ℕ) → length (prefixRows t n) ≡ n
 rows-length t n = tabulate-length (prefixRow t) 0 n
@@ -23,6 +29,25 @@ rows-at t n k l =
 
 pub table-facts : (t : Bytes) (n : ℕ) → Table t n → Facts (prefixRows t n)
 table-facts t n h = facts-of (prefixRows t n) (rows-sized t n) (h .right)
+
+-- the table of a well-formed history, and as it is lent
+pub whole-table : (h : Bytes) → Formed h → Table (prefixesPart h) (wordAt h 0 2)
+whole-table h f = record { long = part-length h 3145 20992 (omega (arith, f .long)); fits = f .prefixes; right = f .rows }
+
+pub table-lent : (h q : Bytes) (n : ℕ) → Formed h → q ≡ prefixesPart h → n ≡ wordAt h 0 2 → Table q n
+table-lent h q n f e m = subst₂ Table (sym e) (sym m) (whole-table h f)
+
+-- a slice of a stored prefix is stored
+pub slice-within : (t : Bytes) (n p i q : ℕ) → Table t n → p ≤ n → sliceOf (prefixRow t) p i ≡ Slice.Prefix q → q ≤ n
+slice-within t n p i q w l e =
+    let size = rows-length t n in
+    ⊎-elim (λ b. absurd (let b0 = b .0 in let z : _≡_ {A = ℕ} 0 1 = cc in omega arith))
+    (λ b.
+    let b1 = b .1 in
+    let same : q ≡ b .0 = cc in
+    let d = b .3 in
+    omega arith)
+    (slice-cases (prefixRow t) (prefixRows t n) (table-facts t n w) (rows-at t n) p i (omega arith))
 
 -- a row's parent is a smaller number than its own
 pub table-parent : (t : Bytes) (n k : ℕ) → Table t n → k < n → wordAt t (k * 41) 2 ≤ k

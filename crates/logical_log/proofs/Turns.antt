@@ -126,17 +126,17 @@ module _ (s : Bytes) (k n i : ℕ) where
 
 -- ---- several notes in two steps as in one
 
-held-append : (xs ys : List Finding) (t : Bytes) (n : ℕ) → heldAll t n (xs ++ ys) ≡ heldAll (bytesAll t n xs) (heldAll t n xs) ys
+pub held-append : (xs ys : List Finding) (t : Bytes) (n : ℕ) → heldAll t n (xs ++ ys) ≡ heldAll (bytesAll t n xs) (heldAll t n xs) ys
 unfolding heldAll bytesAll
 held-append [] ys t n = refl
 held-append (x ∷ xs) ys t n = held-append xs ys (noteBytes t n x) (noteHeld t n x)
 
-bytes-append : (xs ys : List Finding) (t : Bytes) (n : ℕ) → bytesAll t n (xs ++ ys) ≡ bytesAll (bytesAll t n xs) (heldAll t n xs) ys
+pub bytes-append : (xs ys : List Finding) (t : Bytes) (n : ℕ) → bytesAll t n (xs ++ ys) ≡ bytesAll (bytesAll t n xs) (heldAll t n xs) ys
 unfolding heldAll bytesAll
 bytes-append [] ys t n = refl
 bytes-append (x ∷ xs) ys t n = bytes-append xs ys (noteBytes t n x) (noteHeld t n x)
 
-held-few : (xs : List Finding) (t : Bytes) (n : ℕ) → n ≤ 129 → heldAll t n xs ≤ 129
+pub held-few : (xs : List Finding) (t : Bytes) (n : ℕ) → n ≤ 129 → heldAll t n xs ≤ 129
 unfolding heldAll noteHeld
 held-few [] t n h = h
 held-few (x ∷ xs) t n h =

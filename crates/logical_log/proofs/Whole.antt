@@ -1,8 +1,8 @@
--- A view as a whole: what well-formed storage gives its judging, and how its parts come together.
+-- A view as a whole: how its parts come together.
 -- Assumes nothing.
 use Prim.Native.Nat.{ℕ, zero, suc, _+_, _-_, _*_, _<_, _≤_}
 use native.Mathlib.Omega.{arith}
-use mathlib.Core.Path.{_≡_, refl, sym, _∙_, ap, subst, subst₂}
+use mathlib.Core.Path.{_≡_, refl, sym, _∙_, ap, subst}
 use mathlib.Core.Bool.{true, false}
 use mathlib.Core.List.{List, [], _∷_}
 use lib.Dec.{ltb, eqb}
@@ -14,14 +14,11 @@ use Rattle.model.specs.Record.{front, lastIndex}
 use Rattle.model.proofs.Tests.{cond-true, cond-false}
 use Rattle.records.specs.Places.{firstEntry, entriesAt}
 use Rattle.storage.specs.Words.{wordAt, putBytes, wordBytes}
-use Rattle.storage.specs.Tables.{prefixRow, prefixRows, prefixesPart, headPart, findingRow, findingsPart, tablesIn}
-use Rattle.storage.specs.Rules.{prefixesRightAfter, wellFormed}
-use Rattle.storage.proofs.ListLaws.{tabulate-length}
+use Rattle.storage.specs.Tables.{prefixRow, prefixesPart, findingsPart}
+use Rattle.storage.specs.Rules.{wellFormed}
 use Rattle.storage.proofs.WordLaws.{put-length}
-use Rattle.storage.proofs.PartLaws.{word-part, part-length, put-whole}
-use Rattle.storage.proofs.RuleLaws.{within}
-use Rattle.storage.proofs.DecodeLaws.{well-formed-parts}
-use Rattle.logical_log.specs.Table.{Table}
+use Rattle.storage.proofs.PartLaws.{part-length, put-whole}
+use Rattle.storage.proofs.WellFormed.{formed}
 use Rattle.logical_log.specs.Prefix.{searchFrom, find}
 use Rattle.logical_log.specs.Violation.{heldAll, bytesAll}
 use Rattle.logical_log.specs.Observation.{nextNumber, counted, missingFrom, notesFrom, JudgedAs, extensionIn, extendedBytes, extendedCount, extendedNumber, writtenBytes, writtenCount, Storing, StoredAs, viewReplaced, findingsKept, viewWritten, missingIn, notesIn, heldIn, tableIn, observed, observedBytes, Observing, ViewJudged}
@@ -30,39 +27,10 @@ use Rattle.logical_log.proofs.Written.{number-found, number-made, count
 use Rattle.logical_log.proofs.ViolationLaws.{all-length}
 use Rattle.logical_log.specs.declared.observation.Observed.{Observed}
 
--- ---- what well-formed storage gives
-
-module _ (h : Bytes) (right : wellFormed h ≡ true) where
-  pub whole-long : length h ≡ 24137
-  whole-long = well-formed-parts h right .0
-
-  -- the table of prefixes
-  pub whole-table : Table (prefixesPart h) (wordAt h 0 2)
-  unfolding tablesIn
-  whole-table =
-      let k = well-formed-parts h right .1 in
-      let n = word-part h 0 9 0 2 (omega arith) in
-      let l = within _ _ _ _ (k .limits) .prefixes in
-      let c = tabulate-length (prefixRow (prefixesPart h)) 0 (wordAt (headPart h) 0 2) in
-      record {
-        long = part-length h 3145 20992 (let w = whole-long in omega arith);
-        fits = omega arith;
-        right = subst (λ (m : ℕ). prefixesRightAfter [] (prefixRows (prefixesPart h) m) ≡ true) n (k .rows);
-      }
-
-  pub whole-few : wordAt h 7 1 ≤ 128
-  unfolding tablesIn
-  whole-few =
-      let k = well-formed-parts h right .1 in
-      let n = word-part h 0 9 7 1 (omega arith) in
-      let l = within _ _ _ _ (k .limits) .findings in
-      let c = tabulate-length (findingRow (findingsPart h)) 0 (wordAt (headPart h) 7 1) in
-      omega arith
-
-  pub findings-long : length (findingsPart h) ≡ 1024
-  findings-long = part-length h 2121 1024 (let w = whole-long in omega arith)
-
 -- ---- judging
+
+pub findings-long : (h : Bytes) → wellFormed h ≡ true → length (findingsPart h) ≡ 1024
+findings-long h right = part-length h 2121 1024 (omega (arith, formed h right .long))
 
 -- a copy of the findings is the findings
 pub copied : (h t₀ t₁ : Bytes) → wellFormed h ≡ true → length t₀ ≡ 1024 → (q : Bytes) → q ≡ findingsPart h → t₁ ≡ putBytes t₀ 0 q → t₁ ≡ findingsPart h
@@ -194,10 +162,10 @@ module _ (limit : ℕ) (h s : Bytes) (m node missing held count : ℕ) (t : Byte
     pub observed-room : Observing h s m node → limit ≤ 512 → Storing h count s m
     observed-room o g =
         record {
-          long = whole-long h (o .right);
+          long = formed h (o .right) .long;
           count = e;
           walk = o .walk;
-          fits = (let x = whole-table h (o .right) .fits in omega arith);
+          fits = (let x = formed h (o .right) .prefixes in omega arith);
           room = subst (λ (x : ℕ). x ≤ 512) (sym (ap (λ (x : ℕ). writtenCount h x 0 1 (front (entriesAt s firstEntry m))) e ∙ written-count (front (entriesAt s firstEntry m)) h (wordAt h 0 2) 0 1))
               (subst (λ (x : ℕ). x ≤ 512) (total ∙ missing-in) (omega arith));
         }
@@ -206,9 +174,6 @@ module _ (limit : ℕ) (h s : Bytes) (m node missing held count : ℕ) (t : Byte
         missing-in = missing-is h s m
 
 -- ---- lengths
-
-pub table-for : (h q : Bytes) (n : ℕ) → q ≡ prefixesPart h → n ≡ wordAt h 0 2 → Table (prefixesPart h) (wordAt h 0 2) → Table q n
-table-for h q n eq en t = subst₂ Table (sym eq) (sym en) t
 
 pub table-length : (h s : Bytes) (m node : ℕ) → wellFormed h ≡ true → length (tableIn h s m node) ≡ 1024
 unfolding tableIn

@@ -8,6 +8,7 @@ pub mod TableLaws
 pub mod WriteLaws
 pub mod RowFacts
 pub mod DecodeLaws
+pub mod WellFormed
 pub mod Meanings
 pub mod PrefixLaws
 pub mod OrderLaws

@@ -13,18 +13,20 @@ use Rattle.model.specs.Entry.{Prefix}
 use Rattle.model.specs.History.{fresh, Certificate, Finding, History}
 use Rattle.storage.specs.Lists.{every}
 use Rattle.storage.specs.Words.{wordAt, wordBytes, putBytes}
-use Rattle.storage.specs.Tables.{NodeRow, CertificateRow, Tables, nodeRow, termRow, certificateRow, findingRow, findingRows, headPart, nodesPart, termsPart, certificatesPart, findingsPart, tablesIn, tablesOf, withRow, withNode, withCommitted, withTerms, withCertificates, withFindings}
+use Rattle.storage.specs.Tables.{NodeRow, CertificateRow, Tables, nodeRow, termRow, certificateRow, findingRow, prefixRow, prefixRows, termRows, certificateRows, findingRows, headPart, nodesPart, termsPart, certificatesPart, findingsPart, prefixesPart, tablesIn, tablesOf, withRow, withNode, withCommitted, withTerms, withCertificates, withFindings}
 use Rattle.storage.specs.Decode.{prefixAt, extended, resolve, frontIn, certificateIn, historyIn, decode}
 use Rattle.storage.specs.Rules.{certificateRight, findingRight, numbered, prefixRight, wellFormed}
+use Rattle.storage.specs.Values.{numberIndex}
 use Rattle.storage.specs.Writes.{nodeBytes, certificateBytes, findingBytes, prefixBytes, prefixOf, CertificateFits, PrefixFits, prefixAppended, findingAppended, termAppended, committedSet, certificateInserted, certificateAdded}
 use Rattle.storage.proofs.ListLaws.{tabulate-length, tabulate-at, every-snoc, every-set, every-insert, map-set, map-insert}
 use Rattle.storage.proofs.WordLaws.{put-length}
 use Rattle.storage.proofs.PartLaws.{word-part}
 use Rattle.storage.proofs.RowFacts.{resolve-count}
-use Rattle.storage.proofs.RuleLaws.{within, pass, SameKey, numbered-set}
+use Rattle.storage.proofs.RuleLaws.{within, pass, index-among, SameKey, numbered-set}
 use Rattle.storage.proofs.TableLaws.{findings-written, set-node, set-term, set-certificate, prefix-appended, finding-appended, term-appended, committed-set, certificate-added}
 use Rattle.storage.specs.Fresh.{freshHistory}
 use Rattle.storage.proofs.FreshLaws.{fresh-well-formed, fresh-decodes}
+use Rattle.storage.proofs.WellFormed.{rows-are, terms-are, certificates-are, findings-are, rows-count, terms-count, certificates-count, findings-count, node-row, certificate-row, formed, formed-rows}
 use Rattle.storage.proofs.DecodeLaws.{Kept, well-formed-parts, well-formed-of, NodeNamed, CertificateNamed, certificate-test, FindingNamed, finding-test, kept-node, kept-committed, kept-terms, kept-certificates, kept-findings, kept-row, decode-is, history-node, history-row}
 
 -- well-formed bytes that stand for a history
@@ -32,7 +34,7 @@ pub record Stands (h : Bytes) (x : History) : Type 0 where
   pub right : wellFormed h ≡ true
   pub decodes : decode h ≡ x
 
-stands : (h : Bytes) (t : Tables) (x : History) → length h ≡ 24137 → tablesOf h ≡ t → Kept t → historyIn t ≡ x → Stands h x
+pub stands : (h : Bytes) (t : Tables) (x : History) → length h ≡ 24137 → tablesOf h ≡ t → Kept t → historyIn t ≡ x → Stands h x
 stands h t x l e k q =
     record { right = well-formed-of h l (subst Kept (sym e) k); decodes = decode-is h ∙ ap historyIn e ∙ q }
 
@@ -42,20 +44,19 @@ module _ (h : Bytes) where
   -- how many there are of each
   pub prefixes-read : length (decode h .prefixes) ≡ wordAt h 0 2
   unfolding decode tablesIn
-  prefixes-read =
-      resolve-count (tablesOf h .rows) ∙ tabulate-length _ 0 _ ∙ word-part h 0 9 0 2 (omega arith)
+  prefixes-read = resolve-count (tablesOf h .rows) ∙ rows-count h
 
   pub terms-read : length (decode h .terms) ≡ wordAt h 2 2
   unfolding decode tablesIn
-  terms-read = tabulate-length _ 0 _ ∙ word-part h 0 9 2 2 (omega arith)
+  terms-read = terms-count h
 
   pub certificates-read : length (decode h .certificates) ≡ wordAt h 6 1
   unfolding decode tablesIn
-  certificates-read = length-map (tablesOf h .certificates) _ ∙ tabulate-length _ 0 _ ∙ word-part h 0 9 6 1 (omega arith)
+  certificates-read = length-map (tablesOf h .certificates) _ ∙ certificates-count h
 
   pub findings-read : length (decode h .findings) ≡ wordAt h 7 1
   unfolding decode tablesIn
-  findings-read = tabulate-length _ 0 _ ∙ word-part h 0 9 7 1 (omega arith)
+  findings-read = findings-count h
 
   -- the committed prefix and its owner
   pub committed-read : decode h .committed ≡ prefixAt (decode h .prefixes) (wordAt h 4 2)
@@ -67,10 +68,6 @@ module _ (h : Bytes) where
   owner-read = word-part h 0 9 8 1 (omega arith)
 
   -- a node's front, last index and unseen mark
-  node-row : (k : ℕ) (d : NodeRow) → k < 64 → getD (tablesOf h .nodes) k d ≡ nodeRow (nodesPart h) k
-  unfolding tablesIn
-  node-row k d l = tabulate-at (nodeRow (nodesPart h)) 0 64 k d l ∙ ap (nodeRow (nodesPart h)) (zero-add k)
-
   abbrev noNode : NodeRow
   noNode = record { front = 0; last = 0; unseen = 0 }
 
@@ -78,17 +75,17 @@ module _ (h : Bytes) where
   unfolding decode
   front-read k l =
       List·getD-map (frontIn (resolve (tablesOf h .rows))) (tablesOf h .nodes) k noNode
-      ∙ ap (frontIn (resolve (tablesOf h .rows))) (node-row k noNode l)
+      ∙ ap (frontIn (resolve (tablesOf h .rows))) (node-row h k noNode l)
 
   pub last-read : (k : ℕ) → k < 64 → getD (decode h .lasts) k 0 ≡ nodeRow (nodesPart h) k .last
   unfolding decode
   last-read k l =
-      List·getD-map (λ (x : NodeRow). x .last) (tablesOf h .nodes) k noNode ∙ ap (λ (x : NodeRow). x .last) (node-row k noNode l)
+      List·getD-map (λ (x : NodeRow). x .last) (tablesOf h .nodes) k noNode ∙ ap (λ (x : NodeRow). x .last) (node-row h k noNode l)
 
   pub unseen-read : (k : ℕ) → k < 64 → getD (decode h .unseen) k 0 ≡ nodeRow (nodesPart h) k .unseen
   unfolding decode
   unseen-read k l =
-      List·getD-map (λ (x : NodeRow). x .unseen) (tablesOf h .nodes) k noNode ∙ ap (λ (x : NodeRow). x .unseen) (node-row k noNode l)
+      List·getD-map (λ (x : NodeRow). x .unseen) (tablesOf h .nodes) k noNode ∙ ap (λ (x : NodeRow). x .unseen) (node-row h k noNode l)
 
   -- a commit term, a certificate and a finding, where there is one
   pub term-read : (k d : ℕ) → k < wordAt h 2 2 → getD (decode h .terms) k d ≡ termRow (termsPart h) k
@@ -99,12 +96,10 @@ module _ (h : Bytes) where
 
   pub certificate-read : (k : ℕ) (d : CertificateRow) → k < wordAt h 6 1
       → getD (decode h .certificates) k (certificateIn (decode h .prefixes) d) ≡ certificateIn (decode h .prefixes) (certificateRow (certificatesPart h) k)
-  unfolding decode tablesIn
+  unfolding decode
   certificate-read k d l =
       List·getD-map (certificateIn (decode h .prefixes)) (tablesOf h .certificates) k d
-      ∙ ap (certificateIn (decode h .prefixes))
-      (tabulate-at (certificateRow (certificatesPart h)) 0 (wordAt (headPart h) 6 1) k d (omega (arith, word-part h 0 9 6 1 (omega arith)))
-      ∙ ap (certificateRow (certificatesPart h)) (zero-add k))
+      ∙ ap (certificateIn (decode h .prefixes)) (certificate-row h k d l)
 
   pub finding-read : (k : ℕ) (d : Finding) → k < wordAt h 7 1 → getD (decode h .findings) k d ≡ findingRow (findingsPart h) k
   unfolding decode tablesIn
@@ -210,26 +205,38 @@ module _ (h : Bytes) (x : History) (s : Stands h x) where
   pub is : historyIn (tablesOf h) ≡ x
   is = sym (decode-is h) ∙ s .decodes
 
-  pub rows-count : length (tablesOf h .rows) ≡ wordAt h 0 2
-  unfolding tablesIn
-  rows-count = tabulate-length _ 0 _ ∙ word-part h 0 9 0 2 (omega arith)
-
-  pub certificates-count : length (tablesOf h .certificates) ≡ wordAt h 6 1
-  unfolding tablesIn
-  certificates-count = tabulate-length _ 0 _ ∙ word-part h 0 9 6 1 (omega arith)
-
-  certificate-row : (k : ℕ) (d : CertificateRow) → k < wordAt h 6 1 → getD (tablesOf h .certificates) k d ≡ certificateRow (certificatesPart h) k
-  unfolding tablesIn
-  certificate-row k d l =
-      tabulate-at (certificateRow (certificatesPart h)) 0 (wordAt (headPart h) 6 1) k d (omega (arith, word-part h 0 9 6 1 (omega arith)))
-      ∙ ap (certificateRow (certificatesPart h)) (zero-add k)
-
   pub prefixes-is : resolve (tablesOf h .rows) ≡ x .prefixes
   prefixes-is = ap (λ (y : History). y .prefixes) is
 
   pub certificates-is : map (certificateIn (x .prefixes)) (tablesOf h .certificates) ≡ x .certificates
   certificates-is =
       ap (λ (ps : List Prefix). map (certificateIn ps) (tablesOf h .certificates)) (sym prefixes-is) ∙ ap (λ (y : History). y .certificates) is
+
+  -- the tables as the code reads them
+  pub prefixes-stored : resolve (prefixRows (prefixesPart h) (wordAt h 0 2)) ≡ x .prefixes
+  prefixes-stored = ap resolve (sym (rows-are h)) ∙ prefixes-is
+
+  pub terms-stored : termRows (termsPart h) (wordAt h 2 2) ≡ x .terms
+  terms-stored = sym (terms-are h) ∙ ap (λ (y : History). y .terms) is
+
+  pub certificates-stored : map (certificateIn (x .prefixes)) (certificateRows (certificatesPart h) (wordAt h 6 1)) ≡ x .certificates
+  certificates-stored = ap (map (certificateIn (x .prefixes))) (sym (certificates-are h)) ∙ certificates-is
+
+  pub findings-stored : findingRows (findingsPart h) (wordAt h 7 1) ≡ x .findings
+  findings-stored = sym (findings-are h) ∙ ap (λ (y : History). y .findings) is
+
+  -- the committed prefix, and its index, which is its length
+  pub committed-stored : prefixAt (x .prefixes) (wordAt h 4 2) ≡ x .committed
+  committed-stored = sym (subst (λ (y : History). y .committed ≡ prefixAt (y .prefixes) (wordAt h 4 2)) (s .decodes) (committed-read h))
+
+  pub committed-index : numberIndex (prefixesPart h) (wordAt h 4 2) ≡ length (x .committed)
+  committed-index =
+      let f = formed h (s .right) in
+      let c = tabulate-length (prefixRow (prefixesPart h)) 0 (wordAt h 0 2) in
+      sym (index-among (prefixesPart h) (wordAt h 0 2) (wordAt h 4 2) (f .committed))
+      ∙ sym (formed-rows h f .index (wordAt h 4 2) (omega (arith, f .committed)))
+      ∙ ap (λ (ps : List Prefix). length (prefixAt ps (wordAt h 4 2))) prefixes-stored
+      ∙ ap length committed-stored
 
   certificates-change : (cs : List CertificateRow) → historyIn (withCertificates (tablesOf h) cs) ≡ withElections x (map (certificateIn (x .prefixes)) cs)
   certificates-change cs = ap (λ (y : History). withElections y (map (certificateIn (y .prefixes)) cs)) is
@@ -239,7 +246,7 @@ module _ (h : Bytes) (x : History) (s : Stands h x) where
       → Stands (putBytes h (9 + k * 6) (nodeBytes n)) (withFront x k (prefixAt (x .prefixes) (n .front)) (n .last) (n .unseen))
   node-written k n l f =
       let c = within _ _ _ _ (kept .limits) in
-      let r = rows-count in
+      let r = rows-count h in
       let g : NodeNamed (length (tablesOf h .rows)) n = record { front = omega (arith, f .front); last = f .last; unseen = f .unseen } in
       stands (putBytes h (9 + k * 6) (nodeBytes n)) (withNode (tablesOf h) k n) _
       (put-length h (9 + k * 6) (nodeBytes n) ∙ long)
@@ -253,7 +260,7 @@ module _ (h : Bytes) (x : History) (s : Stands h x) where
   unfolding committedSet
   committed-written p o a b =
       let c = within _ _ _ _ (kept .limits) in
-      let r = rows-count in
+      let r = rows-count h in
       stands (committedSet h p o) (withCommitted (tablesOf h) p o) _
       (put-length (putBytes h 4 (wordBytes 2 p)) 8 (wordBytes 1 o) ∙ put-length h 4 (wordBytes 2 p) ∙ long)
       (committed-set h long p o (omega (arith, c .prefixes)) (omega arith))
@@ -266,7 +273,7 @@ module _ (h : Bytes) (x : History) (s : Stands h x) where
       → Stands (prefixAppended h p i t n c) (withPrefixes x (x .prefixes ++ (extended (x .prefixes) (prefixOf p i t n c) ∷ [])))
   unfolding prefixAppended
   prefix-written p i t n c l f e =
-      let r = rows-count in
+      let r = rows-count h in
       let m = wordAt h 0 2 in
       stands (prefixAppended h p i t n c) (withRow (tablesOf h) (prefixOf p i t n c)) _
       (put-length (putBytes h (3145 + m * 41) (prefixBytes p i t n c)) 0 (wordBytes 2 (m + 1)) ∙ put-length h (3145 + m * 41) (prefixBytes p i t n c) ∙ long)
@@ -318,17 +325,17 @@ module _ (h : Bytes) (x : History) (s : Stands h x) where
       → Stands (putBytes h (1417 + k * 11) (certificateBytes c)) (withElections x (set (x .certificates) k (certificateIn (x .prefixes) c)))
   certificate-written k c l f g key =
       let lim = within _ _ _ _ (kept .limits) in
-      let r = rows-count in
+      let r = rows-count h in
       let cs = tablesOf h .certificates in
       let n = length (tablesOf h .rows) in
-      let count = certificates-count in
+      let count = certificates-count h in
       let named : CertificateNamed n c = record { log = omega (arith, g .log); mark = g .mark; leader = g .leader; present = g .present } in
       stands (putBytes h (1417 + k * 11) (certificateBytes c)) (withCertificates (tablesOf h) (set cs k c)) _
       (put-length h (1417 + k * 11) (certificateBytes c) ∙ long)
       (set-certificate h long k c (omega (arith, lim .certificates)) f)
       (kept-certificates (tablesOf h) kept (set cs k c) (omega (arith, length-set cs k c, lim .certificates))
       (every-set (certificateRight n) cs k c (certificate-test n c named) (kept .certificates))
-      (numbered-set cs k c c (subst (SameKey c) (sym (certificate-row k c l)) key) ∙ kept .numbered))
+      (numbered-set cs k c c (subst (SameKey c) (sym (certificate-row h k c l)) key) ∙ kept .numbered))
       (certificates-change (set cs k c) ∙ ap (withElections x) (map-set (certificateIn (x .prefixes)) cs k c ∙ ap (λ (q : List Certificate). set q k (certificateIn (x .prefixes) c)) certificates-is))
 
   -- one more certificate at place k, where the numbers stay unbroken
@@ -336,10 +343,10 @@ module _ (h : Bytes) (x : History) (s : Stands h x) where
       → numbered (take k (tablesOf h .certificates) ++ (c ∷ drop k (tablesOf h .certificates))) ≡ true
       → Stands (certificateAdded h k c) (withElections x (take k (x .certificates) ++ (certificateIn (x .prefixes) c ∷ drop k (x .certificates))))
   certificate-inserted k c b l f g e =
-      let r = rows-count in
+      let r = rows-count h in
       let cs = tablesOf h .certificates in
       let n = length (tablesOf h .rows) in
-      let count = certificates-count in
+      let count = certificates-count h in
       let named : CertificateNamed n c = record { log = omega (arith, g .log); mark = g .mark; leader = g .leader; present = g .present } in
       let more : length (take k cs ++ (c ∷ drop k cs)) ≡ length cs + 1
       = length-append (take k cs) (c ∷ drop k cs)

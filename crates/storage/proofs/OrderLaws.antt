@@ -25,7 +25,8 @@ use Rattle.storage.specs.Order.{placeOf, heldOf}
 use Rattle.storage.proofs.ListLaws.{both}
 use Rattle.storage.proofs.RuleLaws.{pass}
 use Rattle.storage.proofs.DecodeLaws.{CertificateNamed}
-use Rattle.storage.proofs.Meanings.{Stands, withElections, kept, certificates-count, certificates-is, certificate-inserted}
+use Rattle.storage.proofs.Meanings.{Stands, withElections, kept, certificates-is, certificate-inserted}
+use Rattle.storage.proofs.WellFormed.{certificates-count}
 
 -- ---- the model's order and count, by rows
 
@@ -219,7 +220,7 @@ pub election-written : (h : Bytes) (x : History) (s : Stands h x) (c : Certifica
 election-written h x s c l f g n =
     let cs = tablesOf h .certificates in
     let k = placeOf (c .term) cs in
-    let within : k ≤ wordAt h 6 1 = omega (arith, place-within (c .term) cs, certificates-count h x s) in
+    let within : k ≤ wordAt h 6 1 = omega (arith, place-within (c .term) cs, certificates-count h) in
     let e = certificates-is h x s in
     let order : take k (x .certificates) ++ (certificateIn (x .prefixes) c ∷ drop k (x .certificates)) ≡ inOrder (certificateIn (x .prefixes) c) (x .certificates)
     = subst (λ (q : List Certificate). take k q ++ (certificateIn (x .prefixes) c ∷ drop k q) ≡ inOrder (certificateIn (x .prefixes) c) q) e (in-order (x .prefixes) c cs) in

@@ -11,7 +11,7 @@ use mathlib.Core.Bool.{Bool, true, false, _&&_, _||_, and-true, and-assoc}
 use mathlib.Core.Logic.{⊎-elim}
 use mathlib.Core.List.{List, [], _∷_, _++_, map, append-nil, head-eq-of-cons-eq, tail-eq-of-cons-eq, List·Memᴰ, List·Memᴰ·head, List·Memᴰ·tail, List·Memᴰ·not-nil, List·Memᴰ·cases-cons}
 use lib.Dec.{leb, eqb}
-use lib.ListN.{length, getD, drop, length-append, length-map, List·getD-append}
+use lib.ListN.{length, getD, drop, length-append, length-map, List·getD-append, List·getD-map}
 use lib.Seq.{getD-at, append-snoc}
 use borrow.Author.Tests.{leb-true, eqb-true, le-leb, eq-eqb, not-true}
 use Rattle.model.specs.Sizes.{Bytes}
@@ -90,6 +90,12 @@ pub record Facts (rows : List PrefixRow) : Type 0 where
   pub index : (p : ℕ) → p ≤ length rows → length (prefixAt (resolve rows) p) ≡ indexAmong rows p
   -- equal prefixes have equal numbers
   pub distinct : (p q : ℕ) → p ≤ length rows → q ≤ length rows → prefixAt (resolve rows) p ≡ prefixAt (resolve rows) q → p ≡ q
+
+-- every index is within the limit
+pub index-small : (rows : List PrefixRow) → Facts rows → (p : ℕ) → p ≤ length rows → indexAmong rows p ≤ 256
+index-small rows f zero l = omega arith
+index-small rows f (suc p) l =
+    subst (λ (x : ℕ). x ≤ 256) (sym (List·getD-map (λ (r : PrefixRow). r .index) rows p emptyRow)) (f .small p l .0)
 
 pub facts-none : Facts []
 unfolding resolveFrom

@@ -1,7 +1,8 @@
 -- `commit::prefix::agree_through` meets its contract.
 -- Assumes nothing.
-use Rattle.commit.proofs.PrefixTurns.{table-lent, agree-short, agree-short-2, agree-same, slice-kept}
-use Rattle.commit.proofs.Formed.{formed}
+use Rattle.commit.proofs.PrefixTurns.{agree-short, agree-short-2, agree-same, slice-kept}
+use Rattle.storage.proofs.WellFormed.{formed}
+use Rattle.logical_log.proofs.TableLaws.{table-lent}
 use Prim.Native.Nat.{ℕ, _≤_}
 use borrow.Author.Needs.{needs}
 use native.Mathlib.Omega.{arith}

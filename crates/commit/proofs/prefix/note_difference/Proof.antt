@@ -1,7 +1,7 @@
 -- `commit::prefix::note_difference` meets its contract.
 -- Assumes nothing.
 use Rattle.commit.proofs.PrefixTurns.{unseen-length, findings-length, note-room, note-full, note-so}
-use Rattle.commit.proofs.Formed.{formed}
+use Rattle.storage.proofs.WellFormed.{formed}
 use lib.ListN.{length}
 use borrow.Author.Needs.{needs}
 use native.Mathlib.Omega.{arith}

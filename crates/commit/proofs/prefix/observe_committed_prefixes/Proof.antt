@@ -1,7 +1,7 @@
 -- `commit::prefix::observe_committed_prefixes` meets its contract.
 -- Assumes nothing.
 use Rattle.commit.proofs.PrefixTurns.{unseen-length, keep-length, insert-leaves-length, seen-within, committed-within, observe-unseen, observe-zero, observe-first, observe-later}
-use Rattle.commit.proofs.Formed.{formed}
+use Rattle.storage.proofs.WellFormed.{formed}
 use lib.ListN.{length}
 use borrow.Author.Needs.{needs}
 use native.Mathlib.Omega.{arith}

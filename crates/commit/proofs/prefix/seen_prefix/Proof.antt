@@ -1,7 +1,8 @@
 -- `commit::prefix::seen_prefix` meets its contract.
 -- Assumes nothing.
-use Rattle.commit.proofs.PrefixTurns.{table-lent, front-within, seen-is}
-use Rattle.commit.proofs.Formed.{formed}
+use Rattle.commit.proofs.PrefixTurns.{front-within, seen-is}
+use Rattle.storage.proofs.WellFormed.{formed}
+use Rattle.logical_log.proofs.TableLaws.{table-lent}
 use Rattle.storage.specs.Values.{nodeValue}
 use Prim.Native.Nat.{ℕ, _≤_}
 use borrow.Author.Needs.{needs}

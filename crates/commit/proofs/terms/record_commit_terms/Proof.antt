@@ -1,6 +1,6 @@
 -- `commit::terms::record_commit_terms` meets its contract.
 -- Assumes nothing.
-use Rattle.commit.proofs.Formed.{formed}
+use Rattle.storage.proofs.WellFormed.{formed}
 use lib.ListN.{length}
 use Rattle.commit.proofs.TermTurns.{lengthened-length, replace-all-length, record-refused, record-unchanged, record-changed}
 use borrow.Author.Needs.{needs}

@@ -1,29 +1,31 @@
 -- `completeness::judgement::has_through` meets its contract.
 -- Assumes nothing.
-use Rattle.completeness.proofs.JudgementLaws.{table-read, slice-within, has-beyond, has-shorter, has-same}
-use Rattle.completeness.proofs.Sound.{sound}
+use Rattle.completeness.proofs.JudgementLaws.{has-beyond, has-shorter, has-same}
+use Rattle.storage.proofs.WellFormed.{formed}
+use Rattle.logical_log.proofs.TableLaws.{table-lent, slice-within}
 use native.Mathlib.Omega.{arith}
+use mathlib.Core.Path.{sym, _∙_}
 use borrow.Author.Needs.{needs}
 use Rattle.completeness.proofs.judgement.has_through.Statement.{statement}
 use Rattle.completeness.proofs.judgement.has_through.Tie as tie
 
 prefix-count-requires : tie.Need-prefix-count-requires
-prefix-count-requires c κs = let l = sound _ (c .before .pre .0) .long in omega arith
+prefix-count-requires c κs = let l = formed _ (c .before .pre .0) .long in omega arith
 
 part-requires : tie.Need-part-requires
-part-requires c κs = let l = sound _ (c .before .before .pre .0) .long in omega arith
+part-requires c κs = let l = formed _ (c .before .before .pre .0) .long in omega arith
 
 committed-number-requires : tie.Need-committed-number-requires
-committed-number-requires c κs = let l = sound _ (c .before .before .before .pre .0) .long in omega arith
+committed-number-requires c κs = let l = formed _ (c .before .before .before .pre .0) .long in omega arith
 
 slice-through-requires : tie.Need-slice-through-requires
 slice-through-requires c κs =
     let s = c .before .before .before .before in
-    let o = sound _ (s .pre .0) in
+    let o = formed _ (s .pre .0) in
     let a = o .committed in
     let m = c .committed-number .ensures .is in
     let n = c .before .before .prefix-count .ensures .is in
-    (table-read _ _ _ o (c .before .part .ensures .is) n, omega arith)
+    (table-lent _ _ _ o (c .before .part .ensures .is) n, omega arith)
 
 enum-known-p : tie.Need-enum-known-p
 enum-known-p c = search needs
@@ -41,7 +43,7 @@ slice-through-requires-2 c κs =
     let s = c .before .before .before .before .before .before .before .before in
     let n = c .before .before .before .before .before .before .prefix-count .ensures .is in
     let l = s .pre .1 in
-    (table-read _ _ _ (sound _ (s .pre .0)) (c .before .before .before .before .before .part .ensures .is) n, omega arith)
+    (table-lent _ _ _ (formed _ (s .pre .0)) (c .before .before .before .before .before .part .ensures .is) n, omega arith)
 
 enum-known-q : tie.Need-enum-known-q
 enum-known-q c = search needs
@@ -57,15 +59,15 @@ returns-2 c =
 same-prefix-requires : tie.Need-same-prefix-requires
 same-prefix-requires c κs =
     let s = c .before .before .before .before .before .before .before .before .before .before .before .before in
-    let o = sound _ (s .pre .0) in
+    let o = formed _ (s .pre .0) in
     let n = c .before .before .before .before .before .before .before .before .before .before .prefix-count .ensures .is in
     let m = c .before .before .before .before .before .before .before .before .committed-number .ensures .is in
     let a = o .committed in
     let l = s .pre .1 in
-    let t = table-read _ _ _ o (c .before .before .before .before .before .before .before .before .before .part .ensures .is) n in (
+    let t = table-lent _ _ _ o (c .before .before .before .before .before .before .before .before .before .part .ensures .is) n in (
       t,
-      slice-within _ _ _ _ _ t (omega arith) _ (c .before .before .before .slice-through2 .ensures) (c .before .q .given .1),
-      slice-within _ _ _ _ _ t (omega arith) _ (c .before .before .before .before .before .before .before .slice-through .ensures) (c .before .before .before .before .before .p .given .1),
+      slice-within _ _ _ _ _ t (omega arith) (sym (c .before .before .before .slice-through2 .ensures) ∙ c .before .q .given .1),
+      slice-within _ _ _ _ _ t (omega arith) (sym (c .before .before .before .before .before .before .before .slice-through .ensures) ∙ c .before .before .before .before .before .p .given .1),
     )
 
 returns-3 : tie.Need-returns-3

@@ -2,7 +2,7 @@
 -- Assumes nothing.
 use Rattle.completeness.proofs.JudgementLaws.{row-here, row-stored, Walking, walking-starts, walking-next, walking-ends}
 use borrow.Author.Count.{falls}
-use Rattle.completeness.proofs.Sound.{sound}
+use Rattle.storage.proofs.WellFormed.{formed}
 use Prim.Native.Nat.{_-_}
 use mathlib.Core.Path.{sym, _∙_}
 use native.Mathlib.Omega.{arith}
@@ -17,10 +17,10 @@ abbrev μ-loop : tie.MeasureT-loop
 μ-loop history findings₀ held m certificates earlier₀ k₀ findings earlier k = m - k
 
 certificate-count-requires : tie.Need-certificate-count-requires Inv-loop μ-loop
-certificate-count-requires c κs = let l = sound _ (c .before .before .pre .right) .long in omega arith
+certificate-count-requires c κs = let l = formed _ (c .before .before .pre .right) .long in omega arith
 
 part-requires : tie.Need-part-requires Inv-loop μ-loop
-part-requires c κs = let l = sound _ (c .before .before .before .pre .right) .long in omega arith
+part-requires c κs = let l = formed _ (c .before .before .before .pre .right) .long in omega arith
 
 loop-holds : tie.Need-loop-holds Inv-loop μ-loop
 loop-holds c =
@@ -29,7 +29,7 @@ loop-holds c =
 
 certificate-at-requires : tie.Need-certificate-at-requires Inv-loop μ-loop
 certificate-at-requires c κs =
-    let o = sound _ (c .before .before .before .before .before .before .pre .right) .certificates in
+    let o = formed _ (c .before .before .before .before .before .before .pre .right) .certificates in
     let n = c .before .before .before .certificate-count .ensures .is in
     let l = c .loop-test .taken in
     (omega arith, c .before .before .part .ensures .long)
@@ -41,7 +41,7 @@ judge-requires c κs =
     let l = c .before .before .loop-test .taken in
     record {
       right = s .pre .right;
-      stored = row-stored (s .args .history .now) _ _ (sound _ (s .pre .right)) (omega arith) _ (c .before .before .before .before .part .ensures .is) (c .before .certificate-at .ensures);
+      stored = row-stored (s .args .history .now) _ _ (formed _ (s .pre .right)) (omega arith) _ (c .before .before .before .before .part .ensures .is) (c .before .certificate-at .ensures);
       long = c .before .before .before .loop .inv .long;
       few = c .before .before .before .loop .inv .few;
     }

@@ -1,7 +1,7 @@
 -- `completeness::leader_completeness::record_leader_completeness` meets its contract.
 -- Assumes nothing.
 use Rattle.completeness.proofs.CheckLaws.{copied, checked-refused, checked-accepted, written-length}
-use Rattle.completeness.proofs.Sound.{sound}
+use Rattle.storage.proofs.WellFormed.{formed}
 use mathlib.Core.Path.{ap, sym, _∙_}
 use native.Mathlib.Omega.{arith}
 use lib.ListN.{length}
@@ -15,13 +15,13 @@ slice-aggregate-put-bytes : tie.Need-slice-aggregate-put-bytes
 slice-aggregate-put-bytes c = search needs
 
 part-requires : tie.Need-part-requires
-part-requires c κs = let l = sound _ (c .before .before .before .pre) .long in omega arith
+part-requires c κs = let l = formed _ (c .before .before .before .pre) .long in omega arith
 
 put-bytes-requires : tie.Need-put-bytes-requires
 put-bytes-requires c κs = search needs
 
 finding-count-requires : tie.Need-finding-count-requires
-finding-count-requires c κs = let l = sound _ (c .before .before .before .before .before .before .before .pre) .long in omega arith
+finding-count-requires c κs = let l = formed _ (c .before .before .before .before .before .before .before .pre) .long in omega arith
 
 slice-aggregate-judge-all : tie.Need-slice-aggregate-judge-all
 slice-aggregate-judge-all c = search needs
@@ -30,7 +30,7 @@ judge-all-requires : tie.Need-judge-all-requires
 judge-all-requires c κs =
     let s = c .before .before .before .before .before .before .before .before .before .before in
     let p = c .before .before .before .before .before .before .part .ensures in
-    let o = sound _ (s .pre) in
+    let o = formed _ (s .pre) in
     let f = o .findings in
     let n = c .before .before .finding-count .ensures .is in
     let e = copied (s .args .history .now) _ _ _ (search needs) (p .is) (p .long) (c .before .before .before .before .before .put-bytes .ensures) in
@@ -53,7 +53,7 @@ slice-aggregate-write c = search needs
 
 write-requires : tie.Need-write-requires
 write-requires c κs =
-    let o = sound _ (c .before .before .before .before .before .before .before .before .before .before .before .before .before .before .before .before .before .before .pre) in
+    let o = formed _ (c .before .before .before .before .before .before .before .before .before .before .before .before .before .before .before .before .before .before .pre) in
     record { certificates = o .certificates; history = o .long; table = c .before .before .before .before .before .before .before .judge-all .ensures .long }
 
 value-requires : tie.Need-value-requires

@@ -1,23 +1,23 @@
 -- `completeness::relevance::committed_end` meets its contract.
 -- Assumes nothing.
 use Rattle.completeness.proofs.RelevanceLaws.{end-read}
-use Rattle.completeness.proofs.Sound.{sound}
+use Rattle.storage.proofs.WellFormed.{formed}
 use native.Mathlib.Omega.{arith}
 use Rattle.completeness.proofs.relevance.committed_end.Statement.{statement}
 use Rattle.completeness.proofs.relevance.committed_end.Tie as tie
 
 part-requires : tie.Need-part-requires
-part-requires c κs = let l = sound _ (c .before .pre) .long in omega arith
+part-requires c κs = let l = formed _ (c .before .pre) .long in omega arith
 
 committed-number-requires : tie.Need-committed-number-requires
-committed-number-requires c κs = let l = sound _ (c .before .before .pre) .long in omega arith
+committed-number-requires c κs = let l = formed _ (c .before .before .pre) .long in omega arith
 
 index-of-requires : tie.Need-index-of-requires
 index-of-requires c κs =
-    let o = sound _ (c .before .before .before .pre) in
+    let o = formed _ (c .before .before .before .pre) in
     let n = c .committed-number .ensures .is in
     let a = o .committed in
-    let b = o .table .fits in
+    let b = o .prefixes in
     (omega arith, c .before .part .ensures .long)
 
 returns : tie.Need-returns

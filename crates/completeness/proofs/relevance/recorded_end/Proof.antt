@@ -1,7 +1,7 @@
 -- `completeness::relevance::recorded_end` meets its contract.
 -- Assumes nothing.
 use Rattle.completeness.proofs.RelevanceLaws.{recorded-shorter, recorded-longer}
-use Rattle.completeness.proofs.Sound.{sound}
+use Rattle.storage.proofs.WellFormed.{formed}
 use native.Mathlib.Omega.{arith}
 use borrow.Author.Needs.{needs}
 use Rattle.completeness.proofs.relevance.recorded_end.Statement.{statement}
@@ -11,7 +11,7 @@ committed-end-requires : tie.Need-committed-end-requires
 committed-end-requires c κs = search needs
 
 term-count-requires : tie.Need-term-count-requires
-term-count-requires c κs = let l = sound _ (c .before .before .pre) .long in omega arith
+term-count-requires c κs = let l = formed _ (c .before .before .pre) .long in omega arith
 
 returns : tie.Need-returns
 returns c = recorded-shorter (c .before .before .before .before .args .history .now) _ _ (c .before .before .committed-end .ensures) (c .before .term-count .ensures .is) (c .if1 .taken)

@@ -2,14 +2,14 @@
 -- Assumes nothing.
 use Rattle.completeness.proofs.RelevanceLaws.{recorded-within, relevant-read}
 use Rattle.storage.specs.Values.{certificateValue}
-use Rattle.completeness.proofs.Sound.{sound}
+use Rattle.storage.proofs.WellFormed.{formed}
 use native.Mathlib.Omega.{arith}
 use borrow.Author.Needs.{needs}
 use Rattle.completeness.proofs.relevance.relevant_index.Statement.{statement}
 use Rattle.completeness.proofs.relevance.relevant_index.Tie as tie
 
 part-requires : tie.Need-part-requires
-part-requires c κs = let l = sound _ (c .before .pre) .long in omega arith
+part-requires c κs = let l = formed _ (c .before .pre) .long in omega arith
 
 recorded-end-requires : tie.Need-recorded-end-requires
 recorded-end-requires c κs = search needs
@@ -17,7 +17,7 @@ recorded-end-requires c κs = search needs
 last-relevant-requires : tie.Need-last-relevant-requires
 last-relevant-requires c κs =
     let s = c .before .before .before in
-    let o = sound _ (s .pre) in
+    let o = formed _ (s .pre) in
     let e = c .recorded-end .ensures in
     let w = recorded-within (s .args .history .now) in
     let t = o .terms in

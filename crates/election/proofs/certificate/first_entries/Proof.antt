@@ -3,7 +3,8 @@
 use mathlib.Core.List.{List}
 use Rattle.storage.specs.Tables.{prefixRow}
 use Rattle.logical_log.specs.Prefix.{sliceOf}
-use Rattle.election.proofs.Stored.{long, table}
+use Rattle.storage.proofs.WellFormed.{formed}
+use Rattle.logical_log.proofs.TableLaws.{whole-table}
 use Prim.Native.Nat.{ℕ, _-_}
 use mathlib.Core.Path.{ap, _∙_}
 use native.Mathlib.Omega.{arith}
@@ -11,13 +12,13 @@ use Rattle.election.proofs.certificate.first_entries.Statement.{stateme
 use Rattle.election.proofs.certificate.first_entries.Tie as tie
 
 prefix-count-requires : tie.Need-prefix-count-requires
-prefix-count-requires c κs = let e = long _ (c .before .pre .0) in omega arith
+prefix-count-requires c κs = let e = formed _ (c .before .pre .0) .long in omega arith
 
 part-requires : tie.Need-part-requires
-part-requires c κs = let e = long _ (c .before .before .pre .0) in omega arith
+part-requires c κs = let e = formed _ (c .before .before .pre .0) .long in omega arith
 
 slice-through-requires : tie.Need-slice-through-requires
-slice-through-requires c κs = rw (c .part .ensures .is, c .before .prefix-count .ensures .is) (table _ (c .before .before .before .pre .0), c .before .before .before .pre .1)
+slice-through-requires c κs = rw (c .part .ensures .is, c .before .prefix-count .ensures .is) (whole-table _ (formed _ (c .before .before .before .pre .0)), c .before .before .before .pre .1)
 
 returns : tie.Need-returns
 returns c = c .slice-through .ensures ∙ ap (λ (t : List ℕ). sliceOf (prefixRow t) (c .before .before .before .before .args .p) (c .before .before .before .before .args .length .0)) (c .before .part .ensures .is)

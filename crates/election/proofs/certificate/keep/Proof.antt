@@ -1,6 +1,7 @@
 -- `election::certificate::keep` meets its contract: the row at its place.
 -- Assumes nothing.
-use Rattle.election.proofs.Stored.{long, place-fits}
+use Rattle.storage.proofs.WellFormed.{formed}
+use Rattle.election.proofs.Turns.{place-fits}
 use Rattle.election.proofs.Turns.{kept-is}
 use Prim.Native.Nat.{_-_}
 use mathlib.Core.Path.{_∙_}
@@ -20,7 +21,7 @@ new-certificate-requires c κs = search needs
 add-certificate-requires : tie.Need-add-certificate-requires
 add-certificate-requires c κs =
     let s = c .before .before .before .before .before .before .before in
-    (rw (c .before .before .place-in .ensures) (place-fits _ (s .pre .0) (s .args .term .0)), s .pre .1, long _ (s .pre .0))
+    (rw (c .before .before .place-in .ensures) (place-fits _ (s .args .term .0)), s .pre .1, formed _ (s .pre .0) .long)
 
 same-length : tie.Need-same-length
 same-length c = search needs

@@ -2,7 +2,7 @@
 -- Assumes nothing.
 use Rattle.storage.specs.Tables.{certificateRows}
 use Rattle.storage.specs.Order.{placeOf}
-use Rattle.election.proofs.Stored.{long, count-fits}
+use Rattle.storage.proofs.WellFormed.{formed}
 use Prim.Native.Nat.{_-_}
 use mathlib.Core.Path.{_∙_}
 use native.Mathlib.Omega.{arith}
@@ -10,14 +10,14 @@ use Rattle.election.proofs.certificate.place_in.Statement.{statement}
 use Rattle.election.proofs.certificate.place_in.Tie as tie
 
 certificate-count-requires : tie.Need-certificate-count-requires
-certificate-count-requires c κs = let e = long _ (c .before .pre) in omega arith
+certificate-count-requires c κs = let e = formed _ (c .before .pre) .long in omega arith
 
 part-requires : tie.Need-part-requires
-part-requires c κs = let e = long _ (c .before .before .pre) in omega arith
+part-requires c κs = let e = formed _ (c .before .before .pre) .long in omega arith
 
 place-of-requires : tie.Need-place-of-requires
 place-of-requires c κs =
-    let e = count-fits _ (c .before .before .before .pre) in
+    let e = formed _ (c .before .before .before .pre) .certificates in
     (omega (arith, c .before .certificate-count .ensures .is), c .part .ensures .long)
 
 returns : tie.Need-returns

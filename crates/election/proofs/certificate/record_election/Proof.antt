@@ -1,6 +1,6 @@
 -- `election::certificate::record_election` meets its contract: refused with nothing written, or kept.
 -- Assumes nothing.
-use Rattle.election.proofs.Stored.{long, front-named}
+use Rattle.storage.proofs.WellFormed.{formed}
 use Rattle.election.proofs.Turns.{refused, accepted, accepted-fits}
 use Prim.Native.Nat.{_-_}
 use borrow.Author.Needs.{needs}
@@ -8,12 +8,12 @@ use Rattle.election.proofs.certificate.record_election.Statement.{state
 use Rattle.election.proofs.certificate.record_election.Tie as tie
 
 front-of-requires : tie.Need-front-of-requires
-front-of-requires c κs = (c .before .before .pre .1, long _ (c .before .before .pre .0))
+front-of-requires c κs = (c .before .before .pre .1, formed _ (c .before .before .pre .0) .long)
 
 first-entries-requires : tie.Need-first-entries-requires
 first-entries-requires c κs =
     let s = c .before .before .before .before in
-    (s .pre .0, rw (c .before .front-of .ensures) (front-named _ (s .pre .0) (s .args .leader .0) (s .pre .1)))
+    (s .pre .0, rw (c .before .front-of .ensures) (formed _ (s .pre .0) .node (s .args .leader .0) (s .pre .1) .front))
 
 judge-requires : tie.Need-judge-requires
 judge-requires c κs = search needs

@@ -4,21 +4,21 @@ use mathlib.Core.Path.{_∙_}
 use native.Mathlib.Omega.{arith}
 use Rattle.storage.specs.Values.{numberIndex}
 use Rattle.lists.specs.Committed.{lengthIn}
-use Rattle.lists.proofs.Whole.{long, prefixes-few, committed-stored}
+use Rattle.storage.proofs.WellFormed.{formed}
 use Rattle.lists.proofs.committed.committed_length.Statement.{statement}
 use Rattle.lists.proofs.committed.committed_length.Tie as tie
 
 committed-number-requires : tie.Need-committed-number-requires
-committed-number-requires c κs = let l = long _ (c .before .pre) in omega arith
+committed-number-requires c κs = let l = formed _ (c .before .pre) .long in omega arith
 
 part-requires : tie.Need-part-requires
-part-requires c κs = let l = long _ (c .before .before .pre) in omega arith
+part-requires c κs = let l = formed _ (c .before .before .pre) .long in omega arith
 
 index-of-requires : tie.Need-index-of-requires
 index-of-requires c κs =
     let s = c .before .before .before in
-    let n = committed-stored (s .args .history .now) (s .pre) in
-    let m = prefixes-few (s .args .history .now) (s .pre) in
+    let n = formed (s .args .history .now) (s .pre) .committed in
+    let m = formed (s .args .history .now) (s .pre) .prefixes in
     let e = c .before .committed-number .ensures .is in
     (omega arith, c .part .ensures .long)
 

@@ -2,12 +2,12 @@
 -- Assumes nothing.
 use native.Mathlib.Omega.{arith}
 use Rattle.lists.specs.Committed.{ownerIn}
-use Rattle.lists.proofs.Whole.{long}
+use Rattle.storage.proofs.WellFormed.{formed}
 use Rattle.lists.proofs.committed.committed_owner.Statement.{statement}
 use Rattle.lists.proofs.committed.committed_owner.Tie as tie
 
 owner-number-requires : tie.Need-owner-number-requires
-owner-number-requires c κs = let l = long _ (c .before .pre) in omega arith
+owner-number-requires c κs = let l = formed _ (c .before .pre) .long in omega arith
 
 returns : tie.Need-returns
 unfolding ownerIn

@@ -1,20 +1,21 @@
 -- `lists::findings::finding_at` meets its contract.
 -- Assumes nothing.
 use native.Mathlib.Omega.{arith}
-use Rattle.lists.proofs.Whole.{long, findings-few, findings-lent}
+use Rattle.storage.proofs.WellFormed.{formed}
+use Rattle.lists.proofs.Whole.{findings-lent}
 use Rattle.lists.proofs.findings.finding_at.Statement.{statement}
 use Rattle.lists.proofs.findings.finding_at.Tie as tie
 
 finding-count-requires : tie.Need-finding-count-requires
-finding-count-requires c κs = let l = long _ (c .before .pre) in omega arith
+finding-count-requires c κs = let l = formed _ (c .before .pre) .long in omega arith
 
 part-requires : tie.Need-part-requires
-part-requires c κs = let l = long _ (c .before .before .pre) in omega arith
+part-requires c κs = let l = formed _ (c .before .before .pre) .long in omega arith
 
 finding-in-requires : tie.Need-finding-in-requires
 finding-in-requires c κs =
     let s = c .before .before .before in
-    let n = findings-few (s .args .history .now) (s .pre) in
+    let n = formed (s .args .history .now) (s .pre) .findings in
     let e = c .before .finding-count .ensures .is in
     (omega arith, c .part .ensures .long)
 

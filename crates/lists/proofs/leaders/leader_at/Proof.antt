@@ -1,24 +1,24 @@
 -- `lists::leaders::leader_at` meets its contract.
 -- Assumes nothing.
 use native.Mathlib.Omega.{arith}
-use Rattle.lists.proofs.Whole.{long, findings-few}
+use Rattle.storage.proofs.WellFormed.{formed}
 use Rattle.lists.proofs.LeaderLaws.{leaders-past, leaders-lent}
 use Rattle.lists.proofs.leaders.leader_at.Statement.{statement}
 use Rattle.lists.proofs.leaders.leader_at.Tie as tie
 
 finding-count-requires : tie.Need-finding-count-requires
-finding-count-requires c κs = let l = long _ (c .before .pre) in omega arith
+finding-count-requires c κs = let l = formed _ (c .before .pre) .long in omega arith
 
 returns : tie.Need-returns
 returns c = leaders-past _ _ _ (c .before .finding-count .ensures .is) (c .if1 .taken)
 
 part-requires : tie.Need-part-requires
-part-requires c κs = let l = long _ (c .before .before .before .pre) in omega arith
+part-requires c κs = let l = formed _ (c .before .before .before .pre) .long in omega arith
 
 leader-in-requires : tie.Need-leader-in-requires
 leader-in-requires c κs =
     let s = c .before .before .before .before in
-    let n = findings-few (s .args .history .now) (s .pre) in
+    let n = formed (s .args .history .now) (s .pre) .findings in
     let e = c .before .before .finding-count .ensures .is in
     (omega arith, c .part .ensures .long)
 

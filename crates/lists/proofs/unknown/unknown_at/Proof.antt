@@ -2,7 +2,8 @@
 -- Assumes nothing.
 use native.Mathlib.Omega.{arith}
 use borrow.Author.Needs.{needs}
-use Rattle.lists.proofs.Whole.{long, terms-few, committed-few, unknown-lent}
+use Rattle.storage.proofs.WellFormed.{formed}
+use Rattle.lists.proofs.Whole.{committed-few, unknown-lent}
 use Rattle.lists.proofs.unknown.unknown_at.Statement.{statement}
 use Rattle.lists.proofs.unknown.unknown_at.Tie as tie
 
@@ -10,15 +11,15 @@ committed-length-requires : tie.Need-committed-length-requires
 committed-length-requires c κs = search needs
 
 term-count-requires : tie.Need-term-count-requires
-term-count-requires c κs = let l = long _ (c .before .before .pre) in omega arith
+term-count-requires c κs = let l = formed _ (c .before .before .pre) .long in omega arith
 
 part-requires : tie.Need-part-requires
-part-requires c κs = let l = long _ (c .before .before .before .pre) in omega arith
+part-requires c κs = let l = formed _ (c .before .before .before .pre) .long in omega arith
 
 index-in-requires : tie.Need-index-in-requires
 index-in-requires c κs =
     let s = c .before .before .before .before in
-    let n = terms-few (s .args .history .now) (s .pre) in
+    let n = formed (s .args .history .now) (s .pre) .terms in
     let m = committed-few (s .args .history .now) (s .pre) in
     let e = c .before .term-count .ensures .is in
     let f = c .before .before .committed-length .ensures in

@@ -2,12 +2,13 @@
 -- Assumes nothing.
 use native.Mathlib.Omega.{arith}
 use borrow.Author.Needs.{needs}
-use Rattle.lists.proofs.Whole.{long, unseen-lent}
+use Rattle.storage.proofs.WellFormed.{formed}
+use Rattle.lists.proofs.Whole.{unseen-lent}
 use Rattle.lists.proofs.unseen.unseen_at.Statement.{statement}
 use Rattle.lists.proofs.unseen.unseen_at.Tie as tie
 
 part-requires : tie.Need-part-requires
-part-requires c κs = let l = long _ (c .before .pre) in omega arith
+part-requires c κs = let l = formed _ (c .before .pre) .long in omega arith
 
 mark-in-requires : tie.Need-mark-in-requires
 mark-in-requires c κs = search needs

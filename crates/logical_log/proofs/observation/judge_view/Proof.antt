@@ -6,26 +6,28 @@ use native.Mathlib.Omega.{arith}
 use lib.ListN.{length}
 use Rattle.storage.proofs.WordLaws.{put-length}
 use Rattle.logical_log.proofs.ViolationLaws.{all-length}
-use Rattle.logical_log.proofs.Whole.{whole-long, whole-few, whole-table, table-for, copied, view-judged}
+use Rattle.storage.proofs.WellFormed.{formed}
+use Rattle.logical_log.proofs.TableLaws.{table-lent}
+use Rattle.logical_log.proofs.Whole.{copied, view-judged}
 use Rattle.logical_log.proofs.observation.judge_view.Statement.{statement}
 use Rattle.logical_log.proofs.observation.judge_view.Tie as tie
 
 prefix-count-requires : tie.Need-prefix-count-requires
 prefix-count-requires c κs =
     let s = c .before .before .before in
-    let l = whole-long (s .args .history .now) (s .pre .0 .right) in
+    let l = formed (s .args .history .now) (s .pre .0 .right) .long in
     omega arith
 
 finding-count-requires : tie.Need-finding-count-requires
 finding-count-requires c κs =
     let s = c .before .before .before .before in
-    let l = whole-long (s .args .history .now) (s .pre .0 .right) in
+    let l = formed (s .args .history .now) (s .pre .0 .right) .long in
     omega arith
 
 part-requires : tie.Need-part-requires
 part-requires c κs =
     let s = c .before .before .before .before .before .before in
-    let l = whole-long (s .args .history .now) (s .pre .0 .right) in
+    let l = formed (s .args .history .now) (s .pre .0 .right) .long in
     omega arith
 
 put-bytes-requires : tie.Need-put-bytes-requires
@@ -38,7 +40,7 @@ put-bytes-requires c κs =
 part-requires-2 : tie.Need-part-requires-2
 part-requires-2 c κs =
     let s = c .before .before .before .before .before .before .before .before .before .before in
-    let l = whole-long (s .args .history .now) (s .pre .0 .right) in
+    let l = formed (s .args .history .now) (s .pre .0 .right) .long in
     omega arith
 
 judge-requires : tie.Need-judge-requires
@@ -48,8 +50,8 @@ judge-requires c κs =
     let right = s .pre .0 .right in
     let count = c .before .before .before .before .before .before .before .before .prefix-count .ensures .is in
     let held = c .before .before .before .before .before .before .before .finding-count .ensures .is in
-    let few = whole-few h right in (
-      table-for h _ _ (c .before .part2 .ensures .is) count (whole-table h right),
+    let few = formed h right .findings in (
+      table-lent h _ _ (formed h right) (c .before .part2 .ensures .is) count,
       s .pre .0 .walk,
       omega arith,
       ap length (c .before .before .before .before .put-bytes .ensures) ∙ put-length _ _ _ ∙ s .pre .1,

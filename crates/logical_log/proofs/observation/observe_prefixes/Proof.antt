@@ -5,7 +5,8 @@ use mathlib.Core.Path.{ap, _∙_}
 use native.Mathlib.Omega.{arith}
 use lib.ListN.{length}
 use borrow.Author.Needs.{needs}
-use Rattle.logical_log.proofs.Whole.{whole-long, observed-six, observed-seven, observed-ok, observed-room, table-length, written-length}
+use Rattle.storage.proofs.WellFormed.{formed}
+use Rattle.logical_log.proofs.Whole.{observed-six, observed-seven, observed-ok, observed-room, table-length, written-length}
 use Rattle.logical_log.proofs.observation.observe_prefixes.Statement.{statement}
 use Rattle.logical_log.proofs.observation.observe_prefixes.Tie as tie
 
@@ -18,7 +19,7 @@ judge-view-requires c κs = search needs
 prefix-count-requires : tie.Need-prefix-count-requires
 prefix-count-requires c κs =
     let s = c .before .before .before .before .before .before .before in
-    let l = whole-long (s .args .history .now) (s .pre .0 .right) in
+    let l = formed (s .args .history .now) (s .pre .0 .right) .long in
     omega arith
 
 add-total : tie.Need-add-total
