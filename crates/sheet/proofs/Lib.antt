@@ -1,3 +1,5 @@
 pub mod DecimalLaws
 pub mod PutLaws
 pub mod SplitLaws
+pub mod SheetLaws
+pub mod ListBounds

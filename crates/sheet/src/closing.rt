@@ -3,7 +3,12 @@ ghost use mathlib.Core.Path.{_≡_};
 ghost use mathlib.Core.Bool.{true};
 ghost use Prim.Native.Nat.{_+_, _≤_};
 ghost use lib.ListN.{length};
+ghost use Rattle.model.specs.Lists.{findingList, leaderList, unseenList, unknownList};
 ghost use Rattle.storage.specs.Rules.{wellFormed};
+ghost use Rattle.storage.specs.Decode.{decode};
+ghost use Rattle.sheet.specs.Decimal.{Put};
+ghost use Rattle.sheet.specs.Lines.{unknownLine};
+ghost use Rattle.sheet.specs.Sheet.{linesOf, ofFinding, ofLeader, ofUnseen, closingOf};
 use crate::lines::put_committed;
 use crate::lines::put_finding;
 use crate::lines::put_leader;
@@ -27,7 +32,7 @@ const MOST: usize = 256;
 fn put_findings(history: &[u8], out: &mut [u8], start: usize) -> usize
     requires { ⌜ wellFormed (now history) ≡ true ⌝ }
     requires { ⌜ start + 22528 ≤ length (now out) ⌝ }
-    ensures { λ r. ⌜ r ≤ start + 22528 ⌝ }
+    ensures { λ r. ⌜ Put 22528 (now (out .entry)) start (linesOf ofFinding (findingList (decode (now (history .entry))))) r (now (out .exit)) ⌝ }
 {
     let mut at = start;
     let mut k = 0;
@@ -44,7 +49,7 @@ fn put_findings(history: &[u8], out: &mut [u8], start: usize) -> usize
 fn put_leaders(history: &[u8], out: &mut [u8], start: usize) -> usize
     requires { ⌜ wellFormed (now history) ≡ true ⌝ }
     requires { ⌜ start + 12544 ≤ length (now out) ⌝ }
-    ensures { λ r. ⌜ r ≤ start + 12544 ⌝ }
+    ensures { λ r. ⌜ Put 12544 (now (out .entry)) start (linesOf ofLeader (leaderList (decode (now (history .entry))))) r (now (out .exit)) ⌝ }
 {
     let mut at = start;
     let mut k = 0;
@@ -61,7 +66,7 @@ fn put_leaders(history: &[u8], out: &mut [u8], start: usize) -> usize
 fn put_marks(history: &[u8], out: &mut [u8], start: usize) -> usize
     requires { ⌜ wellFormed (now history) ≡ true ⌝ }
     requires { ⌜ start + 12544 ≤ length (now out) ⌝ }
-    ensures { λ r. ⌜ r ≤ start + 12544 ⌝ }
+    ensures { λ r. ⌜ Put 12544 (now (out .entry)) start (linesOf ofUnseen (unseenList (decode (now (history .entry))))) r (now (out .exit)) ⌝ }
 {
     let mut at = start;
     let mut k = 0;
@@ -78,7 +83,7 @@ fn put_marks(history: &[u8], out: &mut [u8], start: usize) -> usize
 fn put_indexes(history: &[u8], out: &mut [u8], start: usize) -> usize
     requires { ⌜ wellFormed (now history) ≡ true ⌝ }
     requires { ⌜ start + 7424 ≤ length (now out) ⌝ }
-    ensures { λ r. ⌜ r ≤ start + 7424 ⌝ }
+    ensures { λ r. ⌜ Put 7424 (now (out .entry)) start (linesOf unknownLine (unknownList (decode (now (history .entry))))) r (now (out .exit)) ⌝ }
 {
     let mut at = start;
     let mut k = 0;
@@ -95,7 +100,7 @@ fn put_indexes(history: &[u8], out: &mut [u8], start: usize) -> usize
 // The lists of a history that keeps the storage rules, at the start of the output: where they end.
 pub fn put_lists(history: &[u8], out: &mut [u8]) -> usize
     requires { ⌜ 65536 ≤ length (now out) ⌝ }
-    ensures { λ r. ⌜ r ≤ 65536 ⌝ }
+    ensures { λ r. ⌜ Put 55092 (now (out .entry)) 0 (closingOf (now (history .entry))) r (now (out .exit)) ⌝ }
 {
     if !well_formed(history) {
         return 0;

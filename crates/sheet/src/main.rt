@@ -9,6 +9,8 @@ mod split;
 ghost use mathlib.Core.Path.{_≡_};
 ghost use Prim.Native.Nat.{_+_, _≤_};
 ghost use lib.ListN.{length};
+ghost use Rattle.sheet.specs.Decimal.{Put};
+ghost use Rattle.sheet.specs.Sheet.{cutLine, HandedOver};
 use closing::put_lists;
 use history::exports::gamiwhoru_submit;
 use history::numbers::Reply;
@@ -59,7 +61,7 @@ fn room(out: &[u8], at: usize) -> usize
 // The line of a piece that is cut, or has no bytes.
 fn put_cut(out: &mut [u8], at: usize, number: u64) -> usize
     requires { ⌜ at + 105 ≤ length (now out) ⌝ }
-    ensures { λ r. ⌜ r ≤ length (now (out .exit)) ⌝ }
+    ensures { λ r. ⌜ Put 105 (now (out .entry)) at (cutLine number) r (now (out .exit)) ⌝ }
 {
     let missing = Reply {
         refusal: 2,
@@ -72,7 +74,7 @@ fn put_cut(out: &mut [u8], at: usize, number: u64) -> usize
 // A record handed to the history, and its line.
 fn hand_over(history: &mut [u8], s: &[u8], out: &mut [u8], at: usize, number: u64) -> usize
     requires { ⌜ at + 105 ≤ length (now out) ⌝ }
-    ensures { λ r. ⌜ r ≤ length (now (out .exit)) ⌝ }
+    ensures { λ r. ⌜ HandedOver (now (history .entry)) (now (s .entry)) (now (out .entry)) at number r (now (history .exit)) (now (out .exit)) ⌝ }
 {
     if s.len() == 0 {
         return put_cut(&mut out[..], at, number);
