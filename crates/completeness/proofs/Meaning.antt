@@ -13,11 +13,11 @@ use lib.Dec.{ltb}
 use lib.ListN.{length}
 use borrow.Author.Tests.{lt-ltb, le-ltb}
 use Rattle.model.specs.Sizes.{Bytes}
-use Rattle.model.specs.Refusal.{Refusal, findingsFull}
+use Rattle.model.specs.Refusal.{findingsFull}
 use Rattle.model.specs.Record.{check}
 use Rattle.model.specs.History.{Finding, Certificate, History, noted}
 use Rattle.model.specs.Check.{moved, lackings, someRelevant, checkFindings, checkRefusal, checkValue, checkEffect}
-use Rattle.model.specs.Answer.{refusal, value, effect}
+use Rattle.model.specs.Answer.{refusal}
 use Rattle.model.proofs.Tests.{cond-true, cond-false}
 use Rattle.storage.specs.Lists.{every}
 use Rattle.storage.specs.Words.{wordAt}
@@ -26,29 +26,18 @@ use Rattle.storage.specs.Rules.{findingRight}
 use Rattle.storage.proofs.ListLaws.{tabulate-length}
 use Rattle.storage.proofs.PartLaws.{part-length}
 use Rattle.storage.proofs.Meanings.{Stands, kept, is, withElections, withNoted, certificates-stored, findings-stored, findings-taken}
+use Rattle.storage.proofs.Answered.{Means, accepts, refuses}
 use Rattle.logical_log.proofs.ViolationLaws.{Holds, all-hold, all-length}
 use Rattle.completeness.specs.declared.leader_completeness.Checked.{Checked}
 use Rattle.completeness.specs.Relevance.{committedEnd}
 use Rattle.completeness.specs.Judgement.{lackingsIn, flagsIn, certificatesOf}
 use Rattle.completeness.specs.Marks.{marksMoved}
-use Rattle.completeness.specs.Check.{refusalOf, valueIn, valueOf, checkHeld, checkTable, checkWritten, checkAnswer, checkBytes, CheckedAs}
+use Rattle.completeness.specs.Check.{checkReply, valueOf, checkHeld, checkTable, checkWritten, checkAnswer, checkBytes, CheckedAs}
 use Rattle.completeness.proofs.Read.{right, end-is, end-small}
 use Rattle.completeness.proofs.Fits.{TermsFit, Stored, stored}
 use Rattle.completeness.proofs.CertificateMeaning.{lackings-mean, flags-mean}
 use Rattle.completeness.proofs.MarkMeaning.{raised, marks-mean}
 use Rattle.completeness.proofs.FindingMeaning.{Fitting, fitting, lackings-fit, noted-right}
-
--- ---- the statement
-
-pub record Means (h : Bytes) (x : History) (answer : Checked) (after : Bytes) : Type 0 where
-  -- it is refused where the model refuses it, and for the same reason
-  pub refuses : refusalOf answer ≡ refusal x check
-  -- accepted, it has the model's value, and the bytes after it stand for the model's history after it
-  pub accepts : refusal x check ≡ none → (valueIn answer ≡ value x check) × Stands after (effect x check)
-  -- refused, it leaves every byte
-  pub leaves : (r : Refusal) → refusal x check ≡ some r → after ≡ h
-
--- ---- the proof
 
 module _ (h : Bytes) (x : History) (s : Stands h x) (f : TermsFit x) where
   rows : (c : CertificateRow) → List·Memᴰ c (certificatesOf h) → Stored (wordAt h 0 2) c
@@ -121,13 +110,8 @@ module _ (h : Bytes) (x : History) (s : Stands h x) (f : TermsFit x) where
         (findings-taken (marksMoved h (committedEnd h) 0 (wordAt h 6 1)) (withElections x (map (moved (x .committed)) (x .certificates))) marks
         (checkTable h) (checkHeld h) table-kept few (ap (every findingRight) e ∙ findings-right)))
 
-    accepted-means : Means h x (checkAnswer h) (checkBytes h)
-    accepted-means =
-        record {
-          refuses = ap refusalOf accepted ∙ sym model-accepts;
-          accepts = λ _. (ap valueIn accepted, written);
-          leaves = λ r q. absurd (let p = model-accepts in let z : _≡_ {A = ℕ} 0 1 = cc in omega arith);
-        }
+    accepted-means : Means h x check (checkReply (checkAnswer h)) (checkBytes h)
+    accepted-means = accepts h x check _ (checkBytes h) model-accepts (ap checkReply accepted) written
 
   -- too many: refused
   module _ (many : checkHeld h ≡ 129) (more : 128 < length (checkFindings x)) where
@@ -146,17 +130,12 @@ module _ (h : Bytes) (x : History) (s : Stands h x) (f : TermsFit x) where
     unfolding checkBytes
     unchanged = cond-true (ltb 128 (checkHeld h)) h _ over
 
-    refused-means : Means h x (checkAnswer h) (checkBytes h)
-    refused-means =
-        record {
-          refuses = ap refusalOf refused ∙ sym model-refuses;
-          accepts = λ q. absurd (let p = model-refuses in let z : _≡_ {A = ℕ} 0 1 = cc in omega arith);
-          leaves = λ _ _. unchanged;
-        }
+    refused-means : Means h x check (checkReply (checkAnswer h)) (checkBytes h)
+    refused-means = refuses h x check _ (checkBytes h) findingsFull s model-refuses (ap checkReply refused) unchanged
 
 -- the check of bytes that stand for a history is the model's check of it. A term is copied into an LG-05, and must fit there
 pub check-means : (h : Bytes) (x : History) (answer : Checked) (after : Bytes) → Stands h x → TermsFit x → CheckedAs h answer after
-    → Means h x answer after
+    → Means h x check (checkReply answer) after
 check-means h x answer after s f c =
-    subst₂ (Means h x) (sym (c .is)) (sym (c .bytes))
+    subst₂ (λ (a : Checked) (u : Bytes). Means h x check (checkReply a) u) (sym (c .is)) (sym (c .bytes))
     (⊎-elim (λ a. accepted-means h x s f (a .0) (a .1)) (λ a. refused-means h x s f (a .0) (a .1)) (holds h x s f))

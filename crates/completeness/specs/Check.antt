@@ -3,11 +3,11 @@
 use Prim.Native.Nat.{ℕ, _≤_}
 use mathlib.Core.Path.{_≡_}
 use mathlib.Core.Bool.{Bool, false, cond}
-use mathlib.Core.Option.{Option, none, some}
 use lib.Dec.{ltb}
 use lib.ListN.{length}
 use Rattle.model.specs.Sizes.{Bytes}
-use Rattle.model.specs.Refusal.{Refusal, findingsFull}
+use Rattle.model.specs.Refusal.{findingsFull}
+use Rattle.model.specs.Answer.{Answer, accepted, refused}
 use Rattle.storage.specs.Words.{wordAt, wordBytes, putBytes}
 use Rattle.storage.specs.Tables.{findingsPart}
 use Rattle.logical_log.specs.Violation.{heldAll, bytesAll}
@@ -17,14 +17,10 @@ use Rattle.completeness.specs.Marks.{marksMoved}
 use Rattle.completeness.specs.declared.leader_completeness.Checked.{Checked}
 use Rattle.completeness.specs.declared.leader_completeness.Checked.the-variants.{Accepted, FindingsFull}
 
--- the answer in document 01's words: why it is refused, and its value
-abbrev pub refusalOf : Checked → Option Refusal
-refusalOf (Accepted v) = none
-refusalOf FindingsFull = some findingsFull
-
-abbrev pub valueIn : Checked → ℕ
-valueIn (Accepted v) = v
-valueIn FindingsFull = 0
+-- the answer in the model's words
+abbrev pub checkReply : Checked → Answer
+checkReply (Accepted v) = accepted v 0
+checkReply FindingsFull = refused findingsFull
 
 -- flag 4
 abbrev pub valueOf : Bool → ℕ

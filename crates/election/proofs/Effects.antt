@@ -72,12 +72,6 @@ room-is true b = refl
 room-is false true = refl
 room-is false false = refl
 
-pub not-accepted : (r : ElectionAnswer) → (r ≡ ElectionAnswer.Accepted → ⊥) → isAccepted r ≡ false
-not-accepted ElectionAnswer.Accepted f = absurd (f refl)
-not-accepted ElectionAnswer.LengthExceedsFront f = refl
-not-accepted ElectionAnswer.CertificatesFull f = refl
-not-accepted ElectionAnswer.NumberTaken f = refl
-
 -- ---- bytes that stand for a history
 
 module _ (h : Bytes) (x : History) (s : Stands h x) where

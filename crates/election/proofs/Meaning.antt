@@ -1,32 +1,45 @@
--- What recording an election means: on bytes that stand for a history the answer is the model's refusal, an accepted one
--- leaves bytes that stand for the model's history after it, and a refused one leaves every byte.
+-- What recording an election means: of bytes that stand for a history the answer is the model's, and the bytes after it stand for
+-- the model's history after it.
 -- Assumes nothing.
 use Prim.Native.Nat.{ℕ, _^_, _<_}
-use mathlib.Core.Path.{_≡_, ap, sym, _∙_, subst}
-use mathlib.Core.Bool.{Bool}
+use mathlib.Core.Path.{_≡_, refl, ap, sym, _∙_, subst}
+use mathlib.Core.Bool.{Bool, false}
 use Rattle.model.specs.Sizes.{Bytes}
+use Rattle.model.specs.Refusal.{lengthExceedsFront, certificatesFull, numberTaken}
+use Rattle.model.specs.Record.{election}
 use Rattle.model.specs.History.{History}
+use Rattle.model.specs.Answer.{Answer, accepted, refused}
 use Rattle.model.specs.Election.{electionRefusal, electionEffect}
 use Rattle.storage.proofs.Meanings.{Stands}
+use Rattle.storage.proofs.Answered.{Means, accepts, refuses}
 use Rattle.election.specs.declared.certificate.ElectionAnswer.{ElectionAnswer}
-use Rattle.election.specs.Certify.{answerIn, Recorded}
-use Rattle.election.proofs.Effects.{refusalOf, not-accepted, refusal-is, effect-stands, bytes-left}
+use Rattle.election.specs.Certify.{isAccepted, Recorded}
+use Rattle.election.proofs.Effects.{refusalOf, refusal-is, effect-stands, bytes-left}
 
--- the answer r, and bytes h′ after it, are what the model says of history x, for which bytes h stand
-pub record Means (h : Bytes) (x : History) (l t : ℕ) (p : Bool) (n : ℕ) (r : ElectionAnswer) (h′ : Bytes) : Type 0 where
-  pub refusal : refusalOf r ≡ electionRefusal x l t n
-  pub accepted : r ≡ ElectionAnswer.Accepted → Stands h′ (electionEffect x l t p n)
-  pub refused : (r ≡ ElectionAnswer.Accepted → ⊥) → h′ ≡ h
+-- the answer in the model's words
+abbrev pub electionReply : ElectionAnswer → Answer
+electionReply ElectionAnswer.Accepted = accepted 0 0
+electionReply ElectionAnswer.LengthExceedsFront = refused lengthExceedsFront
+electionReply ElectionAnswer.CertificatesFull = refused certificatesFull
+electionReply ElectionAnswer.NumberTaken = refused numberTaken
+
+module _ (h : Bytes) (x : History) (s : Stands h x) (l t : ℕ) (p : Bool) (n : ℕ) (h′ : Bytes) where
+  abbrev As : ElectionAnswer → Type 0
+  As r = Means h x (election l t p n) (electionReply r) h′
+
+  by-answer : (r : ElectionAnswer) → refusalOf r ≡ electionRefusal x l t n → (r ≡ ElectionAnswer.Accepted → Stands h′ (electionEffect x l t p n))
+      → (isAccepted r ≡ false → h′ ≡ h) → As r
+  by-answer ElectionAnswer.Accepted e a k = accepts h x (election l t p n) _ h′ (sym e) refl (a refl)
+  by-answer ElectionAnswer.LengthExceedsFront e a k = refuses h x (election l t p n) _ h′ lengthExceedsFront s (sym e) refl (k refl)
+  by-answer ElectionAnswer.CertificatesFull e a k = refuses h x (election l t p n) _ h′ certificatesFull s (sym e) refl (k refl)
+  by-answer ElectionAnswer.NumberTaken e a k = refuses h x (election l t p n) _ h′ numberTaken s (sym e) refl (k refl)
 
 -- "9 when length exceeds the leader's front, 10 when 64 are held, 11 when its number within its term is taken, in this order.
 -- Else a certificate": what `record_election` promises is what the model says, of any leader and any term of 32 bits
 pub election-recorded : (h : Bytes) (x : History) → Stands h x → (l t : ℕ) (p : Bool) (n : ℕ) → l < 64 → t < 2 ^ 32
     → (r : ElectionAnswer) (h′ : Bytes) → Recorded h l t p n r h′
-    → Means h x l t p n r h′
+    → Means h x (election l t p n) (electionReply r) h′
 election-recorded h x s l t p n leads fits r h′ d =
-    record {
-      refusal = ap refusalOf (d .answer) ∙ refusal-is h x s l t p n leads fits;
-      accepted = λ e.
-          subst (λ (y : Bytes). Stands y (electionEffect x l t p n)) (sym (d .bytes)) (effect-stands h x s l t p n leads fits (sym (d .answer) ∙ e));
-      refused = λ f. d .bytes ∙ bytes-left h x s l t p n leads fits (not-accepted (answerIn h l t n) (λ e. f (d .answer ∙ e)));
-    }
+    by-answer h x s l t p n h′ r (ap refusalOf (d .answer) ∙ refusal-is h x s l t p n leads fits)
+    (λ e. subst (λ (y : Bytes). Stands y (electionEffect x l t p n)) (sym (d .bytes)) (effect-stands h x s l t p n leads fits (sym (d .answer) ∙ e)))
+    (λ f. d .bytes ∙ bytes-left h x s l t p n leads fits (ap isAccepted (sym (d .answer)) ∙ f))

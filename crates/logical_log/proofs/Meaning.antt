@@ -16,8 +16,9 @@ use borrow.Author.Tests.{lt-ltb, ltb-false}
 use Rattle.model.specs.Sizes.{Bytes}
 use Rattle.model.specs.Entry.{Entry, Prefix, prefixes, withAll}
 use Rattle.model.specs.Refusal.{Refusal, prefixesFull, findingsFull}
-use Rattle.model.specs.Record.{Shown, front, lastFrom, lastIndex}
+use Rattle.model.specs.Record.{Shown, view, front, lastFrom, lastIndex}
 use Rattle.model.specs.History.{Finding, History, sameFinding, noted}
+use Rattle.model.specs.Answer.{Answer, accepted, refused}
 use Rattle.model.specs.View.{begunBy, mismatches, stored, viewFindings, viewRefusal, viewEffect}
 use Rattle.model.proofs.Tests.{and-left, and-right, and-both}
 use Rattle.model.proofs.Members.{all-cases}
@@ -34,6 +35,7 @@ use Rattle.storage.proofs.DecodeLaws.{NodeNamed, node-named, finding-test}
 use Rattle.storage.proofs.RowFacts.{resolve-count}
 use Rattle.storage.proofs.WellFormed.{rows-count, formed}
 use Rattle.storage.proofs.Meanings.{Stands, withPrefixes, withFront, withNoted, prefixes-is, kept, is, unseen-read, node-written, findings-taken}
+use Rattle.storage.proofs.Answered.{Means, accepts, refuses}
 use Rattle.logical_log.specs.Observation.{nextNumber, counted, missingFrom, noteOf, notesFrom, other, writtenBytes, writtenCount, writtenNumber, viewReplaced, findingsKept, viewWritten, missingIn, notesIn, heldIn, tableIn, observed, observedBytes}
 use Rattle.logical_log.specs.Violation.{heldAll, bytesAll}
 use Rattle.logical_log.specs.declared.observation.Observed.{Observed}
@@ -343,3 +345,23 @@ views-mean limit h x s m node st w hn hl =
       accepted = λ e. accepted-bytes limit h x s m node st w hn hl (fine limit h x s m node st w hn hl e);
       refused = refused-bytes limit h x s m node st w hn hl;
     }
+
+-- ---- at document 01's limit, as the other kinds are stated
+
+abbrev pub viewReply : Observed → Answer
+viewReply Observed.Accepted = accepted 0 0
+viewReply Observed.PrefixesFull = refused prefixesFull
+viewReply Observed.FindingsFull = refused findingsFull
+
+by-answer : (h : Bytes) (x : History) (node : ℕ) (E : List Shown) (h′ : Bytes) (r : Observed) → Stands h x → refusalIs r ≡ viewRefusal 512 x node E
+    → (viewRefusal 512 x node E ≡ none → Stands h′ (viewEffect x node E)) → ((w : Refusal) → viewRefusal 512 x node E ≡ some w → h′ ≡ h)
+    → Means h x (view node E) (viewReply r) h′
+by-answer h x node E h′ Observed.Accepted st e a k = accepts h x (view node E) _ h′ (sym e) refl (a (sym e))
+by-answer h x node E h′ Observed.PrefixesFull st e a k = refuses h x (view node E) _ h′ prefixesFull st (sym e) refl (k prefixesFull (sym e))
+by-answer h x node E h′ Observed.FindingsFull st e a k = refuses h x (view node E) _ h′ findingsFull st (sym e) refl (k findingsFull (sym e))
+
+pub view-mean : (h : Bytes) (x : History) (s : Bytes) (m node : ℕ) → Stands h x → Walk s firstEntry m → node < 64
+    → Means h x (view node (entriesAt s firstEntry m)) (viewReply (observed 512 h s m node)) (observedBytes 512 h s m node)
+view-mean h x s m node st w l =
+    let v = views-mean 512 h x s m node st w l (omega arith) in
+    by-answer h x node (entriesAt s firstEntry m) _ (observed 512 h s m node) st (v .answers) (v .accepted) (v .refused)

@@ -10,5 +10,6 @@ pub mod RowFacts
 pub mod DecodeLaws
 pub mod WellFormed
 pub mod Meanings
+pub mod Answered
 pub mod PrefixLaws
 pub mod OrderLaws
