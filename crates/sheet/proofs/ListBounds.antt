@@ -17,9 +17,9 @@ use Rattle.storage.specs.Rules.{wellFormed}
 use Rattle.storage.specs.Tables.{NodeRow, nodeRow, nodesPart, findingRow, findingRows, findingsPart, tablesIn, tablesOf}
 use Rattle.storage.specs.Decode.{decode}
 use Rattle.storage.proofs.ListLaws.{tabulate-length}
-use Rattle.commit.proofs.Formed.{formed}
+use Rattle.storage.proofs.WellFormed.{formed}
 use Rattle.completeness.proofs.Read.{end-is, end-small}
-use Rattle.lists.proofs.Whole.{findings-stored}
+use Rattle.storage.proofs.Meanings.{findings-stored}
 use Rattle.lists.proofs.Ascents.{leaders-few}
 use Rattle.history.proofs.Printed.{stand}
 
@@ -54,7 +54,7 @@ module _ (h : Bytes) (right : wellFormed h ≡ true) where
   findings-held : length (decode h .findings) ≤ 128
   findings-held =
       let n = tabulate-length (findingRow (findingsPart h)) 0 (wordAt h 7 1) in
-      omega (arith, ap length (findings-stored h), formed h right .findings)
+      omega (arith, ap length (findings-stored h (decode h) (stand h right)), formed h right .findings)
 
   pub findings-bound : length (findingList (decode h)) ≤ 256
   unfolding findingList
