@@ -8,6 +8,7 @@ pub mod Loops
 pub mod ViolationLaws
 pub mod Turns
 pub mod Written
+pub mod Rest
 pub mod Whole
 pub mod Stored
 pub mod Meaning

@@ -28,7 +28,8 @@ use Rattle.logical_log.specs.Table.{entryValue}
 use Rattle.logical_log.specs.Violation.{notedAt, noteHeld, noteBytes, heldAll, bytesAll}
 use Rattle.logical_log.specs.Prefix.{rowOf, searchFrom, find, isOf, first}
 use Rattle.logical_log.specs.Comparison.{sameFrom}
-use Rattle.logical_log.specs.Observation.{nextNumber, differs, other, counted, missingFrom, noteOf, notesFrom, JudgedAs}
+use Rattle.logical_log.specs.Observation.{nextNumber, differs, other, counted, missingFrom, noteOf, notesFrom, Rest, JudgedAs}
+use Rattle.logical_log.specs.declared.observation.Place.{Place}
 use Rattle.logical_log.proofs.PrefixLaws.{searched}
 use Rattle.logical_log.proofs.ViolationLaws.{all-length}
 
@@ -124,6 +125,15 @@ module _ (s : Bytes) (k n i : ℕ) where
   unfolding frontFrom
   front-none h = ap (frontFrom i) (entries-none s k n h)
 
+-- the front goes on with the entry as it is read
+pub front-shown : (s : Bytes) (k n i : ℕ) (e : ShownEntry) → Walk s k n → 0 < n → e ≡ shownEntry s k → e .index .0 ≡ i
+    → frontFrom i (entriesAt s k n) ≡ entryValue e ∷ frontFrom (i + 1) (entriesAt s (e .next) (n - 1))
+front-shown s k n i e w h q g =
+    front-more s k n i h (sym (ap (λ (x : ShownEntry). x .index .0) q) ∙ g)
+    ∙ (let a = sym (entry-read s k e q (here s k n w h .short)) in
+    let b = sym (ap (λ (x : ShownEntry). x .next) q) in
+    λ z. a z ∷ frontFrom (i + 1) (entriesAt s (b z) (n - 1)))
+
 -- ---- several notes in two steps as in one
 
 pub held-append : (xs ys : List Finding) (t : Bytes) (n : ℕ) → heldAll t n (xs ++ ys) ≡ heldAll (bytesAll t n xs) (heldAll t n xs) ys
@@ -205,25 +215,29 @@ module _ (ps : Bytes) (count : ℕ) (s : Bytes) (entries node : ℕ) (t₀ : Byt
 
   module _ (t : Bytes) (at left i p missing n : ℕ) (j : Judging ps count s entries node t₀ held t at left i p missing n) where
     -- nothing of the front is left
-    ended : frontFrom i (entriesAt s at left) ≡ [] → JudgedAs ps count s entries node t₀ held missing n t
+    ended : frontFrom i (entriesAt s at left) ≡ [] → (r : Place) → (frontFrom i (entriesAt s at left) ≡ [] → Rest ps count s entries missing r)
+        → JudgedAs ps count s entries node t₀ held missing n r t
     unfolding missingFrom notesFrom heldAll bytesAll
-    ended e =
+    ended e r rest =
         record {
           lack = sym (j .lacks ∙ ap (missingFrom (prefixRow ps) count missing p i) e);
           most = (let a = j .below in let b = j .small in omega arith);
           holds = sym (j .holds ∙ ap (λ (es : List Entry). heldAll t n (notesFrom (prefixRow ps) count node missing p i es)) e);
           few = j .few;
           table = sym (j .table ∙ ap (λ (es : List Entry). bytesAll t n (notesFrom (prefixRow ps) count node missing p i es)) e);
+          rest = rest e;
         }
 
-    pub judging-ends : left ≤ 0 → JudgedAs ps count s entries node t₀ held missing n t
+    pub judging-ends : left ≤ 0 → (r : Place) → (frontFrom i (entriesAt s at left) ≡ [] → Rest ps count s entries missing r)
+        → JudgedAs ps count s entries node t₀ held missing n r t
     judging-ends h = ended (front-none s at left i h)
 
     module _ (h : 0 < left) (e : ShownEntry) (q : e ≡ shownEntry s at) where
       same-index : e .index .0 ≡ indexAt s at
       same-index = ap (λ (x : ShownEntry). x .index .0) q
 
-      pub judging-gap : (e .index .0 ≡ i → ⊥) → JudgedAs ps count s entries node t₀ held missing n t
+      pub judging-gap : (e .index .0 ≡ i → ⊥) → (r : Place) → (frontFrom i (entriesAt s at left) ≡ [] → Rest ps count s entries missing r)
+          → JudgedAs ps count s entries node t₀ held missing n r t
       judging-gap g = ended (front-stop s at left i h (λ x. g (same-index ∙ x)))
 
       pub entry-here : Here s at

@@ -2,7 +2,7 @@
 -- Assumes nothing.
 use Prim.Native.Nat.{ℕ, zero, suc, _+_, _-_, _*_, _<_, _≤_}
 use native.Mathlib.Omega.{arith}
-use mathlib.Core.Path.{_≡_, refl, sym, _∙_, ap, subst}
+use mathlib.Core.Path.{_≡_, refl, sym, _∙_, ap, subst, subst₂}
 use mathlib.Core.Bool.{true, false}
 use mathlib.Core.List.{List, [], _∷_}
 use lib.Dec.{ltb, eqb}
@@ -10,7 +10,7 @@ use lib.ListN.{length}
 use borrow.Author.Tests.{lt-ltb, le-ltb, eq-eqb, ne-eqb}
 use Rattle.model.specs.Sizes.{Bytes}
 use Rattle.model.specs.Entry.{Entry}
-use Rattle.model.specs.Record.{front, lastIndex}
+use Rattle.model.specs.Record.{front}
 use Rattle.model.proofs.Tests.{cond-true, cond-false}
 use Rattle.records.specs.Places.{firstEntry, entriesAt}
 use Rattle.storage.specs.Words.{wordAt, putBytes, wordBytes}
@@ -21,11 +21,12 @@ use Rattle.storage.proofs.PartLaws.{part-length, put-whole}
 use Rattle.storage.proofs.WellFormed.{formed}
 use Rattle.logical_log.specs.Prefix.{searchFrom, find}
 use Rattle.logical_log.specs.Violation.{heldAll, bytesAll}
-use Rattle.logical_log.specs.Observation.{nextNumber, counted, missingFrom, notesFrom, JudgedAs, extensionIn, extendedBytes, extendedCount, extendedNumber, writtenBytes, writtenCount, Storing, StoredAs, viewReplaced, findingsKept, viewWritten, missingIn, notesIn, heldIn, tableIn, observed, observedBytes, Observing, ViewJudged}
+use Rattle.logical_log.specs.Observation.{nextNumber, counted, missingFrom, notesFrom, JudgedAs, extensionIn, extendedBytes, extendedCount, extendedNumber, writtenBytes, writtenCount, frontAt, lastAt, Stand, Rest, Storing, StoredAs, viewReplaced, findingsKept, viewWritten, restWritten, missingIn, notesIn, heldIn, tableIn, observed, observedBytes, Observing, ViewJudged}
 use Rattle.logical_log.proofs.Judge.{lost}
 use Rattle.logical_log.proofs.Written.{number-found, number-made, count-found, count-made, bytes-found, bytes-length-one}
 use Rattle.logical_log.proofs.ViolationLaws.{all-length}
 use Rattle.logical_log.specs.declared.observation.Observed.{Observed}
+use Rattle.logical_log.specs.declared.observation.Place.{Place}
 
 -- ---- judging
 
@@ -36,11 +37,11 @@ findings-long h right = part-length h 2121 1024 (omega (arith, formed h right .l
 pub copied : (h t₀ t₁ : Bytes) → wellFormed h ≡ true → length t₀ ≡ 1024 → (q : Bytes) → q ≡ findingsPart h → t₁ ≡ putBytes t₀ 0 q → t₁ ≡ findingsPart h
 copied h t₀ t₁ right l q eq e = e ∙ ap (putBytes t₀ 0) eq ∙ put-whole t₀ (findingsPart h) (findings-long h right ∙ sym l)
 
-pub view-judged : (h s : Bytes) (m node : ℕ) (q t₁ : Bytes) (count held missing held′ : ℕ) (t′ : Bytes)
+pub view-judged : (h s : Bytes) (m node : ℕ) (q t₁ : Bytes) (count held missing held′ : ℕ) (r : Place) (t′ : Bytes)
     → count ≡ wordAt h 0 2 → held ≡ wordAt h 7 1 → q ≡ prefixesPart h → t₁ ≡ findingsPart h
-    → JudgedAs q count s m node t₁ held missing held′ t′ → ViewJudged h s m node missing held′ t′
+    → JudgedAs q count s m node t₁ held missing held′ r t′ → ViewJudged h s m node missing held′ r t′
 unfolding missingIn heldIn tableIn notesIn
-view-judged h s m node q t₁ count held missing held′ t′ ec eh eq et j =
+view-judged h s m node q t₁ count held missing held′ r t′ ec eh eq et j =
     let F = front (entriesAt s firstEntry m) in
     record {
       lack = j .lack ∙ (λ i. missingFrom (prefixRow (eq i)) (ec i) 0 0 1 F);
@@ -48,6 +49,7 @@ view-judged h s m node q t₁ count held missing held′ t′ ec eh eq et j =
       holds = j .holds ∙ (λ i. heldAll (et i) (eh i) (notesFrom (prefixRow (eq i)) (ec i) node 0 0 1 F));
       few = j .few;
       table = j .table ∙ (λ i. bytesAll (et i) (eh i) (notesFrom (prefixRow (eq i)) (ec i) node 0 0 1 F));
+      rest = subst₂ (λ (ps : Bytes) (n : ℕ). Rest ps n s m missing r) eq ec (j .rest);
     }
 
 -- ---- room: as many are made as are missing
@@ -107,12 +109,20 @@ written-count (e ∷ es) h n p i =
 
 -- ---- written
 
-pub view-written : (h : Bytes) (n : ℕ) (s : Bytes) (m node number last : ℕ) (t : Bytes) (held : ℕ) (h₁ h₂ h₃ : Bytes)
-    → StoredAs h n s m number h₁ → last ≡ lastIndex (entriesAt s firstEntry m) → h₂ ≡ viewReplaced h₁ node number last → h₃ ≡ findingsKept h₂ t held
-    → h₃ ≡ viewWritten h n s m node t held
-unfolding viewWritten
-view-written h n s m node number last t held h₁ h₂ h₃ a b c d =
+pub view-written : (h : Bytes) (n : ℕ) (s : Bytes) (r : Place) (node number last : ℕ) (t : Bytes) (held : ℕ) (h₁ h₂ h₃ : Bytes)
+    → StoredAs h n s r number h₁ → last ≡ lastAt s r → h₂ ≡ viewReplaced h₁ node number last → h₃ ≡ findingsKept h₂ t held
+    → h₃ ≡ restWritten h n s r node t held
+unfolding restWritten
+view-written h n s r node number last t held h₁ h₂ h₃ a b c d =
     d ∙ ap (λ (x : Bytes). findingsKept x t held) (c ∙ (λ i. viewReplaced (a .bytes i) node (a .is i) (b i)))
+
+-- from the first prefix that is not stored on as from the first entry
+rest-written : (h s : Bytes) (m node missing : ℕ) (r : Place) (t : Bytes) (held : ℕ)
+    → Rest (prefixesPart h) (wordAt h 0 2) s m missing r → restWritten h (wordAt h 0 2) s r node t held ≡ viewWritten h (wordAt h 0 2) s m node t held
+unfolding restWritten viewWritten
+rest-written h s m node missing r t held w =
+    let a = w .same h refl in
+    sym (λ i. findingsKept (viewReplaced (a .bytes i) node (a .number i) (w .last i)) t held)
 
 pub kept-length : (h : Bytes) (t : Bytes) (n : ℕ) → length (findingsKept h t n) ≡ length h
 unfolding findingsKept
@@ -124,7 +134,7 @@ replaced-length h k f l = put-length h (9 + k * 6) _
 
 -- ---- the answer
 
-module _ (limit : ℕ) (h s : Bytes) (m node missing held count : ℕ) (t : Bytes) (j : ViewJudged h s m node missing held t) (e : count ≡ wordAt h 0 2) where
+module _ (limit : ℕ) (h s : Bytes) (m node missing held count : ℕ) (r : Place) (t : Bytes) (j : ViewJudged h s m node missing held r t) (e : count ≡ wordAt h 0 2) where
   total : count + missing ≡ wordAt h 0 2 + missingIn h s m
   total = λ i. e i + j .lack i
 
@@ -149,24 +159,24 @@ module _ (limit : ℕ) (h s : Bytes) (m node missing held count : ℕ) (t : Byte
           sym (cond-false (ltb limit (wordAt h 0 2 + missingIn h s m)) h _ no-six ∙ cond-true (ltb 128 (heldIn h s m node)) h _ b),
         )
 
-    pub observed-ok : held ≤ 128 → (u : Bytes) → u ≡ viewWritten h count s m node t held → As Observed.Accepted u
+    pub observed-ok : held ≤ 128 → (u : Bytes) → u ≡ restWritten h count s r node t held → As Observed.Accepted u
     unfolding observed observedBytes
     observed-ok g u w =
         let b : ltb 128 (heldIn h s m node) ≡ false = le-ltb 128 _ (subst (λ (x : ℕ). x ≤ 128) (j .holds) g) in (
           sym (cond-false (ltb limit (wordAt h 0 2 + missingIn h s m)) Observed.PrefixesFull _ no-six ∙ cond-false (ltb 128 (heldIn h s m node)) Observed.FindingsFull _ b),
-          w ∙ (λ i. viewWritten h (e i) s m node (j .table i) (j .holds i))
+          w ∙ (λ i. restWritten h (e i) s r node (j .table i) (j .holds i)) ∙ rest-written h s m node missing r _ _ (j .rest)
               ∙ sym (cond-false (ltb limit (wordAt h 0 2 + missingIn h s m)) h _ no-six ∙ cond-false (ltb 128 (heldIn h s m node)) h _ b),
         )
 
     -- there is room for what is missing
-    pub observed-room : Observing h s m node → limit ≤ 512 → Storing h count s m
+    pub observed-room : Observing h s m node → limit ≤ 512 → Storing h count s r
     observed-room o g =
         record {
           long = formed h (o .right) .long;
           count = e;
-          walk = o .walk;
-          fits = (let x = formed h (o .right) .prefixes in omega arith);
-          room = subst (λ (x : ℕ). x ≤ 512) (sym (ap (λ (x : ℕ). writtenCount h x 0 1 (front (entriesAt s firstEntry m))) e ∙ written-count (front (entriesAt s firstEntry m)) h (wordAt h 0 2) 0 1))
+          stands = subst (λ (x : ℕ). Stand s x r) (sym e) (j .rest .stands);
+          room = subst (λ (x : ℕ). x ≤ 512)
+              (sym (ap (λ (x : ℕ). writtenCount h x (r .number) (r .index) (frontAt s r)) e ∙ sym (j .rest .same h refl .counts) ∙ written-count (front (entriesAt s firstEntry m)) h (wordAt h 0 2) 0 1))
               (subst (λ (x : ℕ). x ≤ 512) (total ∙ missing-in) (omega arith));
         }
       where
@@ -185,6 +195,6 @@ front-length [] h n p i = refl
 front-length (e ∷ es) h n p i =
     front-length es (extendedBytes h n p i e) (extendedCount h n p e) (extendedNumber h n p e) (i + 1) ∙ bytes-length-one h n p i e
 
-pub written-length : (h : Bytes) (n : ℕ) (s : Bytes) (m node : ℕ) (t : Bytes) (held : ℕ) → length (viewWritten h n s m node t held) ≡ length h
-unfolding viewWritten
-written-length h n s m node t held = kept-length _ t held ∙ replaced-length _ node _ _ ∙ front-length (front (entriesAt s firstEntry m)) h n 0 1
+pub written-length : (h : Bytes) (n : ℕ) (s : Bytes) (r : Place) (node : ℕ) (t : Bytes) (held : ℕ) → length (restWritten h n s r node t held) ≡ length h
+unfolding restWritten
+written-length h n s r node t held = kept-length _ t held ∙ replaced-length _ node _ _ ∙ front-length (frontAt s r) h n (r .number) (r .index)

@@ -11,8 +11,8 @@ use lib.ListN.{length, replicate}
 use borrow.Author.Tests.{eq-eqb, ne-eqb}
 use Rattle.model.specs.Sizes.{Bytes}
 use Rattle.model.specs.Entry.{Entry}
-use Rattle.model.specs.Record.{frontFrom, front}
-use Rattle.records.specs.Places.{Walk, firstEntry, lengthAt, contentAt, nextAt, shownAt, entriesAt}
+use Rattle.model.specs.Record.{frontFrom}
+use Rattle.records.specs.Places.{Walk, lengthAt, contentAt, entriesAt}
 use Rattle.records.specs.Values.{Here, shownEntry}
 use Rattle.records.proofs.Widths.{bytes-length}
 use Rattle.records.proofs.Walks.{next-walk, walk-entered, here}
@@ -24,10 +24,11 @@ use Rattle.storage.specs.Writes.{prefixBytes, prefixAppended}
 use Rattle.storage.proofs.ListLaws.{tabulate-length}
 use Rattle.storage.proofs.WordLaws.{put-length}
 use Rattle.storage.proofs.RowLaws.{word-set}
-use Rattle.logical_log.proofs.Turns.{entry-read, front-more, front-stop, front-none, find-within}
+use Rattle.logical_log.proofs.Turns.{entry-read, front-shown, front-stop, front-none, find-within}
 use Rattle.logical_log.specs.Table.{entryValue}
 use Rattle.logical_log.specs.Prefix.{rowOf, find}
-use Rattle.logical_log.specs.Observation.{extensionIn, storedContent, appended, extendedBytes, extendedCount, extendedNumber, Extending, ExtendedAs, writtenBytes, writtenCount, writtenNumber, Storing, StoredAs}
+use Rattle.logical_log.specs.Observation.{extensionIn, storedContent, appended, extendedBytes, extendedCount, extendedNumber, Extending, ExtendedAs, writtenBytes, writtenCount, writtenNumber, frontAt, Storing, StoredAs}
+use Rattle.logical_log.specs.declared.observation.Place.{Place}
 
 pub value-length : (e : ShownEntry) → length (entryValue e .content) ≡ e .length
 unfolding bytesAt
@@ -169,23 +170,23 @@ entry-padded s k e q h =
     ∙ ap (λ (m : ℕ). contentAt s k ++ replicate (32 - m) 0) (sym (bytes-length s (k + 48) (lengthAt s k)))
     ∙ ap storedContent (sym (entry-read s k e q h))
 
-pub record Written (h₀ : Bytes) (n₀ : ℕ) (s : Bytes) (m : ℕ) (h : Bytes) (at left i p n : ℕ) : Type 0 where
-  pub bytes : writtenBytes h₀ n₀ 0 1 (front (entriesAt s firstEntry m)) ≡ writtenBytes h n p i (frontFrom i (entriesAt s at left))
-  pub counts : writtenCount h₀ n₀ 0 1 (front (entriesAt s firstEntry m)) ≡ writtenCount h n p i (frontFrom i (entriesAt s at left))
-  pub number : writtenNumber h₀ n₀ 0 1 (front (entriesAt s firstEntry m)) ≡ writtenNumber h n p i (frontFrom i (entriesAt s at left))
+pub record Written (h₀ : Bytes) (n₀ : ℕ) (s : Bytes) (r : Place) (h : Bytes) (at left i p n : ℕ) : Type 0 where
+  pub bytes : writtenBytes h₀ n₀ (r .number) (r .index) (frontAt s r) ≡ writtenBytes h n p i (frontFrom i (entriesAt s at left))
+  pub counts : writtenCount h₀ n₀ (r .number) (r .index) (frontAt s r) ≡ writtenCount h n p i (frontFrom i (entriesAt s at left))
+  pub number : writtenNumber h₀ n₀ (r .number) (r .index) (frontAt s r) ≡ writtenNumber h n p i (frontFrom i (entriesAt s at left))
   pub walk : Walk s at left
   pub long : length h ≡ 24137
   pub held : n ≡ wordAt h 0 2
   pub within : p ≤ n
   pub small : i ≤ 257
 
-module _ (h₀ : Bytes) (n₀ : ℕ) (s : Bytes) (m : ℕ) (g : Storing h₀ n₀ s m) where
-  pub writing-starts : Written h₀ n₀ s m h₀ firstEntry m 1 0 n₀
+module _ (h₀ : Bytes) (n₀ : ℕ) (s : Bytes) (r : Place) (g : Storing h₀ n₀ s r) where
+  pub writing-starts : Written h₀ n₀ s r h₀ (r .at) (r .left) (r .index) (r .number) n₀
   writing-starts =
-      record { bytes = refl; counts = refl; number = refl; walk = g .walk; long = g .long; held = g .count; within = omega arith; small = omega arith }
+      record { bytes = refl; counts = refl; number = refl; walk = g .stands .walk; long = g .long; held = g .count; within = g .stands .number; small = g .stands .small }
 
-  module _ (h : Bytes) (at left i p n : ℕ) (w : Written h₀ n₀ s m h at left i p n) where
-    done : frontFrom i (entriesAt s at left) ≡ [] → StoredAs h₀ n₀ s m p h
+  module _ (h : Bytes) (at left i p n : ℕ) (w : Written h₀ n₀ s r h at left i p n) where
+    done : frontFrom i (entriesAt s at left) ≡ [] → StoredAs h₀ n₀ s r p h
     unfolding writtenBytes writtenNumber
     done e =
         record {
@@ -194,28 +195,22 @@ module _ (h₀ : Bytes) (n₀ : ℕ) (s : Bytes) (m : ℕ) (g : Storing h₀ n�
           long = w .long;
         }
 
-    pub writing-ends : left ≤ 0 → StoredAs h₀ n₀ s m p h
+    pub writing-ends : left ≤ 0 → StoredAs h₀ n₀ s r p h
     writing-ends l = done (front-none s at left i l)
 
     pub writing-fits : n ≤ 512
     writing-fits = (let a = g .room in let b = w .counts in let c = count-grows (frontFrom i (entriesAt s at left)) h n p i in omega arith)
 
     module _ (l : 0 < left) (e : ShownEntry) (q : e ≡ shownEntry s at) where
-      pub writing-gap : (e .index .0 ≡ i → ⊥) → StoredAs h₀ n₀ s m p h
+      pub writing-gap : (e .index .0 ≡ i → ⊥) → StoredAs h₀ n₀ s r p h
       writing-gap x = done (front-stop s at left i l (λ y. x (ap (λ (z : ShownEntry). z .index .0) q ∙ y)))
 
       stands : Here s at
       stands = here s at left (w .walk) l
 
       module _ (x : e .index .0 ≡ i) where
-        read : entryValue e ≡ shownAt s at .entry
-        read = entry-read s at e q (stands .short)
-
-        more : frontFrom i (entriesAt s at left) ≡ shownAt s at .entry ∷ frontFrom (i + 1) (entriesAt s (nextAt s at) (left - 1))
-        more = front-more s at left i l (sym (ap (λ (z : ShownEntry). z .index .0) q) ∙ x)
-
         steps : frontFrom i (entriesAt s at left) ≡ entryValue e ∷ frontFrom (i + 1) (entriesAt s (e .next) (left - 1))
-        steps = more ∙ (let a = sym read in let b = sym (ap (λ (z : ShownEntry). z .next) q) in λ z. a z ∷ frontFrom (i + 1) (entriesAt s (b z) (left - 1)))
+        steps = front-shown s at left i e (w .walk) l q x
 
         room : extendedCount h n p (entryValue e) ≤ 512
         room =
@@ -236,7 +231,7 @@ module _ (h₀ : Bytes) (n₀ : ℕ) (s : Bytes) (m : ℕ) (g : Storing h₀ n�
               padded = entry-padded s at e q (stands .short);
             }
 
-        pub writing-next : (p′ n′ : ℕ) (h′ : Bytes) → ExtendedAs h n p e p′ n′ h′ → Written h₀ n₀ s m h′ (e .next) (left - 1) (i + 1) p′ n′
+        pub writing-next : (p′ n′ : ℕ) (h′ : Bytes) → ExtendedAs h n p e p′ n′ h′ → Written h₀ n₀ s r h′ (e .next) (left - 1) (i + 1) p′ n′
         writing-next p′ n′ h′ a =
             let bb : extendedBytes h n p i (entryValue e) ≡ h′ = ap (λ (z : ℕ). extendedBytes h n p z (entryValue e)) (sym x) ∙ sym (a .bytes) in
             let cc : extendedCount h n p (entryValue e) ≡ n′ = sym (a .holds) in

@@ -9,13 +9,14 @@ use lib.ListN.{length, replicate}
 use Rattle.model.specs.Entry.{Entry}
 use Rattle.model.specs.History.{Finding}
 use Rattle.model.specs.Sizes.{Bytes}
-use Rattle.model.specs.Record.{front, lastIndex}
+use Rattle.model.specs.Record.{frontFrom, front, lastFrom, lastIndex}
 use Rattle.records.specs.Places.{Walk, firstEntry, entriesAt}
 use Rattle.storage.specs.Words.{putBytes, wordBytes, wordAt}
 use Rattle.storage.specs.Tables.{PrefixRow, prefixRow, prefixesPart, nodeRow, nodesPart, findingsPart}
 use Rattle.storage.specs.Writes.{prefixAppended, nodeBytes}
 use Rattle.storage.specs.Rules.{wellFormed}
 use Rattle.logical_log.specs.declared.observation.Observed.{Observed}
+use Rattle.logical_log.specs.declared.observation.Place.{Place}
 use Rattle.records.specs.declared.walk.ShownEntry.{ShownEntry}
 use Rattle.logical_log.specs.Table.{entryValue}
 use Rattle.logical_log.specs.Prefix.{rowOf, find, first}
@@ -61,14 +62,6 @@ notesFrom row count n missing p i [] = []
 notesFrom row count n missing p i (e ∷ es) =
     let k = nextNumber row count missing p e in
     noteOf (other row count i (e .term) k) n i (e .term) ++ notesFrom row count n (counted missing k) k (i + 1) es
-
--- what judging a view of n entries comes to: how many prefixes are missing, and the findings with its LG-03
-pub record JudgedAs (ps : Bytes) (count : ℕ) (s : Bytes) (n node : ℕ) (t : Bytes) (held missing held′ : ℕ) (t′ : Bytes) : Type 0 where
-  pub lack : missing ≡ missingFrom (prefixRow ps) count 0 0 1 (front (entriesAt s firstEntry n))
-  pub most : missing ≤ 256
-  pub holds : held′ ≡ heldAll t held (notesFrom (prefixRow ps) count node 0 0 1 (front (entriesAt s firstEntry n)))
-  pub few : held′ ≤ 129
-  pub table : t′ ≡ bytesAll t held (notesFrom (prefixRow ps) count node 0 0 1 (front (entriesAt s firstEntry n)))
 
 -- ---- written
 
@@ -118,6 +111,50 @@ unfolding extendedBytes extendedCount extendedNumber
 writtenNumber h n p i [] = p
 writtenNumber h n p i (e ∷ es) = writtenNumber (extendedBytes h n p i e) (extendedCount h n p e) (extendedNumber h n p e) (i + 1) es
 
+-- ---- a place along a front
+
+-- the place goes on as long as nothing is missing
+abbrev pub onward : ℕ → Place → Place → Place
+onward missing old new = cond (eqb missing 0) new old
+
+-- the front from a place on
+abbrev pub frontAt : Bytes → Place → List Entry
+frontAt s r = frontFrom (r .index) (entriesAt s (r .at) (r .left))
+
+-- to write the front of n entries from a place on is to write all of it
+pub record SameWritten (h : Bytes) (count : ℕ) (s : Bytes) (n : ℕ) (r : Place) : Type 0 where
+  pub bytes : writtenBytes h count 0 1 (front (entriesAt s firstEntry n)) ≡ writtenBytes h count (r .number) (r .index) (frontAt s r)
+  pub counts : writtenCount h count 0 1 (front (entriesAt s firstEntry n)) ≡ writtenCount h count (r .number) (r .index) (frontAt s r)
+  pub number : writtenNumber h count 0 1 (front (entriesAt s firstEntry n)) ≡ writtenNumber h count (r .number) (r .index) (frontAt s r)
+
+-- a place whose entries can be walked, after a prefix that has a number
+pub record Stand (s : Bytes) (count : ℕ) (r : Place) : Type 0 where
+  pub walk : Walk s (r .at) (r .left)
+  pub number : r .number ≤ count
+  pub positive : 1 ≤ r .index
+  pub small : r .index ≤ 257
+
+-- the last index of what is left; where nothing is, the index before the place
+abbrev pub lastAt : Bytes → Place → ℕ
+lastAt s r = lastFrom (r .index - 1) (entriesAt s (r .at) (r .left))
+
+-- the place before the first prefix that is not stored: what is before it is stored, and what is after it is missing
+pub record Rest (ps : Bytes) (count : ℕ) (s : Bytes) (n missing : ℕ) (r : Place) : Type 0 where
+  pub same : (h : Bytes) → prefixesPart h ≡ ps → SameWritten h count s n r
+  pub last : lastIndex (entriesAt s firstEntry n) ≡ lastAt s r
+  pub lack : missing ≡ length (frontAt s r)
+  pub stands : Stand s count r
+
+-- what judging a view of n entries comes to: how many prefixes are missing, where they begin, and the findings
+-- with its LG-03
+pub record JudgedAs (ps : Bytes) (count : ℕ) (s : Bytes) (n node : ℕ) (t : Bytes) (held missing held′ : ℕ) (r : Place) (t′ : Bytes) : Type 0 where
+  pub lack : missing ≡ missingFrom (prefixRow ps) count 0 0 1 (front (entriesAt s firstEntry n))
+  pub most : missing ≤ 256
+  pub holds : held′ ≡ heldAll t held (notesFrom (prefixRow ps) count node 0 0 1 (front (entriesAt s firstEntry n)))
+  pub few : held′ ≤ 129
+  pub table : t′ ≡ bytesAll t held (notesFrom (prefixRow ps) count node 0 0 1 (front (entriesAt s firstEntry n)))
+  pub rest : Rest ps count s n missing r
+
 -- what `extend` asks: a history of the right length that holds n prefixes, with room for the extension
 pub record Extending (h : Bytes) (n p : ℕ) (e : ShownEntry) : Type 0 where
   pub long : length h ≡ 24137
@@ -134,18 +171,17 @@ pub record ExtendedAs (h : Bytes) (n p : ℕ) (e : ShownEntry) (number count : �
   pub holds : count ≡ extendedCount h n p (entryValue e)
   pub bytes : h′ ≡ extendedBytes h n p (e .index .0) (entryValue e)
 
--- what storing the front of a view of m entries asks: a history that holds n prefixes, with room for the front's
-pub record Storing (h : Bytes) (n : ℕ) (s : Bytes) (m : ℕ) : Type 0 where
+-- what storing the front of a view from a place on asks: a history that holds n prefixes, with room for the front's
+pub record Storing (h : Bytes) (n : ℕ) (s : Bytes) (r : Place) : Type 0 where
   pub long : length h ≡ 24137
   pub count : n ≡ wordAt h 0 2
-  pub walk : Walk s firstEntry m
-  pub fits : n ≤ 512
-  pub room : writtenCount h n 0 1 (front (entriesAt s firstEntry m)) ≤ 512
+  pub stands : Stand s n r
+  pub room : writtenCount h n (r .number) (r .index) (frontAt s r) ≤ 512
 
 -- and what it does: the number of the front, and the history
-pub record StoredAs (h : Bytes) (n : ℕ) (s : Bytes) (m number : ℕ) (h′ : Bytes) : Type 0 where
-  pub is : number ≡ writtenNumber h n 0 1 (front (entriesAt s firstEntry m))
-  pub bytes : h′ ≡ writtenBytes h n 0 1 (front (entriesAt s firstEntry m))
+pub record StoredAs (h : Bytes) (n : ℕ) (s : Bytes) (r : Place) (number : ℕ) (h′ : Bytes) : Type 0 where
+  pub is : number ≡ writtenNumber h n (r .number) (r .index) (frontAt s r)
+  pub bytes : h′ ≡ writtenBytes h n (r .number) (r .index) (frontAt s r)
   pub long : length h′ ≡ 24137
 
 -- "an accepted view replaces the node's earlier one": the node's row, its unseen mark as it was
@@ -165,6 +201,13 @@ unfolding writtenBytes writtenNumber viewReplaced findingsKept
 viewWritten h n s m node t held =
     let es = entriesAt s firstEntry m in
     findingsKept (viewReplaced (writtenBytes h n 0 1 (front es)) node (writtenNumber h n 0 1 (front es)) (lastIndex es)) t held
+
+-- the same from a place on
+unfoldable pub restWritten : Bytes → ℕ → Bytes → Place → ℕ → Bytes → ℕ → Bytes
+unfolding writtenBytes writtenNumber viewReplaced findingsKept
+restWritten h n s r node t held =
+    let es = frontAt s r in
+    findingsKept (viewReplaced (writtenBytes h n (r .number) (r .index) es) node (writtenNumber h n (r .number) (r .index) es) (lastAt s r)) t held
 
 -- how many prefixes of its front are not stored
 unfoldable pub missingIn : Bytes → Bytes → ℕ → ℕ
@@ -205,9 +248,10 @@ pub record Observing (h s : Bytes) (m node : ℕ) : Type 0 where
   pub isNode : node < 64
 
 -- what judging a view comes to
-pub record ViewJudged (h s : Bytes) (m node missing held : ℕ) (t : Bytes) : Type 0 where
+pub record ViewJudged (h s : Bytes) (m node missing held : ℕ) (r : Place) (t : Bytes) : Type 0 where
   pub lack : missing ≡ missingIn h s m
   pub most : missing ≤ 256
   pub holds : held ≡ heldIn h s m node
   pub few : held ≤ 129
   pub table : t ≡ tableIn h s m node
+  pub rest : Rest (prefixesPart h) (wordAt h 0 2) s m missing r

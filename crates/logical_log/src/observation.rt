@@ -2,12 +2,11 @@
 ghost use mathlib.Core.Path.{_≡_};
 ghost use Prim.Native.Nat.{_≤_, _<_};
 ghost use lib.ListN.{length};
-ghost use Rattle.model.specs.Record.{front};
-ghost use Rattle.records.specs.Places.{Walk, firstEntry, entriesAt};
+ghost use Rattle.records.specs.Places.{Walk, firstEntry};
 ghost use Rattle.storage.specs.Tables.{prefixRow};
 ghost use Rattle.logical_log.specs.Table.{Table, entryValue};
 ghost use Rattle.logical_log.specs.Violation.{heldAll, bytesAll};
-ghost use Rattle.logical_log.specs.Observation.{nextNumber, other, counted as countedMissing, noteOf, JudgedAs, Storing, StoredAs, viewReplaced, findingsKept, viewWritten, Observing, ViewJudged, observed, observedBytes};
+ghost use Rattle.logical_log.specs.Observation.{nextNumber, other, counted as countedMissing, noteOf, JudgedAs, onward as onwardFrom, Storing, StoredAs, viewReplaced, findingsKept, restWritten, Observing, ViewJudged, observed, observedBytes};
 use crate::comparison::same_prefix;
 use crate::prefix::extend;
 use crate::prefix::find_extension;
@@ -16,7 +15,7 @@ use crate::violation::note;
 use records::walk::FIRST_ENTRY;
 use records::walk::ShownEntry;
 use records::walk::entry_at;
-use records::walk::front_of;
+use records::walk::last_index;
 use storage::findings::Found;
 use storage::head::finding_count;
 use storage::head::prefix_count;
@@ -37,10 +36,21 @@ use units::LogIndex;
 use units::NodeId;
 use units::Term;
 
-// Where the judging walk stands: how many prefixes of the front are not stored, and how many findings are held.
+// A place along a front: the bit where its next entry begins, how many entries are left, the index that is next, and the
+// number of the prefix before it.
+pub struct Place {
+    pub at: usize,
+    pub left: usize,
+    pub index: usize,
+    pub number: usize,
+}
+
+// What the judging walk gives: how many prefixes of the front are not stored, how many findings are held, and the place
+// before the first prefix that is not stored.
 pub struct Judged {
     pub missing: usize,
     pub held: usize,
+    pub rest: Place,
 }
 
 // The number of the next prefix of the front, or 0. After one that is not stored none is.
@@ -104,8 +114,23 @@ fn counted(missing: usize, k: usize) -> usize
     if k == 0 { missing + 1 } else { missing }
 }
 
-// The walk along the front of a view of `entries` entries: how many of its prefixes are not stored, and its LG-03, noted among
-// the findings, of which n are held.
+// The place goes on as long as nothing is missing.
+fn onward(missing: usize, old: Place, at: usize, left: usize, index: usize, number: usize) -> Place
+    ensures { λ r. ⌜ r ≡ onwardFrom missing old (record { at = at; left = left; index = index; number = number }) ⌝ }
+{
+    if missing != 0 {
+        return old;
+    }
+    Place {
+        at,
+        left,
+        index,
+        number,
+    }
+}
+
+// The walk along the front of a view of `entries` entries: how many of its prefixes are not stored and where they begin, and
+// its LG-03, noted among the findings, of which n are held.
 pub fn judge(
     prefixes: &[u8],
     count: usize,
@@ -116,7 +141,7 @@ pub fn judge(
     held: usize,
 ) -> Judged
     requires { ⌜ Table (now prefixes) count × Walk (now view) firstEntry entries × (held ≤ 129) × (length (now findings) ≡ 1024) ⌝ }
-    ensures { λ r. ⌜ JudgedAs (now (prefixes .entry)) count (now (view .entry)) entries (node .0) (now (findings .entry)) held (r .missing) (r .held) (now (findings .exit)) ⌝ }
+    ensures { λ r. ⌜ JudgedAs (now (prefixes .entry)) count (now (view .entry)) entries (node .0) (now (findings .entry)) held (r .missing) (r .held) (r .rest) (now (findings .exit)) ⌝ }
 {
     let mut at = FIRST_ENTRY;
     let mut left = entries;
@@ -124,6 +149,12 @@ pub fn judge(
     let mut p = 0;
     let mut missing = 0;
     let mut n = held;
+    let mut rest = Place {
+        at,
+        left,
+        index: i,
+        number: p,
+    };
     while 0 < left {
         let e = entry_at(view, at);
         if e.index.0 != i {
@@ -137,19 +168,24 @@ pub fn judge(
         i += 1;
         at = e.next;
         left -= 1;
+        rest = onward(missing, rest, at, left, i, p);
     }
-    Judged { missing, held: n }
+    Judged {
+        missing,
+        held: n,
+        rest,
+    }
 }
 
-// Each prefix of the front is stored once; the number of the front.
-pub fn store(history: &mut [u8], count: usize, view: &[u8], entries: usize) -> usize
-    requires { ⌜ Storing (now history) count (now view) entries ⌝ }
-    ensures { λ r. ⌜ StoredAs (now (history .entry)) count (now (view .entry)) entries r (now (history .exit)) ⌝ }
+// Each prefix of the front, from a place on, is stored once; the number of the front.
+pub fn store(history: &mut [u8], count: usize, view: &[u8], rest: Place) -> usize
+    requires { ⌜ Storing (now history) count (now view) rest ⌝ }
+    ensures { λ r. ⌜ StoredAs (now (history .entry)) count (now (view .entry)) rest r (now (history .exit)) ⌝ }
 {
-    let mut at = FIRST_ENTRY;
-    let mut left = entries;
-    let mut i = 1;
-    let mut p = 0;
+    let mut at = rest.at;
+    let mut left = rest.left;
+    let mut i = rest.index;
+    let mut p = rest.number;
     let mut n = count;
     while 0 < left {
         let shown = entry_at(view, at);
@@ -200,23 +236,22 @@ pub fn keep_findings(history: &mut [u8], findings: &[u8], held: usize)
     set_finding_count(&mut history[..], held);
 }
 
-// An accepted view is written: its prefixes, the node's row, the findings.
+// An accepted view is written: its prefixes from a place on, the node's row, the findings.
 fn write_view(
     history: &mut [u8],
     count: usize,
     view: &[u8],
-    entries: usize,
+    rest: Place,
     node: NodeId,
     findings: &[u8],
     held: usize,
 )
-    requires { ⌜ Storing (now history) count (now view) entries × (node .0 < 64) × (length (now findings) ≡ 1024) ⌝ }
-    ensures { λ r. ⌜ now (history .exit) ≡ viewWritten (now (history .entry)) count (now (view .entry)) entries (node .0) (now (findings .entry)) held ⌝ }
+    requires { ⌜ Storing (now history) count (now view) rest × (node .0 < 64) × (length (now findings) ≡ 1024) ⌝ }
+    ensures { λ r. ⌜ now (history .exit) ≡ restWritten (now (history .entry)) count (now (view .entry)) rest (node .0) (now (findings .entry)) held ⌝ }
 {
-    let front = store(&mut history[..], count, view, entries);
-    let shown = front_of(view, entries);
-    let last = shown.last;
-    replace_view(&mut history[..], node, front, last);
+    let front = store(&mut history[..], count, view, rest);
+    let last = last_index(view, rest.at, rest.left, rest.index - 1);
+    replace_view(&mut history[..], node, front, LogIndex(last));
     keep_findings(&mut history[..], findings, held);
 }
 
@@ -229,7 +264,7 @@ fn judge_view(
     findings: &mut [u8],
 ) -> Judged
     requires { ⌜ Observing (now history) (now view) entries (node .0) × (length (now findings) ≡ 1024) ⌝ }
-    ensures { λ r. ⌜ ViewJudged (now (history .entry)) (now (view .entry)) entries (node .0) (r .missing) (r .held) (now (findings .exit)) ⌝ }
+    ensures { λ r. ⌜ ViewJudged (now (history .entry)) (now (view .entry)) entries (node .0) (r .missing) (r .held) (r .rest) (now (findings .exit)) ⌝ }
 {
     let count = prefix_count(history);
     let held = finding_count(history);
@@ -267,20 +302,13 @@ pub fn observe_prefixes(
     let count = prefix_count(&history[..]);
     let total = count + j.missing;
     let held = j.held;
+    let rest = j.rest;
     if limit < total {
         return Observed::PrefixesFull;
     }
     if FINDING_LIMIT < held {
         return Observed::FindingsFull;
     }
-    write_view(
-        &mut history[..],
-        count,
-        view,
-        entries,
-        node,
-        &findings,
-        held,
-    );
+    write_view(&mut history[..], count, view, rest, node, &findings, held);
     Observed::Accepted
 }

@@ -4,11 +4,10 @@ use Prim.Native.Nat.{ℕ, _+_, _-_, _≤_, _<_}
 use mathlib.Core.Path.{_≡_, ap, sym, _∙_}
 use mathlib.Core.List.{List, [], _∷_}
 use native.Mathlib.Omega.{arith}
-use borrow.Author.Tests.{eq-eqb, ne-eqb}
 use lib.ListN.{length, take, replicate, length-append, length-replicate}
 use lib.Seq.{take-at}
 use Rattle.model.specs.Sizes.{Bytes}
-use Rattle.model.specs.Record.{Shown, Row, frontFrom, lastFrom}
+use Rattle.model.specs.Record.{Shown, Row, lastFrom}
 use Rattle.model.specs.Reading.{got, many, shown, row}
 use Rattle.records.specs.declared.scan.End.{End}
 use Rattle.records.specs.Answers.{keyed, ended, endPart}
@@ -125,27 +124,9 @@ module _ (s : Bytes) (k n : ℕ) where
   pub row-here : RowWalk s k n → 0 < n → RowHere s k
   row-here w h = record { near = omega (arith, w .near); whole = walk-rowed w h .whole }
 
--- ---- the front and the last index, entry by entry
+-- ---- the last index, entry by entry
 
 module _ (s : Bytes) (k n : ℕ) where
-  -- the front goes on
-  pub front-next : {t : ℕ} (m i : ℕ) → t ≡ m + length (frontFrom (m + 1) (entriesAt s k n)) → 0 < n
-      → i ≡ indexAt s k → i ≡ m + 1
-      → t ≡ (m + 1) + length (frontFrom (m + 1 + 1) (entriesAt s (nextAt s k) (n - 1)))
-  unfolding frontFrom
-  front-next m i e h p q = e ∙ rw (entries-next s k n h, eq-eqb (indexAt s k) (m + 1) (sym p ∙ q)) (omega arith)
-
-  -- a gap ends it
-  pub front-gap : {t : ℕ} (m i : ℕ) → t ≡ m + length (frontFrom (m + 1) (entriesAt s k n)) → 0 < n
-      → i ≡ indexAt s k → (i ≡ m + 1 → ⊥)
-      → m ≡ t
-  unfolding frontFrom
-  front-gap m i e h p q = sym (e ∙ rw (entries-next s k n h, ne-eqb (indexAt s k) (m + 1) (λ z. q (p ∙ z))) (omega arith))
-
-  pub front-end : {t : ℕ} (m : ℕ) → t ≡ m + length (frontFrom (m + 1) (entriesAt s k n)) → n ≤ 0 → m ≡ t
-  unfolding frontFrom
-  front-end m e h = sym (e ∙ rw (entries-none s k n h) (omega arith))
-
   pub last-next : {t : ℕ} (m i : ℕ) → t ≡ lastFrom m (entriesAt s k n) → 0 < n → i ≡ indexAt s k
       → t ≡ lastFrom i (entriesAt s (nextAt s k) (n - 1))
   unfolding lastFrom

@@ -5,12 +5,10 @@ use mathlib.Core.List.{List, _++_}
 use lib.Dec.{eqb}
 use lib.ListN.{length, replicate}
 use Rattle.model.specs.Sizes.{Bytes}
-use Rattle.model.specs.Record.{Shown, front, lastIndex}
 use Rattle.model.specs.Reading.{fieldAt}
 use Rattle.records.specs.declared.walk.ShownEntry.{ShownEntry}
 use Rattle.records.specs.declared.walk.Configuration.{Configuration}
 use Rattle.records.specs.declared.walk.Row.{Row}
-use Rattle.records.specs.declared.walk.Front.{Front}
 use Rattle.records.specs.Places.{indexAt, termAt, lengthAt, contentAt, nextAt, afterRow}
 
 -- n bytes, and zeros up to 32
@@ -59,7 +57,3 @@ rowValue s k =
 pub record RowHere (s : Bytes) (k : ℕ) : Type 0 where
   pub near : k ≤ 2 ^ 32
   pub whole : afterRow s k ≤ 8 * length s
-
--- the length of a view's front, and its last index
-abbrev pub frontValue : List Shown → Front
-frontValue es = record { length = length (front es); last = record { 0 = lastIndex es } }

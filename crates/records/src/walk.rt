@@ -1,12 +1,12 @@
-// The entries and rows of a readable record, by value, each with the bit after it, and the front of a view. A walk starts
-// at FIRST_ENTRY or FIRST_ROW with the count that `read` gave.
+// The entries and rows of a readable record, by value, each with the bit after it, and the last index of a view. A walk
+// starts at FIRST_ENTRY or FIRST_ROW with the count that `read` gave.
 ghost use mathlib.Core.Path.{_≡_};
 ghost use Prim.Native.Nat.{ℕ, _+_, _*_, _^_, _≤_};
 ghost use lib.ListN.{length};
 ghost use Rattle.model.specs.Reading as reading;
 ghost use Rattle.model.specs.Record as model;
 ghost use Rattle.records.specs.Places as places;
-ghost use Rattle.records.specs.Values.{padded, frontValue, shownEntry, configurationValue, rowValue, Here, RowHere};
+ghost use Rattle.records.specs.Values.{padded, shownEntry, configurationValue, rowValue, Here, RowHere};
 use crate::bits::bits_at;
 use units::LogIndex;
 use units::NodeId;
@@ -44,13 +44,6 @@ pub struct Row {
     pub floor_configuration: Configuration,
     pub actual_configuration: Configuration,
     pub next: usize,
-}
-
-// The front of a view: how many entries it has. And the index of the view's last entry, past a gap too; zero where there
-// is none.
-pub struct Front {
-    pub length: usize,
-    pub last: LogIndex,
 }
 
 fn wide(x: u8) -> u16
@@ -148,51 +141,18 @@ pub fn row_at(s: &[u8], at: usize) -> Row
     }
 }
 
-// How many entries the front of a view has: it ends at the first gap.
-fn front_length(s: &[u8], count: usize) -> usize
-    requires { ⌜ places.Walk (now s) places.firstEntry count ⌝ }
-    ensures { λ r. ⌜ r ≡ length (model.front (places.entriesAt (now (s .entry)) places.firstEntry count)) ⌝ }
+// The index of the last of `count` entries from bit `from` on, past a gap too; `before` where there is none.
+pub fn last_index(s: &[u8], from: usize, count: usize, before: usize) -> usize
+    requires { ⌜ places.Walk (now s) from count ⌝ }
+    ensures { λ r. ⌜ r ≡ model.lastFrom before (places.entriesAt (now (s .entry)) from count) ⌝ }
 {
-    let mut at = FIRST_ENTRY;
+    let mut at = from;
     let mut left = count;
-    let mut n = 0;
-    while 0 < left {
-        let i = index_at(s, at).0;
-        if i != n + 1 {
-            return n;
-        }
-        n += 1;
-        at = next_at(s, at);
-        left -= 1;
-    }
-    n
-}
-
-// The index of a view's last entry.
-fn last_index(s: &[u8], count: usize) -> usize
-    requires { ⌜ places.Walk (now s) places.firstEntry count ⌝ }
-    ensures { λ r. ⌜ r ≡ model.lastIndex (places.entriesAt (now (s .entry)) places.firstEntry count) ⌝ }
-{
-    let mut at = FIRST_ENTRY;
-    let mut left = count;
-    let mut last = 0;
+    let mut last = before;
     while 0 < left {
         last = index_at(s, at).0;
         at = next_at(s, at);
         left -= 1;
     }
     last
-}
-
-// The front of a view of `count` entries, and its last index.
-pub fn front_of(s: &[u8], count: usize) -> Front
-    requires { ⌜ places.Walk (now s) places.firstEntry count ⌝ }
-    ensures { λ r. ⌜ r ≡ frontValue (places.entriesAt (now (s .entry)) places.firstEntry count) ⌝ }
-{
-    let n = front_length(s, count);
-    let last = last_index(s, count);
-    Front {
-        length: n,
-        last: LogIndex(last),
-    }
 }

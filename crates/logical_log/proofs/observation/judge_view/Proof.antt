@@ -62,7 +62,7 @@ returns c =
     let p = c .before .before .before .before .before .before .before in
     let s = p .before .before .before .before .before .before .before .before in
     let h = s .args .history .now in
-    view-judged h (s .args .view .now) (s .args .entries) (s .args .node .0) _ _ _ _ _ _ _
+    view-judged h (s .args .view .now) (s .args .entries) (s .args .node .0) _ _ _ _ _ _ _ _
     (p .before .before .before .before .prefix-count .ensures .is) (p .before .before .before .finding-count .ensures .is) (c .before .before .before .before .part2 .ensures .is)
     (copied h (s .args .findings .now) _ (s .pre .0 .right) (s .pre .1) _ (p .before .part .ensures .is) (p .put-bytes .ensures))
     (c .before .before .judge .ensures)

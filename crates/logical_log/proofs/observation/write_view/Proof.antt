@@ -4,7 +4,6 @@ use Prim.Native.Nat.{_-_}
 use mathlib.Core.Path.{ap, sym, _∙_}
 use lib.ListN.{length}
 use borrow.Author.Needs.{needs}
-use Rattle.records.specs.declared.walk.Front.{Front}
 use Rattle.logical_log.proofs.Whole.{view-written, kept-length, replaced-length}
 use Rattle.logical_log.proofs.observation.write_view.Statement.{statement}
 use Rattle.logical_log.proofs.observation.write_view.Tie as tie
@@ -12,8 +11,11 @@ use Rattle.logical_log.proofs.observation.write_view.Tie as tie
 store-requires : tie.Need-store-requires
 store-requires c κs = search needs
 
-front-of-requires : tie.Need-front-of-requires
-front-of-requires c κs = search needs
+sub-last-index : tie.Need-sub-last-index
+sub-last-index c = c .before .before .before .before .before .before .before .before .pre .0 .stands .positive
+
+last-index-requires : tie.Need-last-index-requires
+last-index-requires c κs = c .before .before .before .before .before .before .before .before .pre .0 .stands .walk
 
 replace-view-requires : tie.Need-replace-view-requires
 replace-view-requires c κs =
@@ -29,11 +31,11 @@ keep-findings-requires c κs =
 returns : tie.Need-returns
 returns c =
     let r = c .before .before .before .before .before .before in
-    let f = r .before .before .before in
-    let o = f .before .before .before in
-    let s = o .before .before .before .before .before .args in
-    view-written (s .history .now) (s .count) (s .view .now) (s .entries) (s .node .0) _ _ _ (s .held) _ _ _
-    (o .store .ensures) (ap (λ (x : Front). x .last .0) (f .front-of .ensures)) (r .replace-view .ensures) (c .before .before .keep-findings .ensures)
+    let f = r .before .before in
+    let o = f .before .before .before .before in
+    let s = o .before .before .before .before .before in
+    view-written (s .args .history .now) (s .args .count) (s .args .view .now) (s .args .rest) (s .args .node .0) _ _ _ (s .args .held) _ _ _
+    (o .store .ensures) (f .last-index .ensures) (r .replace-view .ensures) (c .before .before .keep-findings .ensures)
 
 same-length : tie.Need-same-length
 same-length c =
@@ -47,7 +49,8 @@ write-view-spec =
     tie.close
     (tie.spec
     store-requires
-    front-of-requires
+    sub-last-index
+    last-index-requires
     replace-view-requires
     keep-findings-requires
     same-length

@@ -3,17 +3,17 @@
 use mathlib.Core.Path.{_≡_, refl}
 use native.Mathlib.Omega.{arith}
 use borrow.Author.Needs.{needs}
-use Rattle.model.specs.Record.{lastIndex, lastFrom}
-use Rattle.records.specs.Places.{Walk, entriesAt, firstEntry}
+use Rattle.model.specs.Record.{lastFrom}
+use Rattle.records.specs.Places.{Walk, entriesAt}
 use Rattle.records.proofs.Walks.{here, next-walk, last-next, last-end}
 use Rattle.records.proofs.walk.last_index.Statement.{statement}
 use Rattle.records.proofs.walk.last_index.Tie as tie
 
 abbrev Inv-loop : tie.InvT-loop
-Inv-loop s count at₀ left₀ last₀ at left last = Walk s at left × (lastIndex (entriesAt s firstEntry count) ≡ lastFrom last (entriesAt s at left))
+Inv-loop s from count before at₀ left₀ last₀ at left last = Walk s at left × (lastFrom before (entriesAt s from count) ≡ lastFrom last (entriesAt s at left))
 
 abbrev μ-loop : tie.MeasureT-loop
-μ-loop s count at₀ left₀ last₀ at left last = left
+μ-loop s from count before at₀ left₀ last₀ at left last = left
 
 loop-holds : tie.Need-loop-holds Inv-loop μ-loop
 loop-holds c = (c .before .pre, refl)
