@@ -3,3 +3,4 @@ pub mod PutLaws
 pub mod SplitLaws
 pub mod SheetLaws
 pub mod ListBounds
+pub mod TakingLaws

@@ -1,11 +1,11 @@
 -- Document 01, "The printed sheet": what a piece is answered, and what follows the records.
 -- Assumes nothing.
-use Prim.Native.Nat.{ℕ, _/_}
+use Prim.Native.Nat.{ℕ, _+_, _/_, _≤_, _<_}
 use mathlib.Core.Path.{_≡_}
 use mathlib.Core.Bool.{cond}
 use mathlib.Core.List.{List, [], _∷_, _++_}
 use lib.Dec.{eqb}
-use lib.ListN.{length, getD}
+use lib.ListN.{length, getD, take, drop}
 use Rattle.model.specs.Sizes.{Bytes}
 use Rattle.model.specs.History.{Finding, History}
 use Rattle.model.specs.Leaders.{Leader}
@@ -15,6 +15,9 @@ use Rattle.storage.specs.Decode.{decode}
 use Rattle.history.specs.declared.numbers.Reply.{Reply}
 use Rattle.history.specs.Numbers.{refusalIn, replyOf}
 use Rattle.history.specs.Replies.{submitAnswer, submitBytes}
+use Rattle.sheet.specs.declared.taking.Progress.{Progress}
+use Rattle.sheet.specs.declared.split.Piece as code
+use Rattle.sheet.specs.Pieces.{Piece, whole, cut, pieces, pieceAt}
 use Rattle.sheet.specs.Decimal.{Put}
 use Rattle.sheet.specs.Lines.{recordLine, findingLine, leaderLine, unseenLine, unknownLine, committedLine}
 
@@ -40,6 +43,32 @@ bytesAfter h s = cond (eqb (length s) 0) h (submitBytes h s)
 pub record HandedOver (h s t : Bytes) (from number r : ℕ) (h′ t′ : Bytes) : Type 0 where
   pub line : Put 105 t from (lineFor number h s) r t′
   pub history : h′ ≡ bytesAfter h s
+
+-- the lines of pieces in turn, numbered from n on, of which the first is handed to the bytes h
+unfoldable pub recordLines : ℕ → Bytes → List Piece → Bytes
+unfolding bytesAfter
+recordLines n h [] = []
+recordLines n h (whole s ∷ ps) = lineFor n h s ++ recordLines (n + 1) (bytesAfter h s) ps
+recordLines n h (cut ∷ ps) = cutLine n ++ recordLines (n + 1) h ps
+
+-- the bytes of the history after them
+unfoldable pub bytesThrough : Bytes → List Piece → Bytes
+unfolding bytesAfter
+bytesThrough h [] = h
+bytesThrough h (whole s ∷ ps) = bytesThrough (bytesAfter h s) ps
+bytesThrough h (cut ∷ ps) = bytesThrough h ps
+
+-- of the pieces from `start` on the first p .count were taken, as the numbers from `first` on, the first one handed to h
+pub record Taken (h block t : Bytes) (first start : ℕ) (p : Progress) (h′ t′ : Bytes) : Type 0 where
+  pub lines : Put 63000 t 0 (recordLines first h (take (p .count) (pieces (drop start block)))) (p .at) t′
+  pub history : h′ ≡ bytesThrough h (take (p .count) (pieces (drop start block)))
+  pub rest : pieces (drop (p .from) block) ≡ drop (p .count) (pieces (drop start block))
+  pub number : p .number ≡ first + p .count
+  pub within : p .from ≤ length block
+  pub on : start + p .count ≤ p .from
+  -- at most 600, and fewer only where no whole piece is left
+  pub most : p .count ≤ 600
+  pub stopped : p .count < 600 → (body size : ℕ) → pieceAt block (p .from) ≡ code.Piece.Whole body size → ⊥
 
 -- ---- the lists
 

@@ -13,9 +13,6 @@ use units::LogIndex;
 use units::NodeId;
 use units::Term;
 
-// Room for any line.
-pub const LONGEST: usize = 105;
-
 fn put_text(out: &mut [u8], at: usize, text: &[u8]) -> usize
     requires { ⌜ at + length (now text) ≤ length (now out) ⌝ }
     ensures { λ r. ⌜ Put (length (now (text .entry))) (now (out .entry)) at (now (text .entry)) r (now (out .exit)) ⌝ }

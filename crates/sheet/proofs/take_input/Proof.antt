@@ -8,10 +8,11 @@ use Rattle.sheet.proofs.take_input.Statement.{statement}
 use Rattle.sheet.proofs.take_input.Tie as tie
 
 abbrev Inv-loop : tie.InvT-loop
-Inv-loop history₀ input₀ out₀ number₀ at₀ rest₀ blocks₀ history input out number at rest blocks = (length history ≡ length history₀) × (length input ≡ 131072) × (length out ≡ 65536) × (at ≤ 65536) × (rest ≤ 131072)
+Inv-loop history₀ input₀ out₀ number₀ rest₀ blocks₀ history input out number rest blocks =
+    (length history ≡ length history₀) × (length input ≡ 131072) × (length out ≡ 65536) × (rest ≤ 131072)
 
 abbrev μ-loop : tie.MeasureT-loop
-μ-loop history₀ input₀ out₀ number₀ at₀ rest₀ blocks₀ history input out number at rest blocks = 18446744073709551615 - blocks
+μ-loop history₀ input₀ out₀ number₀ rest₀ blocks₀ history input out number rest blocks = 18446744073709551000 - blocks
 
 loop-holds : tie.Need-loop-holds Inv-loop μ-loop
 loop-holds c = search needs

@@ -1,9 +1,9 @@
--- `sheet::hand_over` meets its contract.
+-- `sheet::taking::hand_over` meets its contract.
 -- Assumes nothing.
 use borrow.Author.Needs.{needs}
 use Rattle.sheet.proofs.SheetLaws.{over-none, over-some}
-use Rattle.sheet.proofs.hand_over.Statement.{statement}
-use Rattle.sheet.proofs.hand_over.Tie as tie
+use Rattle.sheet.proofs.taking.hand_over.Statement.{statement}
+use Rattle.sheet.proofs.taking.hand_over.Tie as tie
 
 put-cut-requires : tie.Need-put-cut-requires
 put-cut-requires c κs = search needs
