@@ -7,14 +7,14 @@ use mathlib.Core.Path.{_≡_, refl, ap, sym, _∙_}
 use mathlib.Core.Bool.{Bool, true, false, cond}
 use mathlib.Core.Logic.{⊎-elim}
 use lib.Dec.{ltb, eqb}
-use mathlib.Core.List.{List, [], _∷_}
-use lib.ListN.{length, getD, set, take, drop, length-set, length-drop}
-use lib.Seq.{getD-set-same, getD-set-other, getD-drop, drop-drop}
+use mathlib.Core.List.{List, [], _∷_, _++_}
+use lib.ListN.{length, getD, set, take, drop, length-set, length-drop, length-append, List·getD-append}
+use lib.Seq.{getD-set-same, getD-set-other, getD-drop, drop-drop, take-append-le, drop-append-le}
 use borrow.Author.Tests.{ltb-false, eqb-false, lt-ltb, le-ltb, eq-eqb, ne-eqb}
 use Rattle.model.specs.Sizes.{Bytes}
 use Rattle.storage.specs.Words.{wordAt, bytesAt}
 use Rattle.storage.specs.Layout.{part}
-use Rattle.storage.proofs.WordLaws.{word-shift, bytes-shift}
+use Rattle.storage.proofs.WordLaws.{word-agree, word-shift, bytes-shift}
 use Rattle.sheet.specs.declared.split.Piece.{Piece}
 use Rattle.sheet.specs.Pieces as spec
 use Rattle.sheet.specs.Pieces.{whole, cut, piecesIn, pieces, pieceAt, piecesBy, Split, Moved}
@@ -139,6 +139,38 @@ whole-within s at body size p e f =
     let two = ltb-false (length s - at) 2 (w .0) in
     let fits = ltb-false (length s - at - 2) (wordAt s at 2) (w .1) in
     record { begins = sym (w .2); sized = sym (w .3); ends = omega (arith, w .2, w .3) }
+
+-- ---- bytes that follow
+
+turn-whole : (n w : ℕ) (b : Bytes) (ps : List spec.Piece) → 2 ≤ n → w ≤ n - 2 → turn n w b ps ≡ whole b ∷ ps
+turn-whole n w b ps h l = rw (ne-eqb n 0 (omega arith), le-ltb n 2 h, le-ltb (n - 2) w l)
+
+-- a whole piece stays the first, whatever bytes follow
+whole-first : (u more : Bytes) (w : ℕ) → w ≡ wordAt u 0 2 → 2 + w ≤ length u
+    → pieces (u ++ more) ≡ whole (part u 2 w) ∷ pieces (drop (2 + w) u ++ more)
+unfolding part
+whole-first u more w e h =
+    let v = u ++ more in
+    let n = length-append u more in
+    let same : wordAt v 0 2 ≡ w
+    = word-agree v u 0 2 (λ i a b. List·getD-append u more 0 i (omega arith)) ∙ sym e in
+    let body : take w (drop 2 v) ≡ take w (drop 2 u)
+    = ap (take w) (drop-append-le 2 u more (omega arith)) ∙ take-append-le w (drop 2 u) more (let l = length-drop 2 u in omega arith) in
+    let rest : drop (2 + w) v ≡ drop (2 + w) u ++ more = drop-append-le (2 + w) u more h in
+    pieces-turn v
+    ∙ (λ i. turn (length v) (same i) (part v 2 (same i)) (piecesIn (length v) (drop (2 + same i) v)))
+    ∙ turn-whole (length v) w (part v 2 w) (piecesIn (length v) (drop (2 + w) v)) (omega arith) (omega arith)
+    ∙ (λ i. whole (body i) ∷ pieces-most (length v) (drop (2 + w) v) (let l = length-drop (2 + w) v in omega arith) i)
+    ∙ ap (λ (x : Bytes). whole (take w (drop 2 u)) ∷ pieces x) rest
+
+pub piece-joined : (s more : Bytes) (at body size : ℕ) → Within s at body size
+    → pieces (drop at s ++ more) ≡ whole (part s body size) ∷ pieces (drop (body + size) s ++ more)
+piece-joined s more at body size w =
+    let l = length-drop at s in
+    let e : at + (2 + size) ≡ body + size = omega (arith, w .begins) in
+    whole-first (drop at s) more size (w .sized ∙ sym (word-drop at s)) (omega (arith, w .begins, w .ends))
+    ∙ (λ i. whole ((part-drop at size s ∙ ap (λ (k : ℕ). part s k size) (sym (w .begins))) i)
+    ∷ pieces ((drop-drop (2 + size) at s ∙ ap (λ (k : ℕ). drop k s) e) i ++ more))
 
 -- ---- a rest moved to the front
 

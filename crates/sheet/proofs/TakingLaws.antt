@@ -15,7 +15,7 @@ use Rattle.sheet.specs.Decimal.{Put}
 use Rattle.sheet.specs.Pieces.{Piece, whole, cut, pieces, pieceAt, piecesBy, Split}
 use Rattle.sheet.specs.Sheet.{cutLine, lineFor, bytesAfter, recordLines, bytesThrough, HandedOver, Taken}
 use Rattle.sheet.proofs.PutLaws.{put-then, put-as}
-use Rattle.sheet.proofs.SplitLaws.{whole-within}
+use Rattle.sheet.proofs.SplitLaws.{whole-within, piece-joined}
 
 -- ---- one more piece at the end
 
@@ -66,6 +66,7 @@ pub record Taking (h block t : Bytes) (first start k number from at : ℕ) (h′
   pub lines : Put (k * 105) t 0 (recordLines first h (take k (pieces (drop start block)))) at t′
   pub history : h′ ≡ bytesThrough h (take k (pieces (drop start block)))
   pub rest : pieces (drop from block) ≡ drop k (pieces (drop start block))
+  pub joined : (more : Bytes) → pieces (drop start block ++ more) ≡ take k (pieces (drop start block)) ++ pieces (drop from block ++ more)
   pub numbered : number ≡ first + k
   pub within : from ≤ length block
   pub on : start + k ≤ from
@@ -78,6 +79,7 @@ module _ (h block t : Bytes) (first start : ℕ) where
         lines = record { next = refl; bytes = refl; within = omega arith };
         history = refl;
         rest = refl;
+        joined = λ more. refl;
         numbered = omega arith;
         within = l;
         on = omega arith;
@@ -105,6 +107,11 @@ module _ (h block t : Bytes) (first start : ℕ) where
             (omega arith);
         history = o .history ∙ ap (λ (b : Bytes). bytesAfter b s) (g .history) ∙ sym (ap (bytesThrough h) more ∙ bytes-snoc h (take k ps) s);
         rest = sym (ap (λ (j : ℕ). drop j ps) (add-one k) ∙ n .after);
+        joined = λ more.
+            g .joined more
+            ∙ ap (λ (l : List Piece). take k ps ++ l) (piece-joined block more from body size w)
+            ∙ sym (append-assoc (take k ps) (whole (part block body size) ∷ []) _)
+            ∙ ap (λ (l : List Piece). l ++ pieces (drop (body + size) block ++ more)) (sym (ap (λ (j : ℕ). take j ps) (add-one k) ∙ n .through));
         numbered = omega (arith, g .numbered);
         within = w .ends;
         on = omega (arith, g .on, w .begins);
@@ -118,6 +125,7 @@ module _ (h block t : Bytes) (first start : ℕ) where
         lines = put-as (g .lines) _ refl (omega arith);
         history = g .history;
         rest = g .rest;
+        joined = g .joined;
         number = g .numbered;
         within = g .within;
         on = g .on;

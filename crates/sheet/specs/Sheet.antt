@@ -63,6 +63,8 @@ pub record Taken (h block t : Bytes) (first start : ℕ) (p : Progress) (h′ t�
   pub lines : Put 63000 t 0 (recordLines first h (take (p .count) (pieces (drop start block)))) (p .at) t′
   pub history : h′ ≡ bytesThrough h (take (p .count) (pieces (drop start block)))
   pub rest : pieces (drop (p .from) block) ≡ drop (p .count) (pieces (drop start block))
+  -- whatever bytes follow the block, these pieces come first, and then those of its rest and of what follows
+  pub joined : (more : Bytes) → pieces (drop start block ++ more) ≡ take (p .count) (pieces (drop start block)) ++ pieces (drop (p .from) block ++ more)
   pub number : p .number ≡ first + p .count
   pub within : p .from ≤ length block
   pub on : start + p .count ≤ p .from
