@@ -110,10 +110,6 @@ pub begins-yes : (q p : Prefix) → begins q p ≡ true → take (length p) q �
 unfolding begins
 begins-yes q p e = same-yes _ _ e
 
-pub yes-begins : (q p : Prefix) → take (length p) q ≡ p → begins q p ≡ true
-unfolding begins
-yes-begins q p e = yes-same _ _ e
-
 pub begins-no : (q p : Prefix) → begins q p ≡ false → take (length p) q ≡ p → ⊥
 unfolding begins
 begins-no q p e = same-no _ _ e

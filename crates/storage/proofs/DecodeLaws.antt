@@ -113,14 +113,6 @@ pub record FindingNamed (x : Finding) : Type 0 where
   pub node : x .node ≤ 63
   pub index : x .index ≤ 256
 
-pub finding-named : (x : Finding) → findingRight x ≡ true → FindingNamed x
-unfolding findingRight
-finding-named x e =
-    let a = both (leb 3 (x .name)) _ e in
-    let b = both (leb (x .name) 5) _ (a .1) in
-    let c = both (leb (x .node) 63) _ (b .1) in
-    record { low = leb-true _ _ (a .0); high = leb-true _ _ (b .0); node = leb-true _ _ (c .0); index = leb-true _ _ (c .1) }
-
 pub finding-test : (x : Finding) → FindingNamed x → findingRight x ≡ true
 unfolding findingRight
 finding-test x f =

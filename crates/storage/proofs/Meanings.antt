@@ -13,21 +13,21 @@ use Rattle.model.specs.Entry.{Prefix}
 use Rattle.model.specs.History.{fresh, Certificate, Finding, History}
 use Rattle.storage.specs.Lists.{every}
 use Rattle.storage.specs.Words.{wordAt, wordBytes, putBytes}
-use Rattle.storage.specs.Tables.{NodeRow, CertificateRow, Tables, nodeRow, termRow, certificateRow, findingRow, prefixRow, prefixRows, termRows, certificateRows, findingRows, headPart, nodesPart, termsPart, certificatesPart, findingsPart, prefixesPart, tablesIn, tablesOf, withRow, withNode, withCommitted, withTerms, withCertificates, withFindings}
+use Rattle.storage.specs.Tables.{NodeRow, CertificateRow, Tables, nodeRow, termRow, findingRow, prefixRow, prefixRows, termRows, certificateRows, findingRows, headPart, nodesPart, termsPart, certificatesPart, findingsPart, prefixesPart, tablesIn, tablesOf, withRow, withNode, withCommitted, withTerms, withCertificates, withFindings}
 use Rattle.storage.specs.Decode.{prefixAt, extended, resolve, frontIn, certificateIn, historyIn, decode}
 use Rattle.storage.specs.Rules.{certificateRight, findingRight, numbered, prefixRight, wellFormed}
 use Rattle.storage.specs.Values.{numberIndex}
-use Rattle.storage.specs.Writes.{nodeBytes, certificateBytes, findingBytes, prefixBytes, prefixOf, CertificateFits, PrefixFits, prefixAppended, findingAppended, termAppended, committedSet, certificateInserted, certificateAdded}
-use Rattle.storage.proofs.ListLaws.{tabulate-length, tabulate-at, every-snoc, every-set, every-insert, map-set, map-insert}
+use Rattle.storage.specs.Writes.{nodeBytes, prefixBytes, prefixOf, CertificateFits, PrefixFits, prefixAppended, termAppended, committedSet, certificateInserted, certificateAdded}
+use Rattle.storage.proofs.ListLaws.{tabulate-length, tabulate-at, every-insert, map-insert}
 use Rattle.storage.proofs.WordLaws.{put-length}
 use Rattle.storage.proofs.PartLaws.{word-part}
 use Rattle.storage.proofs.RowFacts.{resolve-count}
-use Rattle.storage.proofs.RuleLaws.{within, pass, index-among, SameKey, numbered-set}
-use Rattle.storage.proofs.TableLaws.{findings-written, set-node, set-term, set-certificate, prefix-appended, finding-appended, term-appended, committed-set, certificate-added}
+use Rattle.storage.proofs.RuleLaws.{within, index-among}
+use Rattle.storage.proofs.TableLaws.{findings-written, set-node, set-term, prefix-appended, term-appended, committed-set, certificate-added}
 use Rattle.storage.specs.Fresh.{freshHistory}
 use Rattle.storage.proofs.FreshLaws.{fresh-well-formed, fresh-decodes}
-use Rattle.storage.proofs.WellFormed.{rows-are, terms-are, certificates-are, findings-are, rows-count, terms-count, certificates-count, findings-count, node-row, certificate-row, formed, formed-rows}
-use Rattle.storage.proofs.DecodeLaws.{Kept, well-formed-parts, well-formed-of, NodeNamed, CertificateNamed, certificate-test, FindingNamed, finding-test, kept-node, kept-committed, kept-terms, kept-certificates, kept-findings, kept-row, decode-is, history-node, history-row}
+use Rattle.storage.proofs.WellFormed.{rows-are, terms-are, certificates-are, findings-are, rows-count, terms-count, certificates-count, findings-count, node-row, formed, formed-rows}
+use Rattle.storage.proofs.DecodeLaws.{Kept, well-formed-parts, well-formed-of, NodeNamed, CertificateNamed, certificate-test, kept-node, kept-committed, kept-terms, kept-certificates, kept-findings, kept-row, decode-is, history-node, history-row}
 
 -- well-formed bytes that stand for a history
 pub record Stands (h : Bytes) (x : History) : Type 0 where
@@ -87,25 +87,12 @@ module _ (h : Bytes) where
   unseen-read k l =
       List·getD-map (λ (x : NodeRow). x .unseen) (tablesOf h .nodes) k noNode ∙ ap (λ (x : NodeRow). x .unseen) (node-row h k noNode l)
 
-  -- a commit term, a certificate and a finding, where there is one
+  -- a commit term, where there is one
   pub term-read : (k d : ℕ) → k < wordAt h 2 2 → getD (decode h .terms) k d ≡ termRow (termsPart h) k
   unfolding decode tablesIn
   term-read k d l =
       tabulate-at (termRow (termsPart h)) 0 (wordAt (headPart h) 2 2) k d (omega (arith, word-part h 0 9 2 2 (omega arith)))
       ∙ ap (termRow (termsPart h)) (zero-add k)
-
-  pub certificate-read : (k : ℕ) (d : CertificateRow) → k < wordAt h 6 1
-      → getD (decode h .certificates) k (certificateIn (decode h .prefixes) d) ≡ certificateIn (decode h .prefixes) (certificateRow (certificatesPart h) k)
-  unfolding decode
-  certificate-read k d l =
-      List·getD-map (certificateIn (decode h .prefixes)) (tablesOf h .certificates) k d
-      ∙ ap (certificateIn (decode h .prefixes)) (certificate-row h k d l)
-
-  pub finding-read : (k : ℕ) (d : Finding) → k < wordAt h 7 1 → getD (decode h .findings) k d ≡ findingRow (findingsPart h) k
-  unfolding decode tablesIn
-  finding-read k d l =
-      tabulate-at (findingRow (findingsPart h)) 0 (wordAt (headPart h) 7 1) k d (omega (arith, word-part h 0 9 7 1 (omega arith)))
-      ∙ ap (findingRow (findingsPart h)) (zero-add k)
 
 -- ---- what is written
 
@@ -282,20 +269,6 @@ module _ (h : Bytes) (x : History) (s : Stands h x) where
       (history-row (tablesOf h) (prefixOf p i t n c) kept
       ∙ ap (λ (y : History). withPrefixes y (y .prefixes ++ (extended (y .prefixes) (prefixOf p i t n c) ∷ []))) is)
 
-  -- one more finding
-  pub finding-written : (n : Finding) → wordAt h 7 1 < 128 → FindingNamed n → n .term < 4294967296
-      → Stands (findingAppended h n) (withNoted x (x .findings ++ (n ∷ [])))
-  unfolding findingAppended
-  finding-written n l f t =
-      let m = wordAt h 7 1 in
-      let count : length (tablesOf h .findings) ≡ m = sym (ap (λ (y : History). length (y .findings)) (decode-is h)) ∙ findings-read h in
-      let more : length (tablesOf h .findings ++ (n ∷ [])) ≡ length (tablesOf h .findings) + 1 = length-append (tablesOf h .findings) (n ∷ []) in
-      stands (findingAppended h n) (withFindings (tablesOf h) (tablesOf h .findings ++ (n ∷ []))) _
-      (put-length (putBytes h (2121 + m * 8) (findingBytes n)) 7 (wordBytes 1 (m + 1)) ∙ put-length h (2121 + m * 8) (findingBytes n) ∙ long)
-      (finding-appended h long n l (record { name = omega (arith, f .high); node = omega (arith, f .node); index = omega (arith, f .index); term = t }))
-      (kept-findings (tablesOf h) kept (tablesOf h .findings ++ (n ∷ [])) (omega arith) (every-snoc findingRight (tablesOf h .findings) n ∙ pass _ (kept .findings) ∙ finding-test n f))
-      (ap (λ (y : History). withNoted y (y .findings ++ (n ∷ []))) is)
-
   -- a commit term set, and one more
   pub term-written : (k v : ℕ) → k < 256 → v < 4294967296
       → Stands (putBytes h (393 + k * 4) (wordBytes 4 v)) (withCommitTerms x (set (x .terms) k v))
@@ -318,25 +291,6 @@ module _ (h : Bytes) (x : History) (s : Stands h x) where
       (term-appended h long v l f)
       (kept-terms (tablesOf h) kept (tablesOf h .terms ++ (v ∷ [])) (omega arith))
       (ap (λ (y : History). withCommitTerms y (y .terms ++ (v ∷ []))) is)
-
-  -- a certificate's row set to one of the same term and number, as where only its mark moves
-  pub certificate-written : (k : ℕ) (c : CertificateRow) → k < wordAt h 6 1 → CertificateFits c → CertificateNamed (wordAt h 0 2) c
-      → SameKey c (certificateRow (certificatesPart h) k)
-      → Stands (putBytes h (1417 + k * 11) (certificateBytes c)) (withElections x (set (x .certificates) k (certificateIn (x .prefixes) c)))
-  certificate-written k c l f g key =
-      let lim = within _ _ _ _ (kept .limits) in
-      let r = rows-count h in
-      let cs = tablesOf h .certificates in
-      let n = length (tablesOf h .rows) in
-      let count = certificates-count h in
-      let named : CertificateNamed n c = record { log = omega (arith, g .log); mark = g .mark; leader = g .leader; present = g .present } in
-      stands (putBytes h (1417 + k * 11) (certificateBytes c)) (withCertificates (tablesOf h) (set cs k c)) _
-      (put-length h (1417 + k * 11) (certificateBytes c) ∙ long)
-      (set-certificate h long k c (omega (arith, lim .certificates)) f)
-      (kept-certificates (tablesOf h) kept (set cs k c) (omega (arith, length-set cs k c, lim .certificates))
-      (every-set (certificateRight n) cs k c (certificate-test n c named) (kept .certificates))
-      (numbered-set cs k c c (subst (SameKey c) (sym (certificate-row h k c l)) key) ∙ kept .numbered))
-      (certificates-change (set cs k c) ∙ ap (withElections x) (map-set (certificateIn (x .prefixes)) cs k c ∙ ap (λ (q : List Certificate). set q k (certificateIn (x .prefixes) c)) certificates-is))
 
   -- one more certificate at place k, where the numbers stay unbroken
   pub certificate-inserted : (k : ℕ) (c : CertificateRow) → k ≤ wordAt h 6 1 → wordAt h 6 1 < 64 → CertificateFits c → CertificateNamed (wordAt h 0 2) c

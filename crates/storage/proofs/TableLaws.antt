@@ -8,15 +8,14 @@ use mathlib.Core.Path.{_≡_, ap, sym, _∙_}
 use mathlib.Core.List.{[], _∷_, _++_}
 use lib.ListN.{length, set, take, drop}
 use Rattle.model.specs.Sizes.{Bytes}
-use Rattle.model.specs.History.{Finding}
 use Rattle.storage.specs.Words.{wordAt, wordBytes, putBytes}
 use Rattle.storage.specs.Layout.{part}
-use Rattle.storage.specs.Tables.{Tables, NodeRow, CertificateRow, HeadRow, headRow, nodeRow, nodeRows, termRow, termRows, certificateRow, certificateRows, findingRow, findingRows, prefixRow, prefixRows, headPart, nodesPart, termsPart, certificatesPart, findingsPart, prefixesPart, tablesIn, tablesOf, withRows, withRow, withNodes, withNode, withCommitted, withTerms, withCertificates, withFindings}
-use Rattle.storage.specs.Writes.{prefixAppended, findingAppended, termAppended, committedSet, certificateInserted, certificateAdded, nodeBytes, certificateBytes, findingBytes, prefixBytes, prefixOf, NodeFits, CertificateFits, FindingFits, PrefixFits}
+use Rattle.storage.specs.Tables.{Tables, NodeRow, CertificateRow, HeadRow, headRow, nodeRow, nodeRows, termRow, termRows, certificateRows, findingRows, prefixRow, prefixRows, headPart, nodesPart, termsPart, certificatesPart, findingsPart, prefixesPart, tablesIn, tablesOf, withRows, withRow, withNodes, withNode, withCommitted, withTerms, withCertificates, withFindings}
+use Rattle.storage.specs.Writes.{prefixAppended, termAppended, committedSet, certificateInserted, certificateAdded, nodeBytes, prefixBytes, prefixOf, NodeFits, CertificateFits, PrefixFits}
 use Rattle.storage.proofs.WordLaws.{put-length, word-bytes-length}
 use Rattle.storage.proofs.PartLaws.{word-part, put-whole, part-length, part-put-same, part-put-before, part-put-after}
 use Rattle.storage.proofs.WriteLaws.{inserted-length}
-use Rattle.storage.proofs.RowLaws.{certificates-inserted, rows-set, rows-append, node-own, node-length, node-back, term-own, term-back, certificate-own, certificate-length, certificate-back, finding-own, finding-length, finding-back, prefix-own, prefix-length, prefix-back, word-set, word-before, word-after}
+use Rattle.storage.proofs.RowLaws.{certificates-inserted, rows-set, rows-append, node-own, node-length, node-back, term-own, term-back, prefix-own, prefix-length, prefix-back, word-set, word-before, word-after}
 
 -- ---- a write in one region
 
@@ -345,25 +344,6 @@ module _ (h : Bytes) (right : length h ≡ 24137) where
       ∙ ap (withRows (tablesOf h)) (rows-append 41 prefixRow prefix-own (prefixesPart h) vs n (prefixOf p i t s c) lv (prefix-back (prefixesPart h) n p i t s c f (omega arith))
       ∙ ap (λ (m : ℕ). prefixRows (prefixesPart h) m ++ (prefixOf p i t s c ∷ [])) e)
 
-  -- one more finding
-  pub append-finding : (n : ℕ) (x : Finding) → n ≡ wordAt (headPart h) 7 1 → n < 128 → FindingFits x
-      → tablesOf (putBytes (putBytes h (2121 + n * 8) (findingBytes x)) 7 (wordBytes 1 (n + 1)))
-      ≡ withFindings (tablesOf h) (tablesOf h .findings ++ (x ∷ []))
-  unfolding tablesIn
-  append-finding n x e l f =
-      let vs = findingBytes x in
-      let w = wordBytes 1 (n + 1) in
-      let u = putBytes h (2121 + n * 8) vs in
-      let lv : length vs ≡ 8 = finding-length x in
-      let ru : length u ≡ 24137 = put-length h (2121 + n * 8) vs ∙ right in
-      let long : length (findingsPart h) ≡ 1024 = part-length h 2121 1024 (omega arith) in
-      ap tablesFrom
-      (in-head u 7 w ru (omega (arith, word-bytes-length 1 (n + 1)))
-      ∙ ap (λ (q : Parts). putHead q 7 w) (in-findings h (n * 8) vs right (omega arith)))
-      ∙ by-head (putHead (putFindings (partsOf h) (n * 8) vs) 7 w) _ (head-findings (headPart h) (n + 1) head-long (omega arith))
-      ∙ ap (withFindings (tablesOf h)) (rows-append 8 findingRow finding-own (findingsPart h) vs n x lv (finding-back (findingsPart h) n x f (omega arith))
-      ∙ ap (λ (m : ℕ). findingRows (findingsPart h) m ++ (x ∷ [])) e)
-
   -- the commit term at a place
   pub set-term : (k v : ℕ) → k < 256 → v < 4294967296
       → tablesOf (putBytes h (393 + k * 4) (wordBytes 4 v)) ≡ withTerms (tablesOf h) (set (tablesOf h .terms) k v)
@@ -394,36 +374,6 @@ module _ (h : Bytes) (right : length h ≡ 24137) where
       ∙ ap (withTerms (tablesOf h)) (rows-append 4 termRow term-own (termsPart h) vs n v lv (term-back (termsPart h) n v f (omega arith))
       ∙ ap (λ (m : ℕ). termRows (termsPart h) m ++ (v ∷ [])) e)
 
-  -- a certificate's row
-  pub set-certificate : (k : ℕ) (x : CertificateRow) → k < 64 → CertificateFits x
-      → tablesOf (putBytes h (1417 + k * 11) (certificateBytes x)) ≡ withCertificates (tablesOf h) (set (tablesOf h .certificates) k x)
-  unfolding tablesIn
-  set-certificate k x l f =
-      let vs = certificateBytes x in
-      let lv : length vs ≡ 11 = certificate-length x in
-      let long : length (certificatesPart h) ≡ 704 = part-length h 1417 704 (omega arith) in
-      ap tablesFrom (in-certificates h (k * 11) vs right (omega arith))
-      ∙ ap (withCertificates (tablesOf h)) (rows-set 11 certificateRow certificate-own (certificatesPart h) vs (wordAt (headPart h) 6 1) k x lv (certificate-back (certificatesPart h) k x f (omega arith)))
-
-  -- one more certificate, at the end
-  pub append-certificate : (n : ℕ) (x : CertificateRow) → n ≡ wordAt (headPart h) 6 1 → n < 64 → CertificateFits x
-      → tablesOf (putBytes (putBytes h (1417 + n * 11) (certificateBytes x)) 6 (wordBytes 1 (n + 1)))
-      ≡ withCertificates (tablesOf h) (tablesOf h .certificates ++ (x ∷ []))
-  unfolding tablesIn
-  append-certificate n x e l f =
-      let vs = certificateBytes x in
-      let w = wordBytes 1 (n + 1) in
-      let u = putBytes h (1417 + n * 11) vs in
-      let lv : length vs ≡ 11 = certificate-length x in
-      let ru : length u ≡ 24137 = put-length h (1417 + n * 11) vs ∙ right in
-      let long : length (certificatesPart h) ≡ 704 = part-length h 1417 704 (omega arith) in
-      ap tablesFrom
-      (in-head u 6 w ru (omega (arith, word-bytes-length 1 (n + 1)))
-      ∙ ap (λ (q : Parts). putHead q 6 w) (in-certificates h (n * 11) vs right (omega arith)))
-      ∙ by-head (putHead (putCertificates (partsOf h) (n * 11) vs) 6 w) _ (head-certificates (headPart h) (n + 1) head-long (omega arith))
-      ∙ ap (withCertificates (tablesOf h)) (rows-append 11 certificateRow certificate-own (certificatesPart h) vs n x lv (certificate-back (certificatesPart h) n x f (omega arith))
-      ∙ ap (λ (m : ℕ). certificateRows (certificatesPart h) m ++ (x ∷ [])) e)
-
   -- ---- the writes that are more than one row's
 
   -- one more prefix
@@ -431,12 +381,6 @@ module _ (h : Bytes) (right : length h ≡ 24137) where
       → tablesOf (prefixAppended h p i t s c) ≡ withRow (tablesOf h) (prefixOf p i t s c)
   unfolding prefixAppended
   prefix-appended p i t s c l f = append-prefix (wordAt h 0 2) p i t s c (sym (word-part h 0 9 0 2 (omega arith))) l f
-
-  -- one more finding
-  pub finding-appended : (x : Finding) → wordAt h 7 1 < 128 → FindingFits x
-      → tablesOf (findingAppended h x) ≡ withFindings (tablesOf h) (tablesOf h .findings ++ (x ∷ []))
-  unfolding findingAppended
-  finding-appended x l f = append-finding (wordAt h 7 1) x (sym (word-part h 0 9 7 1 (omega arith))) l f
 
   -- one more commit term
   pub term-appended : (v : ℕ) → wordAt h 2 2 < 256 → v < 4294967296

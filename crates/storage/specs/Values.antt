@@ -9,9 +9,8 @@ use Rattle.model.specs.History.{Finding}
 use Rattle.storage.specs.declared.nodes.Node.{Node}
 use Rattle.storage.specs.declared.certificates.Certificate.{Certificate}
 use Rattle.storage.specs.declared.findings.Found.{Found}
-use Rattle.storage.specs.declared.prefixes.Stored.{Stored}
 use Rattle.storage.specs.Words.{wordAt}
-use Rattle.storage.specs.Tables.{PrefixRow, NodeRow, CertificateRow, prefixRow}
+use Rattle.storage.specs.Tables.{NodeRow, CertificateRow, prefixRow}
 
 abbrev pub nodeValue : Node → NodeRow
 nodeValue x = record { front = x .front; last = x .last .0; unseen = x .unseen .0 }
@@ -39,10 +38,3 @@ numberIndex t p = cond (eqb p 0) 0 (prefixRow t (p - 1) .index)
 pub record Index (t : Bytes) (p r : ℕ) : Type 0 where
   pub is : r ≡ numberIndex t p
   pub below : r < 65536
-
--- a stored prefix read, but for its content
-pub record StoredIs (row : PrefixRow) (x : Stored) : Type 0 where
-  pub parent : x .parent ≡ row .parent
-  pub index : x .index .0 ≡ row .index
-  pub term : x .term .0 ≡ row .term
-  pub size : x .size ≡ row .size

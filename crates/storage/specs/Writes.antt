@@ -73,13 +73,6 @@ prefixAppended h p i t s c =
     let n = wordAt h 0 2 in
     putBytes (putBytes h (3145 + n * 41) (prefixBytes p i t s c)) 0 (wordBytes 2 (n + 1))
 
--- one more finding
-unfoldable pub findingAppended : Bytes → Finding → Bytes
-unfolding wordAt putBytes findingBytes
-findingAppended h x =
-    let n = wordAt h 7 1 in
-    putBytes (putBytes h (2121 + n * 8) (findingBytes x)) 7 (wordBytes 1 (n + 1))
-
 -- one more commit term
 unfoldable pub termAppended : Bytes → ℕ → Bytes
 unfolding wordAt putBytes

@@ -81,16 +81,6 @@ pub fn put_certificate(certificates: &mut [u8], k: usize, c: Certificate)
     put_leader(&mut certificates[..], o, c);
 }
 
-// The same in the whole history, of which only the table is lent.
-pub fn set_certificate(history: &mut [u8], k: usize, c: Certificate)
-    requires { ⌜ (k < 64) × (length (now history) ≡ 24137) ⌝ }
-    ensures { λ r. ⌜ now (history .exit) ≡ putBytes (now (history .entry)) (1417 + k * 11) (certificateBytes (certificateValue c)) ⌝ }
-{
-    let a = CERTIFICATES_START;
-    let e = a + CERTIFICATES_LENGTH;
-    put_certificate(&mut history[a..e], k, c);
-}
-
 // A row inserted at place k of a table of n: those from k on move up.
 pub fn insert_certificate(certificates: &mut [u8], n: usize, k: usize, c: Certificate)
     requires { ⌜ (k ≤ n) × (n < 64) × (length (now certificates) ≡ 704) ⌝ }

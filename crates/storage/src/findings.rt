@@ -7,13 +7,9 @@ ghost use Rattle.storage.specs.Lists.{every};
 ghost use Rattle.storage.specs.Tables.{findingRow, findingRows};
 ghost use Rattle.storage.specs.Rules.{findingRight};
 ghost use Rattle.storage.specs.Values.{findingValue};
-ghost use Rattle.storage.specs.Words.{wordAt, wordBytes, putBytes};
-ghost use Rattle.storage.specs.Writes.{findingBytes, findingAppended};
-use crate::head::finding_count;
-use crate::head::set_finding_count;
+ghost use Rattle.storage.specs.Words.{wordBytes, putBytes};
+ghost use Rattle.storage.specs.Writes.{findingBytes};
 use crate::layout::FINDING_WIDTH;
-use crate::layout::FINDINGS_LENGTH;
-use crate::layout::FINDINGS_START;
 use crate::words::get8;
 use crate::words::get16;
 use crate::words::get32;
@@ -65,26 +61,6 @@ pub fn put_finding(findings: &mut [u8], k: usize, f: Found)
     put_name(&mut findings[..], o, f);
     put16(&mut findings[..], o + 2, f.index.0);
     put32(&mut findings[..], o + 4, f.term.0);
-}
-
-// The same in the whole history, of which only the table is lent.
-pub fn set_finding(history: &mut [u8], k: usize, f: Found)
-    requires { ⌜ (k < 128) × (length (now history) ≡ 24137) ⌝ }
-    ensures { λ r. ⌜ now (history .exit) ≡ putBytes (now (history .entry)) (2121 + k * 8) (findingBytes (findingValue f)) ⌝ }
-{
-    let a = FINDINGS_START;
-    let e = a + FINDINGS_LENGTH;
-    put_finding(&mut history[a..e], k, f);
-}
-
-// One more finding.
-pub fn append_finding(history: &mut [u8], f: Found)
-    requires { ⌜ (wordAt (now history) 7 1 < 128) × (length (now history) ≡ 24137) ⌝ }
-    ensures { λ r. ⌜ now (history .exit) ≡ findingAppended (now (history .entry)) (findingValue f) ⌝ }
-{
-    let n = finding_count(&history[..]);
-    set_finding(&mut history[..], n, f);
-    set_finding_count(&mut history[..], n + 1);
 }
 
 // The storage rules of one row.

@@ -9,7 +9,7 @@ ghost use Rattle.storage.specs.Words.{Word, wordAt, bytesAt, wordBytes, 
 ghost use Rattle.storage.specs.Writes.{prefixBytes, prefixAppended};
 ghost use Rattle.storage.specs.Tables.{prefixRow, prefixRows};
 ghost use Rattle.storage.specs.Rules.{sameBytes, sameRow, isAmong, prefixRight, prefixesRightAfter};
-ghost use Rattle.storage.specs.Values.{Index, StoredIs};
+ghost use Rattle.storage.specs.Values.{Index};
 use crate::head::prefix_count;
 use crate::head::set_prefix_count;
 use crate::layout::PREFIX_WIDTH;
@@ -54,26 +54,6 @@ pub fn size_at(prefixes: &[u8], k: usize) -> usize
     ensures { λ r. ⌜ Word (now (prefixes .entry)) (k * 41 + 8) 1 r ⌝ }
 {
     get8(prefixes, k * PREFIX_WIDTH + 8)
-}
-
-// What a row stores, but for its content: that is the first `size` bytes from k * 41 + 9 on.
-pub struct Stored {
-    pub parent: usize,
-    pub index: LogIndex,
-    pub term: Term,
-    pub size: usize,
-}
-
-pub fn stored_at(prefixes: &[u8], k: usize) -> Stored
-    requires { ⌜ (k < 512) × (length (now prefixes) ≡ 20992) ⌝ }
-    ensures { λ r. ⌜ StoredIs (prefixRow (now (prefixes .entry)) k) r ⌝ }
-{
-    Stored {
-        parent: parent_at(prefixes, k),
-        index: LogIndex(index_at(prefixes, k)),
-        term: Term(term_at(prefixes, k)),
-        size: size_at(prefixes, k),
-    }
 }
 
 // The index of a number's prefix; the empty one has 0.
