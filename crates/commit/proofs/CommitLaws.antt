@@ -23,7 +23,8 @@ use Rattle.storage.proofs.RuleLaws.{pass, stop}
 use Rattle.storage.proofs.Meanings.{Stands, withNoted}
 use Rattle.logical_log.specs.declared.prefix.Slice.{Slice}
 use Rattle.logical_log.specs.Prefix.{sliceOf}
-use Rattle.commit.specs.Prefix.{keptOf, rowsOf, nodeOf, seenOf, longerIn, endIn, agreeIn, flagsOf, unseenSet, keepBytes, findingsSet, difference, heldWith, tableWith, noteAnswer, noteLeaves, commitAnswer, commitBytes, Inserted, Observed}
+use Rattle.logical_log.specs.Observation.{findingsKept}
+use Rattle.commit.specs.Prefix.{keptOf, rowsOf, nodeOf, seenOf, longerIn, endIn, agreeIn, flagsOf, unseenSet, keepBytes, difference, heldWith, tableWith, noteAnswer, noteLeaves, commitAnswer, commitBytes, Inserted, Observed}
 use Rattle.commit.specs.declared.prefix.Kept.{Kept}
 use Rattle.commit.specs.declared.prefix.CommitAnswer.{CommitAnswer}
 use Rattle.storage.proofs.WellFormed.{formed}
@@ -200,14 +201,14 @@ module _ (x : History) (n i : ℕ) where
           keeps : replaces (x .committed) (seen x n i) ≡ false
           keeps = replaces-not (x .committed) (seen x n i) (agree-is ∙ e)
 
-          room-left : heldWith h n (endIn h c p) ≤ 128 → Stands (findingsSet h (tableWith h n (endIn h c p)) (heldWith h n (endIn h c p))) (withNoted x fs)
+          room-left : heldWith h n (endIn h c p) ≤ 128 → Stands (findingsKept h (tableWith h n (endIn h c p)) (heldWith h n (endIn h c p))) (withNoted x fs)
               → length fs ≤ 128 → Outcome h (noteAnswer h n (endIn h c p)) (noteLeaves h n (endIn h c p))
           unfolding noteAnswer noteLeaves
           room-left l w m =
               let f = le-ltb 128 (heldWith h n (endIn h c p)) l in
               let k = endIn h c p in
               let y = withNoted x fs in
-              let z = findingsSet h (tableWith h n k) (heldWith h n k) in
+              let z = findingsKept h (tableWith h n k) (heldWith h n k) in
               let made : Accepts 0 (unseenSet z n 0) =
               record {
                 refuses = few fs found m;

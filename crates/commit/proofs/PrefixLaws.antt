@@ -2,8 +2,8 @@
 -- Assumes nothing.
 use Prim.Native.Nat.{ℕ, zero, suc, _-_, _≤_, _<_, min}
 use native.Mathlib.Omega.{arith}
-use mathlib.Core.Path.{_≡_, sym, _∙_, ap, subst}
-use mathlib.Core.Bool.{true, cond}
+use mathlib.Core.Path.{_≡_, refl, sym, _∙_, ap, subst}
+use mathlib.Core.Bool.{true, false, cond}
 use mathlib.Core.Logic.{_⊎_, inl, inr, ⊎-elim}
 use mathlib.Core.List.{List, [], _∷_}
 use lib.Dec.{ltb, eqb}
@@ -33,7 +33,8 @@ use Rattle.logical_log.proofs.TableLaws.{rows-length, rows-at}
 use Rattle.logical_log.proofs.SliceLaws.{index-length, slice-cases}
 use Rattle.logical_log.proofs.ComparisonLaws.{same-prefix}
 use Rattle.logical_log.proofs.ViolationLaws.{Holds, note-holds, note-length}
-use Rattle.commit.specs.Prefix.{rowsOf, nodeOf, longerIn, endIn, sameSlices, agreeIn, unseenSet, keepBytes, findingsSet, difference, heldWith, tableWith}
+use Rattle.logical_log.specs.Observation.{findingsKept}
+use Rattle.commit.specs.Prefix.{rowsOf, nodeOf, longerIn, endIn, sameSlices, agreeIn, unseenSet, keepBytes, difference, heldWith, tableWith}
 use Rattle.storage.proofs.WellFormed.{Formed, formed, formed-rows}
 
 -- the history with a node's unseen mark, the committed prefix with its owner, and the findings anew
@@ -150,16 +151,31 @@ module _ (h : Bytes) (x : History) (s : Stands h x) where
     unfolding endIn longerIn
     end-means = lesser (indexOf (rowsOf h) c) (indexOf (rowsOf h) p) ∙ (λ j. min (index-is c lc j) (index-is p lp j))
 
-    pub agree-means : agreeIn h c p (endIn h c p) ≡ agree (at c) (at p)
-    unfolding agreeIn agree
-    agree-means =
-        let e = end-means in
-        let a = part-of c (endIn h c p) lc (omega arith) in
-        let b = part-of p (endIn h c p) lp (omega arith) in
+    -- through an index that both reach, and through one that the first does not
+    pub agree-at : (i : ℕ) → i ≤ length (at c) → i ≤ length (at p) → agreeIn h c p i ≡ same (take i (at c)) (take i (at p))
+    unfolding agreeIn
+    agree-at i rc rp =
+        let a = part-of c i lc rc in
+        let b = part-of p i lp rp in
         (λ j. sameSlices (rowsOf h) (a .told j) (b .told j))
         ∙ same-is (a .part) (b .part) (a .within) (b .within)
         ∙ (λ j. same (a .first j) (b .first j))
-        ∙ ap (λ (k : ℕ). same (take k (at c)) (take k (at p))) e
+
+    pub agree-beyond : (i : ℕ) → length (at c) < i → agreeIn h c p i ≡ false
+    unfolding agreeIn
+    agree-beyond i l =
+        ⊎-elim (λ b. ap (λ (y : Slice). sameSlices (rowsOf h) y (sliceOf (rowsOf h) p i)) (b .0) ∙ none-first (sliceOf (rowsOf h) p i))
+        (λ b. absurd (let z = b .reaches in omega arith)) (slice-is c i lc)
+      where
+        none-first : (y : Slice) → sameSlices (rowsOf h) Slice.Beyond y ≡ false
+        none-first (Slice.Prefix q) = refl
+        none-first Slice.Beyond = refl
+
+    pub agree-means : agreeIn h c p (endIn h c p) ≡ agree (at c) (at p)
+    unfolding agree
+    agree-means =
+        let e = end-means in
+        agree-at (endIn h c p) (omega arith) (omega arith) ∙ ap (λ (k : ℕ). same (take k (at c)) (take k (at p))) e
 
     -- an end is an index
     pub end-limit : endIn h c p ≤ 256
@@ -202,10 +218,10 @@ module _ (h : Bytes) (x : History) (s : Stands h x) where
 
   -- the findings and their count
   pub noted-written : (t : Bytes) (m : ℕ) (fs : List Finding) → length t ≡ 1024 → m ≤ 128 → findingRows t m ≡ fs → every findingRight fs ≡ true
-      → Stands (findingsSet h t m) (withNoted x fs)
-  unfolding findingsSet
+      → Stands (findingsKept h t m) (withNoted x fs)
+  unfolding findingsKept
   noted-written t m fs lt lm e r =
-      subst (λ (gs : List Finding). Stands (findingsSet h t m) (withNoted x gs)) e
+      subst (λ (gs : List Finding). Stands (findingsKept h t m) (withNoted x gs)) e
       (findings-taken h x s t m lt lm (ap (every findingRight) e ∙ r))
 
   findings-right : every findingRight (x .findings) ≡ true

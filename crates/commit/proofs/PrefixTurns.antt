@@ -20,8 +20,10 @@ use Rattle.logical_log.specs.Comparison.{sameFrom}
 use Rattle.logical_log.specs.Violation.{noteHeld, noteBytes}
 use Rattle.logical_log.specs.declared.prefix.Slice.{Slice}
 use Rattle.logical_log.proofs.TableLaws.{whole-table, slice-within}
+use Rattle.logical_log.proofs.Whole.{kept-length}
 use Rattle.logical_log.proofs.ViolationLaws.{note-length}
-use Rattle.commit.specs.Prefix.{rowsOf, keptOf, nodeOf, seenOf, longerIn, endIn, sameSlices, agreeIn, flagsOf, unseenSet, keepBytes, findingsSet, difference, heldWith, tableWith, noteAnswer, noteLeaves, insertAnswer, insertLeaves, keptAnswer, keptLeaves, seenAnswer, seenLeaves, commitAnswer, commitBytes, Noted, Inserted, Observed}
+use Rattle.logical_log.specs.Observation.{findingsKept}
+use Rattle.commit.specs.Prefix.{rowsOf, keptOf, nodeOf, seenOf, longerIn, endIn, sameSlices, agreeIn, flagsOf, unseenSet, keepBytes, difference, heldWith, tableWith, noteAnswer, noteLeaves, insertAnswer, insertLeaves, keptAnswer, keptLeaves, seenAnswer, seenLeaves, commitAnswer, commitBytes, Noted, Inserted, Observed}
 use Rattle.commit.specs.declared.prefix.Kept.{Kept}
 use Rattle.commit.specs.declared.prefix.CommitAnswer.{CommitAnswer}
 use Rattle.storage.proofs.WellFormed.{Formed}
@@ -115,15 +117,11 @@ unfolding keepBytes committedSet
 keep-length h n p =
     put-length (putBytes (unseenSet h n 0) 4 (wordBytes 2 p)) 8 (wordBytes 1 n) ∙ put-length (unseenSet h n 0) 4 (wordBytes 2 p) ∙ unseen-length h n 0
 
-pub findings-length : (h t : Bytes) (m : ℕ) → length (findingsSet h t m) ≡ length h
-unfolding findingsSet
-findings-length h t m = put-length _ 7 (wordBytes 1 m) ∙ put-length h 2121 t
-
 pub note-leaves-length : (h : Bytes) (n i : ℕ) → length (noteLeaves h n i) ≡ length h
 unfolding noteLeaves
 note-leaves-length h n i =
     cond-cases (λ (u : Bytes). length u ≡ length h) (ltb 128 (heldWith h n i)) h _ (λ _. refl)
-    (λ _. unseen-length (findingsSet h (tableWith h n i) (heldWith h n i)) n 0 ∙ findings-length h (tableWith h n i) (heldWith h n i))
+    (λ _. unseen-length (findingsKept h (tableWith h n i) (heldWith h n i)) n 0 ∙ kept-length h (tableWith h n i) (heldWith h n i))
 
 pub insert-leaves-length : (h : Bytes) (n c p : ℕ) → length (insertLeaves h n c p) ≡ length h
 unfolding insertLeaves
@@ -156,14 +154,14 @@ module _ (h : Bytes) (n i : ℕ) (q : Bytes) (eq : q ≡ findingsPart h) (size :
       let f : ltb 128 (heldWith h n i) ≡ true = ap (ltb 128) (sym held-is) ∙ lt-ltb 128 m l in
       record { answers = sym (cond-true (ltb 128 (heldWith h n i)) _ _ f); leaves = sym (cond-true (ltb 128 (heldWith h n i)) h _ f) }
 
-  pub note-so : m ≤ 128 → (v : Bytes) → v ≡ findingsSet h u m → (w : Bytes) → w ≡ unseenSet v n 0 → Noted h n i (CommitAnswer.Accepted 0) w
+  pub note-so : m ≤ 128 → (v : Bytes) → v ≡ findingsKept h u m → (w : Bytes) → w ≡ unseenSet v n 0 → Noted h n i (CommitAnswer.Accepted 0) w
   unfolding noteAnswer noteLeaves
   note-so l v ev w ew =
       let f : ltb 128 (heldWith h n i) ≡ false = ap (ltb 128) (sym held-is) ∙ le-ltb 128 m l in
       record {
         answers = sym (cond-false (ltb 128 (heldWith h n i)) _ _ f);
         leaves =
-            ew ∙ ap (λ (y : Bytes). unseenSet y n 0) (ev ∙ (λ y. findingsSet h (noted-is y) (held-is y)))
+            ew ∙ ap (λ (y : Bytes). unseenSet y n 0) (ev ∙ (λ y. findingsKept h (noted-is y) (held-is y)))
             ∙ sym (cond-false (ltb 128 (heldWith h n i)) h _ f);
       }
 

@@ -8,9 +8,10 @@ use Rattle.model.specs.Sizes.{Bytes}
 use Rattle.model.specs.Refusal.{findingsFull}
 use Rattle.model.specs.Answer.{Answer, accepted, refused}
 use Rattle.model.specs.History.{Finding}
-use Rattle.storage.specs.Words.{wordAt, wordBytes, putBytes}
+use Rattle.storage.specs.Words.{wordAt, putBytes}
 use Rattle.storage.specs.Tables.{PrefixRow, NodeRow, nodeRow, prefixRow, nodesPart, findingsPart, prefixesPart}
 use Rattle.storage.specs.Writes.{nodeBytes, committedSet}
+use Rattle.logical_log.specs.Observation.{findingsKept}
 use Rattle.logical_log.specs.Prefix.{indexOf, sliceOf}
 use Rattle.logical_log.specs.Comparison.{sameFrom}
 use Rattle.logical_log.specs.Violation.{noteHeld, noteBytes}
@@ -70,11 +71,6 @@ unfoldable pub keepBytes : Bytes → ℕ → ℕ → Bytes
 unfolding unseenSet committedSet
 keepBytes h n p = committedSet (unseenSet h n 0) p n
 
--- the table of findings, and how many it holds
-unfoldable pub findingsSet : Bytes → Bytes → ℕ → Bytes
-unfolding putBytes
-findingsSet h t m = putBytes (putBytes h 2121 t) 7 (wordBytes 1 m)
-
 -- LG-04 (node, shorter end)
 abbrev pub difference : ℕ → ℕ → Finding
 difference n i = record { name = 4; node = n; index = i; term = 0 }
@@ -94,9 +90,9 @@ unfolding heldWith
 noteAnswer h n i = cond (ltb 128 (heldWith h n i)) CommitAnswer.FindingsFull (CommitAnswer.Accepted 0)
 
 unfoldable pub noteLeaves : Bytes → ℕ → ℕ → Bytes
-unfolding heldWith tableWith findingsSet unseenSet
+unfolding heldWith tableWith findingsKept unseenSet
 noteLeaves h n i =
-    cond (ltb 128 (heldWith h n i)) h (unseenSet (findingsSet h (tableWith h n i) (heldWith h n i)) n 0)
+    cond (ltb 128 (heldWith h n i)) h (unseenSet (findingsKept h (tableWith h n i) (heldWith h n i)) n 0)
 
 -- the prefix p held against the committed one, c
 unfoldable pub insertAnswer : Bytes → ℕ → ℕ → ℕ → CommitAnswer

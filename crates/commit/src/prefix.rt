@@ -6,8 +6,9 @@ ghost use Prim.Native.Nat.{_≤_, _<_};
 ghost use lib.ListN.{length};
 ghost use Rattle.storage.specs.Words.{wordAt};
 ghost use Rattle.storage.specs.Rules.{wellFormed};
-ghost use Rattle.commit.specs.Prefix.{keptOf, seenOf, unseenSet, endIn, longerIn, agreeIn, flagsOf, keepBytes, findingsSet, Noted, Inserted, Observed};
+ghost use Rattle.commit.specs.Prefix.{keptOf, seenOf, unseenSet, endIn, longerIn, agreeIn, flagsOf, keepBytes, Noted, Inserted, Observed};
 use logical_log::comparison::same_prefix;
+use logical_log::observation::keep_findings;
 use logical_log::prefix::Slice;
 use logical_log::prefix::slice_through;
 use logical_log::violation::note;
@@ -17,7 +18,6 @@ use storage::head::finding_count;
 use storage::head::owner_number;
 use storage::head::prefix_count;
 use storage::head::set_committed;
-use storage::head::set_finding_count;
 use storage::layout::FINDINGS_LENGTH;
 use storage::layout::FINDINGS_START;
 use storage::layout::NODES_LENGTH;
@@ -115,7 +115,7 @@ fn is_longer(history: &[u8], a: usize, b: usize) -> bool
 }
 
 // Two prefixes are the same through the index, which both reach.
-fn agree_through(history: &[u8], a: usize, b: usize, through: LogIndex) -> bool
+pub fn agree_through(history: &[u8], a: usize, b: usize, through: LogIndex) -> bool
     requires { ⌜ (wellFormed (now history) ≡ true) × (a ≤ wordAt (now history) 0 2) × (b ≤ wordAt (now history) 0 2) ⌝ }
     ensures { λ r. ⌜ r ≡ agreeIn (now (history .entry)) a b (through .0) ⌝ }
 {
@@ -146,15 +146,6 @@ fn keep(history: &mut [u8], node: NodeId, p: usize)
     set_committed(&mut history[..], p, node);
 }
 
-// The table of findings and how many it holds.
-fn set_findings(history: &mut [u8], findings: &[u8], n: usize)
-    requires { ⌜ (length (now findings) ≡ 1024) × (length (now history) ≡ 24137) ⌝ }
-    ensures { λ r. ⌜ now (history .exit) ≡ findingsSet (now (history .entry)) (now (findings .entry)) n ⌝ }
-{
-    put_bytes(&mut history[..], FINDINGS_START, findings);
-    set_finding_count(&mut history[..], n);
-}
-
 // A difference adds LG-04 and changes nothing else.
 fn note_difference(history: &mut [u8], node: NodeId, through: LogIndex) -> CommitAnswer
     requires { ⌜ (wellFormed (now history) ≡ true) × (node .0 < 64) ⌝ }
@@ -180,7 +171,7 @@ fn note_difference(history: &mut [u8], node: NodeId, through: LogIndex) -> Commi
     if FINDING_LIMIT < n {
         return CommitAnswer::FindingsFull;
     }
-    set_findings(&mut history[..], &findings, n);
+    keep_findings(&mut history[..], &findings, n);
     set_unseen(&mut history[..], node, LogIndex::ZERO);
     CommitAnswer::Accepted(0)
 }

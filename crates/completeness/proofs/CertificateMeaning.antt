@@ -3,7 +3,7 @@
 -- Assumes nothing.
 use Prim.Native.Nat.{ℕ, zero, suc, _<_, _≤_, min}
 use native.Mathlib.Omega.{arith}
-use mathlib.Core.Path.{_≡_, refl, sym, _∙_, ap, subst}
+use mathlib.Core.Path.{_≡_, refl, sym, _∙_, ap}
 use mathlib.Core.Bool.{Bool, true, false, cond, not, _&&_, _||_}
 use mathlib.Core.Logic.{⊎-elim}
 use mathlib.Core.List.{List, [], _∷_, _++_, map, List·Memᴰ, List·Memᴰ·head, List·Memᴰ·tail}
@@ -11,25 +11,22 @@ use mathlib.Core.Option.{none, some}
 use lib.Dec.{ltb, eqb}
 use lib.ListN.{length, take, length-take}
 use lib.Seq.{length-take-le}
-use borrow.Author.Tests.{ne-eqb, lt-ltb}
+use borrow.Author.Tests.{ne-eqb, lt-ltb, ltb-true, ltb-false}
 use Rattle.model.specs.Sizes.{Bytes}
 use Rattle.model.specs.Entry.{Prefix, same, begins}
 use Rattle.model.specs.History.{History}
 use Rattle.model.specs.Check.{lastBelow, relevant, lacks, lacking, lackings, someRelevant}
-use Rattle.model.proofs.Tests.{no-begins}
+use Rattle.model.proofs.Tests.{either, no-begins}
 use Rattle.storage.specs.Words.{wordAt}
-use Rattle.storage.specs.Tables.{PrefixRow, CertificateRow, prefixRow, prefixesPart, termRow, termsPart}
-use Rattle.storage.specs.Decode.{prefixAt, certificateIn, resolve}
+use Rattle.storage.specs.Tables.{CertificateRow, termRow, termsPart}
+use Rattle.storage.specs.Decode.{prefixAt, certificateIn}
 use Rattle.storage.proofs.Meanings.{Stands, committed-stored, terms-stored}
-use Rattle.logical_log.specs.Prefix.{sliceOf}
-use Rattle.logical_log.specs.declared.prefix.Slice.{Slice}
-use Rattle.logical_log.proofs.ComparisonLaws.{same-prefix}
-use Rattle.logical_log.proofs.SliceLaws.{slice-cases}
+use Rattle.commit.specs.Prefix.{agreeIn}
+use Rattle.commit.proofs.PrefixLaws.{agree-at, agree-beyond}
 use Rattle.completeness.specs.Relevance.{lastRelevant, committedEnd, recordedEnd, relevantIn}
-use Rattle.completeness.specs.Judgement.{sameSlice, hasThrough, lacksThrough, lackingOf, lackingAt, lackingIn, flagIn, lackingsIn, flagsIn}
+use Rattle.completeness.specs.Judgement.{lacksThrough, lackingOf, lackingAt, lackingIn, flagIn, lackingsIn, flagsIn}
 use Rattle.completeness.proofs.RelevanceLaws.{last-below, at-most}
-use Rattle.completeness.proofs.JudgementLaws.{shorter-differs, both-there}
-use Rattle.completeness.proofs.Read.{right, rows, rows-count, rows-facts, rows-here, resolved, end-is}
+use Rattle.completeness.proofs.Read.{right, end-is}
 
 -- ---- tests
 
@@ -70,16 +67,6 @@ either-flag r b c = by (eqb r 0) b ∙ ap (λ (t : Bool). b || (t || c)) (positi
     by false false = refl
 
 module _ (h : Bytes) (x : History) (s : Stands h x) where
-  abbrev row : ℕ → PrefixRow
-  row = prefixRow (prefixesPart h)
-
-  -- a number's prefix
-  prefix-is : (p : ℕ) → prefixAt (resolve (rows h x s)) p ≡ prefixAt (x .prefixes) p
-  prefix-is p = ap (λ (ps : List Prefix). prefixAt ps p) (resolved h x s)
-
-  committed-here : prefixAt (resolve (rows h x s)) (wordAt h 4 2) ≡ x .committed
-  committed-here = prefix-is (wordAt h 4 2) ∙ committed-stored h x s
-
   -- ---- the relevant index
 
   pub relevant-means : (c : CertificateRow) → relevantIn h c ≡ relevant (x .committed) (x .terms) (certificateIn (x .prefixes) c)
@@ -100,35 +87,21 @@ module _ (h : Bytes) (x : History) (s : Stands h x) where
   -- ---- the log
 
   module _ (c : CertificateRow) (i : ℕ) (log : c .log ≤ wordAt h 0 2) (within : i ≤ length (x .committed)) where
-    abbrev Compared : Type 0
-    Compared = sameSlice row (sliceOf row (c .log) i) (sliceOf row (wordAt h 4 2) i) ≡ begins (prefixAt (x .prefixes) (c .log)) (take i (x .committed))
-
-    both-slices : (q k : ℕ) → sliceOf row (c .log) i ≡ Slice.Prefix q → q ≤ length (rows h x s)
-        → prefixAt (resolve (rows h x s)) q ≡ take i (prefixAt (resolve (rows h x s)) (c .log))
-        → sliceOf row (wordAt h 4 2) i ≡ Slice.Prefix k → k ≤ length (rows h x s)
-        → prefixAt (resolve (rows h x s)) k ≡ take i (prefixAt (resolve (rows h x s)) (wordAt h 4 2)) → Compared
-    both-slices q k eq lq pq ek lk pk =
-        (λ j. sameSlice row (eq j) (ek j)) ∙ both-there row q k
-        ∙ same-prefix row (rows h x s) (rows-facts h x s) (rows-here h x s) q k lq lk
-        ∙ (λ j. same ((pq ∙ ap (take i) (prefix-is (c .log))) j) ((pk ∙ ap (take i) committed-here) j))
-        ∙ sym (begins-through (prefixAt (x .prefixes) (c .log)) (x .committed) i within)
-
-    compared : Compared
+    compared : agreeIn h (c .log) (wordAt h 4 2) i ≡ begins (prefixAt (x .prefixes) (c .log)) (take i (x .committed))
     compared =
-        ⊎-elim (λ a. absurd (let z = a .1 in let w = ap length committed-here in omega arith))
-        (λ a.
+        let l = right h x s .committed in
+        let e = committed-stored h x s in
         ⊎-elim
-        (λ b.
-        ap (λ (y : Slice). sameSlice row y (sliceOf row (wordAt h 4 2) i)) (b .0) ∙ shorter-differs row (sliceOf row (wordAt h 4 2) i)
-        ∙ sym (begins-shorter (prefixAt (x .prefixes) (c .log)) (x .committed) i within
-        (subst (λ (p : Prefix). length p < i) (prefix-is (c .log)) (b .1))))
-        (λ b. both-slices (b .0) (a .0) (b .1) (b .3) (b .4) (a .1) (a .3) (a .4))
-        (slice-cases row (rows h x s) (rows-facts h x s) (rows-here h x s) (c .log) i (let z = rows-count h x s in omega arith)))
-        (slice-cases row (rows h x s) (rows-facts h x s) (rows-here h x s) (wordAt h 4 2) i
-        (let z = rows-count h x s in let y = right h x s .committed in omega arith))
+        (λ b. let z = ltb-true _ i b in
+        agree-beyond h x s (c .log) (wordAt h 4 2) log l i z ∙ sym (begins-shorter (prefixAt (x .prefixes) (c .log)) (x .committed) i within z))
+        (λ b. let z = ltb-false _ i b in
+        agree-at h x s (c .log) (wordAt h 4 2) log l i z (let n = ap length e in omega arith)
+        ∙ ap (λ (p : Prefix). same (take i (prefixAt (x .prefixes) (c .log))) (take i p)) e
+        ∙ sym (begins-through (prefixAt (x .prefixes) (c .log)) (x .committed) i within))
+        (either (ltb (length (prefixAt (x .prefixes) (c .log))) i))
 
     pub lacks-means : lacksThrough h c i ≡ lacks (certificateIn (x .prefixes) c .log) (take i (x .committed))
-    unfolding lacksThrough hasThrough
+    unfolding lacksThrough
     lacks-means =
         ap (λ (b : Bool). cond (eqb (c .present) 0) true (not b)) compared
         ∙ sym (lacks-log (eqb (c .present) 0) (prefixAt (x .prefixes) (c .log)) (take i (x .committed)))

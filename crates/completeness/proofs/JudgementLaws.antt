@@ -2,7 +2,7 @@
 -- Assumes nothing.
 use Prim.Native.Nat.{ℕ, _+_, _-_, _<_, _≤_}
 use native.Mathlib.Omega.{arith}
-use mathlib.Core.Path.{_≡_, refl, sym, _∙_, ap, subst}
+use mathlib.Core.Path.{_≡_, sym, _∙_, ap, subst}
 use mathlib.Core.Bool.{Bool, true, false, not}
 use mathlib.Core.List.{List, [], _∷_}
 use lib.Dec.{eqb}
@@ -12,18 +12,15 @@ use Rattle.model.specs.Sizes.{Bytes}
 use Rattle.model.proofs.Tests.{cond-true, cond-false}
 use Rattle.storage.specs.Lists.{tabulate}
 use Rattle.storage.specs.Words.{wordAt}
-use Rattle.storage.specs.Tables.{PrefixRow, CertificateRow, prefixRow, prefixesPart, certificateRow, certificatesPart}
+use Rattle.storage.specs.Tables.{CertificateRow, certificateRow, certificatesPart}
 use Rattle.storage.proofs.ListLaws.{tabulate-cons, tabulate-none}
-use Rattle.logical_log.specs.Prefix.{sliceOf}
-use Rattle.logical_log.specs.Comparison.{sameFrom}
 use Rattle.logical_log.specs.Violation.{noteHeld, noteBytes, heldAll, bytesAll}
-use Rattle.logical_log.specs.declared.prefix.Slice.{Slice}
-use Rattle.logical_log.specs.declared.prefix.Slice.the-variants.{Prefix, Beyond}
 use Rattle.logical_log.proofs.ViolationLaws.{all-length}
 use Rattle.storage.proofs.WellFormed.{Formed}
 use Rattle.logical_log.proofs.Turns.{held-append, bytes-append, held-few}
 use Rattle.completeness.specs.Relevance.{relevantIn}
-use Rattle.completeness.specs.Judgement.{sameSlice, hasThrough, lacksThrough, lackingOf, lackingAt, lackingIn, flagIn, NotedAs, JudgedAs, lackingsIn, flagsIn, certificatesOf, JudgedAll}
+use Rattle.commit.specs.Prefix.{agreeIn}
+use Rattle.completeness.specs.Judgement.{lacksThrough, lackingOf, lackingAt, lackingIn, flagIn, NotedAs, JudgedAs, lackingsIn, flagsIn, certificatesOf, JudgedAll}
 
 -- a certificate as it is read, and its log, which is stored
 pub row-here : (h p : Bytes) (k : ℕ) (c : CertificateRow) → p ≡ certificatesPart h → c ≡ certificateRow p k → c ≡ certificateRow (certificatesPart h) k
@@ -35,60 +32,14 @@ row-stored h p k s l c a e = subst (λ (x : CertificateRow). x .log ≤ wordAt h
 
 -- ---- whether the log lacks the committed prefix
 
-beyond-differs : (row : ℕ → PrefixRow) (x : Slice) → sameSlice row x Beyond ≡ false
-unfolding sameSlice
-beyond-differs row (Prefix q) = refl
-beyond-differs row Beyond = refl
-
-pub shorter-differs : (row : ℕ → PrefixRow) (y : Slice) → sameSlice row Beyond y ≡ false
-unfolding sameSlice
-shorter-differs row (Prefix p) = refl
-shorter-differs row Beyond = refl
-
-pub both-there : (row : ℕ → PrefixRow) (q p : ℕ) → sameSlice row (Prefix q) (Prefix p) ≡ sameFrom row q q p
-unfolding sameSlice
-both-there row q p = refl
-
-module _ (h : Bytes) (log i : ℕ) (p : Bytes) (e : p ≡ prefixesPart h) (w : ℕ) (ew : w ≡ wordAt h 4 2) (y : Slice)
-    (ey : y ≡ sliceOf (prefixRow p) w i) where
-  committed-slice : y ≡ sliceOf (prefixRow (prefixesPart h)) (wordAt h 4 2) i
-  committed-slice = ey ∙ (λ j. sliceOf (prefixRow (e j)) (ew j) i)
-
-  -- by the two slices
-  has-by : (x : Slice) → x ≡ sliceOf (prefixRow (prefixesPart h)) log i → sameSlice (prefixRow (prefixesPart h)) x y ≡ hasThrough h log i
-  unfolding hasThrough
-  has-by x ex = λ j. sameSlice (prefixRow (prefixesPart h)) (ex j) (committed-slice j)
-
-  pub has-beyond : y ≡ Slice.Beyond → false ≡ hasThrough h log i
-  has-beyond b =
-      sym (ap (sameSlice (prefixRow (prefixesPart h)) x) b ∙ beyond-differs (prefixRow (prefixesPart h)) x) ∙ has-by x refl
-    where
-      x : Slice
-      x = sliceOf (prefixRow (prefixesPart h)) log i
-
-  module _ (x : Slice) (ex : x ≡ sliceOf (prefixRow p) log i) where
-    log-slice : x ≡ sliceOf (prefixRow (prefixesPart h)) log i
-    log-slice = ex ∙ (λ j. sliceOf (prefixRow (e j)) log i)
-
-    pub has-shorter : x ≡ Slice.Beyond → false ≡ hasThrough h log i
-    has-shorter b =
-        sym (ap (λ (z : Slice). sameSlice (prefixRow (prefixesPart h)) z y) b ∙ shorter-differs (prefixRow (prefixesPart h)) y)
-        ∙ has-by x log-slice
-
-    pub has-same : (q k : ℕ) → x ≡ Slice.Prefix q → y ≡ Slice.Prefix k → (b : Bool) → b ≡ sameFrom (prefixRow p) q q k → b ≡ hasThrough h log i
-    has-same q k fx fy b eb =
-        eb ∙ (λ j. sameFrom (prefixRow (e j)) q q k) ∙ sym (both-there (prefixRow (prefixesPart h)) q k)
-        ∙ (λ j. sameSlice (prefixRow (prefixesPart h)) (sym fx j) (sym fy j))
-        ∙ has-by x log-slice
-
 module _ (h : Bytes) (c : CertificateRow) (i : ℕ) where
   pub lacks-absent : c .present ≡ 0 → true ≡ lacksThrough h c i
   unfolding lacksThrough
   lacks-absent e = sym (cond-true (eqb (c .present) 0) true _ (eq-eqb (c .present) 0 e))
 
-  pub lacks-there : (c .present ≡ 0 → ⊥) → (b : Bool) → b ≡ hasThrough h (c .log) i → not b ≡ lacksThrough h c i
+  pub lacks-there : (c .present ≡ 0 → ⊥) → (n : ℕ) → n ≡ wordAt h 4 2 → (b : Bool) → b ≡ agreeIn h (c .log) n i → not b ≡ lacksThrough h c i
   unfolding lacksThrough
-  lacks-there n b e = ap not e ∙ sym (cond-false (eqb (c .present) 0) true _ (ne-eqb (c .present) 0 n))
+  lacks-there z n en b e = ap not (e ∙ ap (λ (k : ℕ). agreeIn h (c .log) k i) en) ∙ sym (cond-false (eqb (c .present) 0) true _ (ne-eqb (c .present) 0 z))
 
 -- ---- one certificate
 

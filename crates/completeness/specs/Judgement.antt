@@ -9,36 +9,18 @@ use lib.ListN.{length}
 use Rattle.model.specs.Sizes.{Bytes}
 use Rattle.model.specs.History.{Finding}
 use Rattle.storage.specs.Words.{wordAt}
-use Rattle.storage.specs.Tables.{PrefixRow, CertificateRow, prefixRow, prefixesPart, certificateRows, certificatesPart}
+use Rattle.storage.specs.Tables.{CertificateRow, certificateRows, certificatesPart}
 use Rattle.storage.specs.Rules.{wellFormed}
-use Rattle.logical_log.specs.Prefix.{sliceOf}
-use Rattle.logical_log.specs.Comparison.{sameFrom}
+use Rattle.commit.specs.Prefix.{agreeIn}
 use Rattle.logical_log.specs.Violation.{heldAll, bytesAll}
-use Rattle.logical_log.specs.declared.prefix.Slice.{Slice}
-use Rattle.logical_log.specs.declared.prefix.Slice.the-variants.{Prefix, Beyond}
 use Rattle.completeness.specs.Relevance.{relevantIn}
 
 -- ---- one certificate
 
--- two slices that are there and are the same prefix
-unfoldable pub sameSlice : (ℕ → PrefixRow) → Slice → Slice → Bool
-unfolding sameFrom
-sameSlice row (Prefix q) (Prefix p) = sameFrom row q q p
-sameSlice row (Prefix q) Beyond = false
-sameSlice row Beyond (Prefix p) = false
-sameSlice row Beyond Beyond = false
-
--- the stored prefix of that number has the committed prefix through index i
-unfoldable pub hasThrough : Bytes → ℕ → ℕ → Bool
-unfolding sameSlice sliceOf wordAt
-hasThrough h log i =
-    let row = prefixRow (prefixesPart h) in
-    sameSlice row (sliceOf row log i) (sliceOf row (wordAt h 4 2) i)
-
 -- "a log that is absent, shorter or different" through index i
 unfoldable pub lacksThrough : Bytes → CertificateRow → ℕ → Bool
-unfolding hasThrough
-lacksThrough h c i = cond (eqb (c .present) 0) true (not (hasThrough h (c .log) i))
+unfolding agreeIn wordAt
+lacksThrough h c i = cond (eqb (c .present) 0) true (not (agreeIn h (c .log) (wordAt h 4 2) i))
 
 -- LG-05 (leader, index, term)
 abbrev pub lackingOf : CertificateRow → ℕ → Finding

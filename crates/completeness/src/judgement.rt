@@ -6,22 +6,17 @@ ghost use mathlib.Core.Bool.{true};
 ghost use Rattle.storage.specs.Words.{wordAt};
 ghost use Rattle.storage.specs.Rules.{wellFormed};
 ghost use Rattle.storage.specs.Values.{certificateValue};
-ghost use Rattle.completeness.specs.Judgement.{hasThrough, lacksThrough, Noting, NotedAs, Judging, JudgedAs, JudgedAll};
+ghost use Rattle.completeness.specs.Judgement.{lacksThrough, Noting, NotedAs, Judging, JudgedAs, JudgedAll};
 use crate::relevance::relevant_index;
-use logical_log::comparison::same_prefix;
-use logical_log::prefix::Slice;
-use logical_log::prefix::slice_through;
+use commit::prefix::agree_through;
 use logical_log::violation::note;
 use storage::certificates::Certificate;
 use storage::certificates::certificate_at;
 use storage::findings::Found;
 use storage::head::certificate_count;
 use storage::head::committed_number;
-use storage::head::prefix_count;
 use storage::layout::CERTIFICATES_LENGTH;
 use storage::layout::CERTIFICATES_START;
-use storage::layout::PREFIXES_LENGTH;
-use storage::layout::PREFIXES_START;
 use storage::layout::part;
 use units::LogIndex;
 
@@ -29,23 +24,6 @@ use units::LogIndex;
 pub struct Judged {
     pub relevant: bool,
     pub held: usize,
-}
-
-// The stored prefix of that number has the committed prefix through the index: it is no shorter, and the same.
-fn has_through(history: &[u8], log: usize, through: LogIndex) -> bool
-    requires { ⌜ (wellFormed (now history) ≡ true) × (log ≤ wordAt (now history) 0 2) ⌝ }
-    ensures { λ r. ⌜ r ≡ hasThrough (now (history .entry)) log (through .0) ⌝ }
-{
-    let count = prefix_count(history);
-    let prefixes = part(history, PREFIXES_START, PREFIXES_LENGTH);
-    let committed = committed_number(history);
-    let Slice::Prefix(p) = slice_through(prefixes, count, committed, through) else {
-        return false;
-    };
-    let Slice::Prefix(q) = slice_through(prefixes, count, log, through) else {
-        return false;
-    };
-    same_prefix(prefixes, count, q, p)
 }
 
 // The certificate's log is absent, or shorter than the committed prefix through the index, or different.
@@ -56,7 +34,9 @@ fn lacks_through(history: &[u8], c: Certificate, through: LogIndex) -> bool
     if c.present == 0 {
         return true;
     }
-    !has_through(history, c.log, through)
+    let log = c.log;
+    let committed = committed_number(history);
+    !agree_through(history, log, committed, through)
 }
 
 // LG-05 is noted where the log lacks the committed prefix through the index.

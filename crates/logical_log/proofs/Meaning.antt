@@ -27,14 +27,13 @@ use Rattle.records.proofs.Walks.{entries-none, entries-next, next-walk, walk-en
 use Rattle.storage.specs.Lists.{every}
 use Rattle.storage.specs.Words.{wordAt}
 use Rattle.storage.specs.Tables.{PrefixRow, NodeRow, prefixRow, prefixesPart, nodeRow, nodesPart, findingRow, findingRows, findingsPart, tablesIn, tablesOf}
-use Rattle.storage.specs.Decode.{prefixAt, resolve}
+use Rattle.storage.specs.Decode.{prefixAt}
 use Rattle.storage.specs.Rules.{nodeRight, findingRight}
 use Rattle.storage.proofs.ListLaws.{tabulate-length, tabulate-at, every-at}
-use Rattle.storage.proofs.PartLaws.{word-part}
 use Rattle.storage.proofs.DecodeLaws.{NodeNamed, node-named, finding-test}
 use Rattle.storage.proofs.RowFacts.{resolve-count}
 use Rattle.storage.proofs.WellFormed.{rows-count, formed}
-use Rattle.storage.proofs.Meanings.{Stands, withPrefixes, withFront, withNoted, prefixes-is, kept, is, unseen-read, node-written, findings-taken}
+use Rattle.storage.proofs.Meanings.{Stands, withPrefixes, withFront, withNoted, prefixes-is, findings-stored, kept, is, unseen-read, node-written, findings-taken}
 use Rattle.storage.proofs.Answered.{Means, accepts, refuses}
 use Rattle.logical_log.specs.Observation.{nextNumber, counted, missingFrom, noteOf, notesFrom, other, writtenBytes, writtenCount, writtenNumber, viewReplaced, findingsKept, viewWritten, missingIn, notesIn, heldIn, tableIn, observed, observedBytes}
 use Rattle.logical_log.specs.Violation.{heldAll, bytesAll}
@@ -147,12 +146,6 @@ module _ (limit : ℕ) (h : Bytes) (x : History) (s : Bytes) (m node : ℕ) (st 
   sound : Sound 1 F
   sound = front-sound m s firstEntry 1 w
 
-  count : length (tablesOf h .rows) ≡ wordAt h 0 2
-  count = rows-count h
-
-  same-prefixes : resolve (tablesOf h .rows) ≡ x .prefixes
-  same-prefixes = prefixes-is h x st
-
   -- ---- 6
 
   total : wordAt h 0 2 + missingIn h s m ≡ length (stored (x .prefixes) F)
@@ -160,11 +153,11 @@ module _ (limit : ℕ) (h : Bytes) (x : History) (s : Bytes) (m node : ℕ) (st 
   total =
       let rs = tablesOf h .rows in
       let a = extends-all F rs (rows-good h x st) 0 1 (omega arith) refl (sound-fits F 1 sound) in
-      (λ j. sym count j + missingFrom (prefixRow (prefixesPart h)) (sym count j) 0 0 1 F)
+      (λ j. sym (rows-count h) j + missingFrom (prefixRow (prefixesPart h)) (sym (rows-count h) j) 0 0 1 F)
       ∙ missing-made (prefixRow (prefixesPart h)) rs (rows-by-place h x st) F 0 1
       ∙ sym (resolve-count (extendAll rs 0 1 F))
       ∙ ap length (a .stores)
-      ∙ ap (λ (ps : List Prefix). length (withAll prefixes ps (begunBy F))) same-prefixes
+      ∙ ap (λ (ps : List Prefix). length (withAll prefixes ps (begunBy F))) (prefixes-is h x st)
 
   -- ---- LG-03 and 7
 
@@ -172,17 +165,13 @@ module _ (limit : ℕ) (h : Bytes) (x : History) (s : Bytes) (m node : ℕ) (st 
   unfolding notesIn
   notes =
       let rs = tablesOf h .rows in
-      ap (λ (n : ℕ). notesFrom (prefixRow (prefixesPart h)) n node 0 0 1 F) (sym count)
+      ap (λ (n : ℕ). notesFrom (prefixRow (prefixesPart h)) n node 0 0 1 F) (sym (rows-count h))
       ∙ notes-are (prefixRow (prefixesPart h)) rs (rows-good h x st .known) (rows-by-place h x st) node F [] 0 0 1 refl (inl (refl, omega arith, refl)) (sound-short F 1 sound)
-      ∙ ap (λ (ps : List Prefix). mismatches ps node (begunBy F)) same-prefixes
+      ∙ ap (λ (ps : List Prefix). mismatches ps node (begunBy F)) (prefixes-is h x st)
 
   noted-in : (f : Finding) → List·Memᴰ f (notesIn h s m node) → Noted node f
   unfolding notesIn
   noted-in = notes-noted (prefixRow (prefixesPart h)) (wordAt h 0 2) node F 0 0 1 sound
-
-  held-before : findingRows (findingsPart h) (wordAt h 7 1) ≡ x .findings
-  unfolding tablesIn
-  held-before = ap (findingRows (findingsPart h)) (sym (word-part h 0 9 7 1 (omega arith))) ∙ ap (λ (y : History). y .findings) (is h x st)
 
   holds : Holds (tableIn h s m node) (heldIn h s m node) (viewFindings x node F)
   unfolding tableIn heldIn viewFindings
@@ -191,7 +180,7 @@ module _ (limit : ℕ) (h : Bytes) (x : History) (s : Bytes) (m node : ℕ) (st 
       (all-hold (notesIn h s m node) (findingsPart h) (wordAt h 7 1) (x .findings) (findings-long h (st .right))
       (λ g k. let n = noted-in g k in
       record { name = (let a = n .name in omega arith); node = (let a = n .isNode in omega arith); index = (let a = n .index in omega arith); term = n .term })
-      (inl (formed h (st .right) .findings, held-before)))
+      (inl (formed h (st .right) .findings, findings-stored h x st)))
 
   same-seven : ltb 128 (heldIn h s m node) ≡ ltb 128 (length (viewFindings x node F))
   same-seven =

@@ -7,8 +7,7 @@ use mathlib.Core.Bool.{Bool, true, false, not, _&&_, _||_}
 use mathlib.Core.Logic.{_⊎_, ⊎-elim}
 use mathlib.Core.List.{List, [], _∷_, _++_}
 use lib.Dec.{ltb, eqb}
-use lib.ListN.{length, getD, take, replicate, length-append, length-replicate}
-use lib.Seq.{ext-getD, length-take-le, getD-take}
+use lib.ListN.{length, replicate, length-append, length-replicate}
 use borrow.Author.Tests.{eq-eqb, ne-eqb, ltb-false}
 use Rattle.model.specs.Sizes.{Bytes}
 use Rattle.model.specs.Entry.{Entry}
@@ -20,10 +19,8 @@ use Rattle.records.specs.Values.{Here, shownEntry}
 use Rattle.records.proofs.Widths.{bytes-length}
 use Rattle.records.proofs.Walks.{entries-next, entries-none, next-walk, walk-entered, here, entry-content}
 use Rattle.model.proofs.Tests.{tf, cond-cases, cond-true, cond-false}
-use Rattle.storage.specs.Lists.{tabulate}
-use Rattle.storage.specs.Words.{bytesAt}
 use Rattle.storage.specs.Tables.{PrefixRow, prefixRow}
-use Rattle.storage.proofs.ListLaws.{tabulate-length, tabulate-at}
+use Rattle.storage.proofs.RowLaws.{bytes-take}
 use Rattle.logical_log.specs.Table.{entryValue}
 use Rattle.logical_log.specs.Violation.{notedAt, noteHeld, noteBytes, heldAll, bytesAll}
 use Rattle.logical_log.specs.Prefix.{rowOf, searchFrom, find, isOf, first}
@@ -91,15 +88,6 @@ module _ (row : ℕ → PrefixRow) (n i t k r : ℕ) (e : r ≡ first row n i t)
   other-same z w b q = sym (by-same row r k b (ne-eqb r 0 z) (ne-eqb k 0 w) (sym q)) ∙ at-first
 
 -- ---- an entry as it is read
-
--- the first n bytes of a longer list, by place
-bytes-take : (c : Bytes) (n : ℕ) → n ≤ length c → bytesAt c 0 n ≡ take n c
-unfolding bytesAt
-bytes-take c n h =
-    ext-getD 0 (tabulate (λ i. getD c i 0) 0 n) (take n c) (tabulate-length _ 0 n ∙ sym (length-take-le n c h))
-    (λ i l.
-    let m : i < n = subst (λ (k : ℕ). i < k) (tabulate-length (λ j. getD c j 0) 0 n) l in
-    tabulate-at (λ j. getD c j 0) 0 n i 0 m ∙ ap (λ (j : ℕ). getD c j 0) (let e : 0 + i ≡ i = omega arith in e) ∙ sym (getD-take n c i 0 m))
 
 pub entry-read : (s : Bytes) (k : ℕ) (e : ShownEntry) → e ≡ shownEntry s k → lengthAt s k ≤ 32 → entryValue e ≡ shownAt s k .entry
 entry-read s k e q h =

@@ -172,7 +172,7 @@ finding-back r k x f h =
     }
 
 -- the first bytes of a list, read one by one
-bytes-take : (vs : Bytes) (n : ℕ) → n ≤ length vs → bytesAt vs 0 n ≡ take n vs
+pub bytes-take : (vs : Bytes) (n : ℕ) → n ≤ length vs → bytesAt vs 0 n ≡ take n vs
 unfolding bytesAt
 bytes-take vs n h =
     ext-getD 0 _ _

@@ -1,7 +1,8 @@
 -- `commit::prefix::note_difference` meets its contract.
 -- Assumes nothing.
-use Rattle.commit.proofs.PrefixTurns.{unseen-length, findings-length, note-room, note-full, note-so}
+use Rattle.commit.proofs.PrefixTurns.{unseen-length, note-room, note-full, note-so}
 use Rattle.storage.proofs.WellFormed.{formed}
+use Rattle.logical_log.proofs.Whole.{kept-length}
 use lib.ListN.{length}
 use borrow.Author.Needs.{needs}
 use native.Mathlib.Omega.{arith}
@@ -43,26 +44,26 @@ returns c =
     let s = c .before .before .before .before .before .before .before .before .before .before .before .before in
     note-full (s .args .history .now) (s .args .node .0) (s .args .through .0) _ (c .before .before .before .before .before .before .before .before .part .ensures .is) (c .before .before .before .before .before .before .before .before .part .ensures .long) _ (search needs) _ (c .before .before .before .before .before .before .before .put-bytes .ensures) _ (c .before .before .before .before .finding-count .ensures .is) _ _ (c .before .before .note .ensures) (c .if1 .taken)
 
-slice-aggregate-set-findings : tie.Need-slice-aggregate-set-findings
-slice-aggregate-set-findings c = search needs
+slice-aggregate-keep-findings : tie.Need-slice-aggregate-keep-findings
+slice-aggregate-keep-findings c = search needs
 
-set-findings-requires : tie.Need-set-findings-requires
-set-findings-requires c κs =
+keep-findings-requires : tie.Need-keep-findings-requires
+keep-findings-requires c κs =
     let s = c .before .before .before .before .before .before .before .before .before .before .before .before .before .before in
-    (note-room (s .args .history .now) (s .args .node .0) (s .args .through .0) _ (c .before .before .before .before .before .before .before .before .before .before .part .ensures .is) (c .before .before .before .before .before .before .before .before .before .before .part .ensures .long) _ (search needs) _ (c .before .before .before .before .before .before .before .before .before .put-bytes .ensures) _ (c .before .before .before .before .before .before .finding-count .ensures .is) _ _ (c .before .before .before .before .note .ensures), formed _ (s .pre .0) .long)
+    (formed _ (s .pre .0) .long, note-room (s .args .history .now) (s .args .node .0) (s .args .through .0) _ (c .before .before .before .before .before .before .before .before .before .before .part .ensures .is) (c .before .before .before .before .before .before .before .before .before .before .part .ensures .long) _ (search needs) _ (c .before .before .before .before .before .before .before .before .before .put-bytes .ensures) _ (c .before .before .before .before .before .before .finding-count .ensures .is) _ _ (c .before .before .before .before .note .ensures))
 
 set-unseen-requires : tie.Need-set-unseen-requires
 set-unseen-requires c κs =
     let s = c .before .before .before .before .before .before .before .before .before .before .before .before .before .before .before .before .before .before in
-    (s .pre .1, ap length (c .before .before .before .set-findings .ensures) ∙ findings-length _ _ _ ∙ formed _ (s .pre .0) .long)
+    (s .pre .1, ap length (c .before .before .before .keep-findings .ensures) ∙ kept-length _ _ _ ∙ formed _ (s .pre .0) .long)
 
 same-length-2 : tie.Need-same-length-2
-same-length-2 c = ap length (c .before .before .set-unseen .ensures) ∙ unseen-length _ _ _ ∙ ap length (c .before .before .before .before .before .before .set-findings .ensures) ∙ findings-length _ _ _
+same-length-2 c = ap length (c .before .before .set-unseen .ensures) ∙ unseen-length _ _ _ ∙ ap length (c .before .before .before .before .before .before .keep-findings .ensures) ∙ kept-length _ _ _
 
 returns-2 : tie.Need-returns-2
 returns-2 c =
     let s = c .before .before .before .before .before .before .before .before .before .before .before .before .before .before .before .before .before .before .before .before .before in
-    note-so (s .args .history .now) (s .args .node .0) (s .args .through .0) _ (c .before .before .before .before .before .before .before .before .before .before .before .before .before .before .before .before .before .part .ensures .is) (c .before .before .before .before .before .before .before .before .before .before .before .before .before .before .before .before .before .part .ensures .long) _ (search needs) _ (c .before .before .before .before .before .before .before .before .before .before .before .before .before .before .before .before .put-bytes .ensures) _ (c .before .before .before .before .before .before .before .before .before .before .before .before .before .finding-count .ensures .is) _ _ (c .before .before .before .before .before .before .before .before .before .before .before .note .ensures) (c .before .before .before .before .before .before .before .before .before .if1 .left) _ (c .before .before .before .before .before .before .set-findings .ensures) _ (c .before .before .set-unseen .ensures)
+    note-so (s .args .history .now) (s .args .node .0) (s .args .through .0) _ (c .before .before .before .before .before .before .before .before .before .before .before .before .before .before .before .before .before .part .ensures .is) (c .before .before .before .before .before .before .before .before .before .before .before .before .before .before .before .before .before .part .ensures .long) _ (search needs) _ (c .before .before .before .before .before .before .before .before .before .before .before .before .before .before .before .before .put-bytes .ensures) _ (c .before .before .before .before .before .before .before .before .before .before .before .before .before .finding-count .ensures .is) _ _ (c .before .before .before .before .before .before .before .before .before .before .before .note .ensures) (c .before .before .before .before .before .before .before .before .before .if1 .left) _ (c .before .before .before .before .before .before .keep-findings .ensures) _ (c .before .before .set-unseen .ensures)
 
 pub note-difference-spec : {M : Type 1} → statement M
 note-difference-spec =
@@ -76,8 +77,8 @@ note-difference-spec =
     note-requires
     same-length
     returns
-    slice-aggregate-set-findings
-    set-findings-requires
+    slice-aggregate-keep-findings
+    keep-findings-requires
     set-unseen-requires
     same-length-2
     returns-2)
