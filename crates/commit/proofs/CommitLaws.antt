@@ -5,7 +5,7 @@ use native.Mathlib.Omega.{arith}
 use mathlib.Core.Path.{_≡_, refl, sym, _∙_, ap, subst, subst₂}
 use mathlib.Core.Bool.{Bool, true, false, cond}
 use mathlib.Core.Logic.{_⊎_, inl, inr, ⊎-elim}
-use mathlib.Core.List.{List, [], _∷_}
+use mathlib.Core.List.{List, [], _∷_, List·Memᴰ·eq-of-singleton}
 use mathlib.Core.Option.{none, some}
 use lib.Dec.{leb, ltb, eqb}
 use lib.ListN.{length, take}
@@ -20,7 +20,8 @@ use Rattle.storage.specs.Words.{wordAt}
 use Rattle.storage.specs.Tables.{findingRow}
 use Rattle.storage.proofs.ListLaws.{tabulate-length}
 use Rattle.storage.proofs.RuleLaws.{pass, stop}
-use Rattle.storage.proofs.Meanings.{Stands, withNoted}
+use Rattle.storage.proofs.DecodeLaws.{FindingNamed}
+use Rattle.storage.proofs.Meanings.{Stands, withNoted, findings-right, noted-right}
 use Rattle.logical_log.specs.declared.prefix.Slice.{Slice}
 use Rattle.logical_log.specs.Prefix.{sliceOf}
 use Rattle.logical_log.specs.Observation.{findingsKept}
@@ -29,7 +30,7 @@ use Rattle.commit.specs.declared.prefix.Kept.{Kept}
 use Rattle.commit.specs.declared.prefix.CommitAnswer.{CommitAnswer}
 use Rattle.storage.proofs.WellFormed.{formed}
 use Rattle.commit.proofs.PrefixTurns.{insert-differs, insert-longer, insert-shorter, observe-unseen, observe-zero, observe-first, observe-later}
-use Rattle.commit.proofs.PrefixLaws.{changed, at, committed-is, owner-is, front-is, findings-held, empty-is, Part, slice-is, longer-means, end-means, agree-means, end-limit, unseen-written, noted-written, noted-right, difference-holds, table-length, keep-written}
+use Rattle.commit.proofs.PrefixLaws.{changed, at, committed-is, owner-is, front-is, findings-held, empty-is, Part, slice-is, longer-means, end-means, agree-means, end-limit, unseen-written, noted-written, difference-holds, table-length, keep-written}
 
 -- ---- of the model alone
 
@@ -238,7 +239,8 @@ module _ (x : History) (n i : ℕ) where
               let counted = tabulate-length (findingRow t) 0 (heldWith h n k) in
               room-left (y .0)
               (noted-written h x s t (heldWith h n k) fs (table-length h x s n k) (y .0) (y .1)
-              (noted-right h x s (difference n k) (record { low = omega arith; high = omega arith; node = omega arith; index = top })))
+              (noted-right (difference n k ∷ []) (x .findings) (findings-right h x s)
+              (λ g m. subst FindingNamed (sym (List·Memᴰ·eq-of-singleton m)) (record { low = omega arith; high = omega arith; node = omega arith; index = top }))))
               (let few-held = y .0 in omega arith))
               (λ y. none-left (let a = y .0 in omega arith) (y .1))
               (difference-holds h x s n k here top)

@@ -12,20 +12,16 @@ use lib.Seq.{set-getD}
 use borrow.Author.Tests.{ltb-true, ltb-false}
 use Rattle.model.specs.Sizes.{Bytes}
 use Rattle.model.specs.Entry.{Prefix, same, agree, withAll}
-use Rattle.model.specs.History.{Finding, History, frontOf, sameFinding, noted}
+use Rattle.model.specs.History.{Finding, History, frontOf, noted}
 use Rattle.model.proofs.Tests.{cond-cases}
-use Rattle.model.proofs.Members.{with-there, with-fresh, member}
 use Rattle.storage.specs.Words.{wordAt}
 use Rattle.storage.specs.Lists.{every}
 use Rattle.storage.specs.Tables.{PrefixRow, NodeRow, findingRows, prefixRows, findingsPart, prefixesPart}
 use Rattle.storage.specs.Decode.{prefixAt, resolve}
 use Rattle.storage.specs.Rules.{findingRight}
-use Rattle.storage.proofs.ListLaws.{every-snoc}
 use Rattle.storage.proofs.PartLaws.{part-length}
-use Rattle.storage.proofs.RuleLaws.{pass}
-use Rattle.storage.proofs.DecodeLaws.{FindingNamed, finding-test}
 use Rattle.storage.proofs.RowFacts.{Facts}
-use Rattle.storage.proofs.Meanings.{Stands, withNoted, long, kept, is, prefixes-read, findings-read, owner-read, front-read, last-read, node-written, committed-written, prefixes-stored, findings-stored, committed-stored, findings-taken}
+use Rattle.storage.proofs.Meanings.{Stands, withNoted, long, prefixes-read, findings-read, owner-read, front-read, last-read, node-written, committed-written, prefixes-stored, findings-stored, committed-stored, findings-taken}
 use Rattle.logical_log.specs.Prefix.{indexOf, sliceOf}
 use Rattle.logical_log.specs.Comparison.{sameFrom}
 use Rattle.logical_log.specs.declared.prefix.Slice.{Slice}
@@ -223,20 +219,6 @@ module _ (h : Bytes) (x : History) (s : Stands h x) where
   noted-written t m fs lt lm e r =
       subst (λ (gs : List Finding). Stands (findingsKept h t m) (withNoted x gs)) e
       (findings-taken h x s t m lt lm (ap (every findingRight) e ∙ r))
-
-  findings-right : every findingRight (x .findings) ≡ true
-  findings-right =
-      ap (every findingRight) (sym (ap (λ (y : History). y .findings) (is h x s))) ∙ kept h x s .findings
-
-  -- a finding noted keeps the rules
-  pub noted-right : (d : Finding) → FindingNamed d → every findingRight (noted (x .findings) (d ∷ [])) ≡ true
-  unfolding noted withAll
-  noted-right d f =
-      ⊎-elim (λ m. ap (every findingRight) (with-there sameFinding (x .findings) d m) ∙ findings-right)
-      (λ m.
-      ap (every findingRight) (with-fresh sameFinding (x .findings) d m)
-      ∙ every-snoc findingRight (x .findings) d ∙ pass (findingRight d) findings-right ∙ finding-test d f)
-      (member sameFinding d (x .findings))
 
   -- the table of findings with a difference stands for the findings with it, or there are too many
   pub difference-holds : (n i : ℕ) → n < 64 → i ≤ 256 → Holds (tableWith h n i) (heldWith h n i) (noted (x .findings) (difference n i ∷ []))

@@ -1,24 +1,19 @@
--- The findings of a check: those that it notes keep the storage rules.
+-- The findings that a check notes fit their rows.
 -- Assumes nothing.
 use Prim.Native.Nat.{ℕ, _<_, _≤_}
 use native.Mathlib.Omega.{arith}
-use mathlib.Core.Path.{_≡_, refl, sym, _∙_, subst}
-use mathlib.Core.Bool.{true, cond}
+use mathlib.Core.Path.{refl, sym, subst}
+use mathlib.Core.Bool.{cond}
 use mathlib.Core.Logic.{⊎-elim}
-use mathlib.Core.List.{List, [], _∷_, _++_, List·Memᴰ, List·Memᴰ·head, List·Memᴰ·tail, List·Memᴰ·not-nil, List·Memᴰ·append-cases, List·Memᴰ·eq-of-singleton}
+use mathlib.Core.List.{List, [], _∷_, List·Memᴰ, List·Memᴰ·head, List·Memᴰ·tail, List·Memᴰ·not-nil, List·Memᴰ·append-cases, List·Memᴰ·eq-of-singleton}
 use lib.Dec.{eqb}
 use Rattle.model.specs.Sizes.{Bytes}
-use Rattle.model.specs.Entry.{isIn, with, withAll}
-use Rattle.model.specs.History.{Finding, History, sameFinding, noted}
+use Rattle.model.specs.History.{Finding, History}
 use Rattle.model.proofs.Tests.{cond-cases}
-use Rattle.storage.specs.Lists.{every}
 use Rattle.storage.specs.Words.{wordAt}
 use Rattle.storage.specs.Tables.{CertificateRow}
-use Rattle.storage.specs.Rules.{findingRight}
 use Rattle.storage.specs.Writes.{FindingFits}
-use Rattle.storage.proofs.ListLaws.{every-snoc}
-use Rattle.storage.proofs.RuleLaws.{pass}
-use Rattle.storage.proofs.DecodeLaws.{FindingNamed, finding-test}
+use Rattle.storage.proofs.DecodeLaws.{FindingNamed}
 use Rattle.storage.proofs.Meanings.{Stands}
 use Rattle.completeness.specs.Relevance.{relevantIn}
 use Rattle.completeness.specs.Judgement.{lacksThrough, lackingOf, lackingAt, lackingIn, lackingsIn}
@@ -59,18 +54,3 @@ module _ (h : Bytes) (x : History) (s : Stands h x) where
   lackings-fit (c ∷ cs) f g m =
       ⊎-elim (lacking-fits c (f c (List·Memᴰ·head refl)) g) (lackings-fit cs (λ d n. f d (List·Memᴰ·tail n)) g)
       (List·Memᴰ·append-cases (lackingIn h c) m)
-
--- ---- noted findings keep the rules
-
-with-right : (fs : List Finding) (g : Finding) → every findingRight fs ≡ true → findingRight g ≡ true → every findingRight (with sameFinding fs g) ≡ true
-unfolding with
-with-right fs g e f =
-    cond-cases (λ (l : List Finding). every findingRight l ≡ true) (isIn sameFinding g fs) fs (fs ++ (g ∷ [])) (λ _. e)
-    (λ _. every-snoc findingRight fs g ∙ pass _ e ∙ f)
-
-pub noted-right : (gs fs : List Finding) → every findingRight fs ≡ true → ((g : Finding) → List·Memᴰ g gs → Fitting g)
-    → every findingRight (noted fs gs) ≡ true
-unfolding noted withAll
-noted-right [] fs e f = e
-noted-right (g ∷ gs) fs e f =
-    noted-right gs (with sameFinding fs g) (with-right fs g e (finding-test g (f g (List·Memᴰ·head refl) .0))) (λ y m. f y (List·Memᴰ·tail m))

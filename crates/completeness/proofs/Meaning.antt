@@ -25,7 +25,7 @@ use Rattle.storage.specs.Tables.{CertificateRow, certificateRow, certificatesPa
 use Rattle.storage.specs.Rules.{findingRight}
 use Rattle.storage.proofs.ListLaws.{tabulate-length}
 use Rattle.storage.proofs.PartLaws.{part-length}
-use Rattle.storage.proofs.Meanings.{Stands, kept, is, withElections, withNoted, certificates-stored, findings-stored, findings-taken}
+use Rattle.storage.proofs.Meanings.{Stands, is, withElections, withNoted, certificates-stored, findings-stored, findings-taken, findings-right, noted-right}
 use Rattle.storage.proofs.Answered.{Means, accepts, refuses}
 use Rattle.logical_log.proofs.ViolationLaws.{Holds, all-hold, all-length}
 use Rattle.completeness.specs.declared.leader_completeness.Checked.{Checked}
@@ -37,7 +37,7 @@ use Rattle.completeness.proofs.Read.{right, end-is, end-small}
 use Rattle.completeness.proofs.Fits.{TermsFit, Stored, stored}
 use Rattle.completeness.proofs.CertificateMeaning.{lackings-mean, flags-mean}
 use Rattle.completeness.proofs.MarkMeaning.{raised, marks-mean}
-use Rattle.completeness.proofs.FindingMeaning.{Fitting, fitting, lackings-fit, noted-right}
+use Rattle.completeness.proofs.FindingMeaning.{Fitting, fitting, lackings-fit}
 
 module _ (h : Bytes) (x : History) (s : Stands h x) (f : TermsFit x) where
   rows : (c : CertificateRow) → List·Memᴰ c (certificatesOf h) → Stored (wordAt h 0 2) c
@@ -79,11 +79,10 @@ module _ (h : Bytes) (x : History) (s : Stands h x) (f : TermsFit x) where
       (λ i. map (raised (end-is h x s i)) (certificates-stored h x s i))
       (marks-mean (certificatesOf h) [] h x s (committedEnd h) (end-small h x s) (sym (certificates-stored h x s))))
 
-  findings-right : every findingRight (checkFindings x) ≡ true
-  findings-right =
+  found-right : every findingRight (checkFindings x) ≡ true
+  found-right =
       subst (λ (fs : List Finding). every findingRight fs ≡ true) found
-      (noted-right (lackingsIn h (certificatesOf h)) (x .findings)
-      (subst (λ (y : History). every findingRight (y .findings) ≡ true) (is h x s) (kept h x s .findings)) notes-fit)
+      (noted-right (lackingsIn h (certificatesOf h)) (x .findings) (findings-right h x s) (λ g m. notes-fit g m .0))
 
   -- not too many: accepted
   module _ (few : checkHeld h ≤ 128) (e : findingRows (checkTable h) (checkHeld h) ≡ checkFindings x) where
@@ -108,7 +107,7 @@ module _ (h : Bytes) (x : History) (s : Stands h x) (f : TermsFit x) where
         subst (λ (u : Bytes). Stands u (checkEffect x)) (sym (cond-false (ltb 128 (checkHeld h)) h _ (le-ltb 128 _ few)))
         (subst (λ (fs : List Finding). Stands (checkWritten h (checkTable h) (checkHeld h) (committedEnd h)) (withNoted (withElections x (map (moved (x .committed)) (x .certificates))) fs)) e
         (findings-taken (marksMoved h (committedEnd h) 0 (wordAt h 6 1)) (withElections x (map (moved (x .committed)) (x .certificates))) marks
-        (checkTable h) (checkHeld h) table-kept few (ap (every findingRight) e ∙ findings-right)))
+        (checkTable h) (checkHeld h) table-kept few (ap (every findingRight) e ∙ found-right)))
 
     accepted-means : Means h x check (checkReply (checkAnswer h)) (checkBytes h)
     accepted-means = accepts h x check _ (checkBytes h) model-accepts (ap checkReply accepted) written

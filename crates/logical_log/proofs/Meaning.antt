@@ -7,7 +7,7 @@ use native.Mathlib.Omega.{arith}
 use mathlib.Core.Path.{_≡_, refl, sym, _∙_, ap, subst}
 use mathlib.Core.Bool.{Bool, true, false, cond}
 use mathlib.Core.Logic.{_⊎_, inl, ⊎-elim}
-use mathlib.Core.List.{List, [], _∷_, List·Memᴰ, List·Memᴰ·head, List·Memᴰ·tail, List·Memᴰ·not-nil, List·Memᴰ·cases-cons, List·Memᴰ·append-cases, List·Memᴰ·eq-of-singleton}
+use mathlib.Core.List.{List, [], _∷_, List·Memᴰ, List·Memᴰ·not-nil, List·Memᴰ·cases-cons, List·Memᴰ·append-cases, List·Memᴰ·eq-of-singleton}
 use mathlib.Core.Option.{Option, none, some}
 use lib.Dec.{ltb}
 use lib.ListN.{length, getD, set}
@@ -17,11 +17,9 @@ use Rattle.model.specs.Sizes.{Bytes}
 use Rattle.model.specs.Entry.{Entry, Prefix, prefixes, withAll}
 use Rattle.model.specs.Refusal.{Refusal, prefixesFull, findingsFull}
 use Rattle.model.specs.Record.{Shown, view, front, lastFrom, lastIndex}
-use Rattle.model.specs.History.{Finding, History, sameFinding, noted}
+use Rattle.model.specs.History.{Finding, History, noted}
 use Rattle.model.specs.Answer.{Answer, accepted, refused}
 use Rattle.model.specs.View.{begunBy, mismatches, stored, viewFindings, viewRefusal, viewEffect}
-use Rattle.model.proofs.Tests.{and-left, and-right, and-both}
-use Rattle.model.proofs.Members.{all-cases}
 use Rattle.records.specs.Places.{Walk, firstEntry, indexAt, nextAt, shownAt, entriesAt}
 use Rattle.records.proofs.Walks.{entries-none, entries-next, next-walk, walk-entered}
 use Rattle.storage.specs.Lists.{every}
@@ -30,10 +28,10 @@ use Rattle.storage.specs.Tables.{PrefixRow, NodeRow, prefixRow, prefixesPart, n
 use Rattle.storage.specs.Decode.{prefixAt}
 use Rattle.storage.specs.Rules.{nodeRight, findingRight}
 use Rattle.storage.proofs.ListLaws.{tabulate-length, tabulate-at, every-at}
-use Rattle.storage.proofs.DecodeLaws.{NodeNamed, node-named, finding-test}
+use Rattle.storage.proofs.DecodeLaws.{NodeNamed, node-named, FindingNamed}
 use Rattle.storage.proofs.RowFacts.{resolve-count}
 use Rattle.storage.proofs.WellFormed.{rows-count, formed}
-use Rattle.storage.proofs.Meanings.{Stands, withPrefixes, withFront, withNoted, prefixes-is, findings-stored, kept, is, unseen-read, node-written, findings-taken}
+use Rattle.storage.proofs.Meanings.{Stands, withPrefixes, withFront, withNoted, prefixes-is, findings-stored, findings-right, noted-right, kept, is, unseen-read, node-written, findings-taken}
 use Rattle.storage.proofs.Answered.{Means, accepts, refuses}
 use Rattle.logical_log.specs.Observation.{nextNumber, counted, missingFrom, noteOf, notesFrom, other, writtenBytes, writtenCount, writtenNumber, viewReplaced, findingsKept, viewWritten, missingIn, notesIn, heldIn, tableIn, observed, observedBytes}
 use Rattle.logical_log.specs.Violation.{heldAll, bytesAll}
@@ -66,18 +64,6 @@ ViewsMean =
     → Stands h x → Walk s firstEntry m → node < 64 → limit ≤ 512 → ViewMeans limit h x s m node
 
 -- ---- lists
-
-every-all : {A : Type 0} (test : A → Bool) (xs : List A) → ((a : A) → List·Memᴰ a xs → test a ≡ true) → every test xs ≡ true
-unfolding every
-every-all test [] f = refl
-every-all test (a ∷ xs) f = and-both (test a) (every test xs) (f a (List·Memᴰ·head refl)) (every-all test xs (λ b m. f b (List·Memᴰ·tail m)))
-
-every-one : {A : Type 0} (test : A → Bool) (xs : List A) → every test xs ≡ true → (a : A) → List·Memᴰ a xs → test a ≡ true
-unfolding every
-every-one test [] e a m = absurd (List·Memᴰ·not-nil m)
-every-one test (b ∷ xs) e a m =
-    ⊎-elim (λ q. ap test q ∙ and-left (test b) (every test xs) e) (λ k. every-one test xs (and-right (test b) (every test xs) e) a k)
-    (List·Memᴰ·cases-cons m)
 
 sound-fits : (es : List Entry) (i : ℕ) → Sound i es → Fits i es
 sound-fits [] i s = tt
@@ -244,25 +230,20 @@ module _ (limit : ℕ) (h : Bytes) (x : History) (s : Bytes) (m node : ℕ) (st 
     held-few = ⊎-elim (λ a. a) (λ b. absurd (let c = b .1 in let d = ok .fewFindings in omega arith)) holds
 
     all-right : every findingRight (findingRows (tableIn h s m node) (heldIn h s m node)) ≡ true
-    unfolding viewFindings noted
+    unfolding viewFindings
     all-right =
         subst (λ (fs : List Finding). every findingRight fs ≡ true) (sym (held-few .1))
-        (every-all findingRight (viewFindings x node F)
-        (λ f k. ⊎-elim (λ a. old f a) (λ b. new f (subst (List·Memᴰ f) (sym notes) b))
-        (all-cases sameFinding (x .findings) (mismatches (x .prefixes) node (begunBy F)) f k)))
+        (noted-right (mismatches (x .prefixes) node (begunBy F)) (x .findings) (findings-right h x st) (λ f b. named f (subst (List·Memᴰ f) (sym notes) b)))
       where
-        old : (f : Finding) → List·Memᴰ f (x .findings) → findingRight f ≡ true
-        old f a = every-one findingRight (tablesOf h .findings) (kept h x st .findings) f (subst (List·Memᴰ f) (sym (ap (λ (y : History). y .findings) (is h x st))) a)
-
-        new : (f : Finding) → List·Memᴰ f (notesIn h s m node) → findingRight f ≡ true
-        new f b =
+        named : (f : Finding) → List·Memᴰ f (notesIn h s m node) → FindingNamed f
+        named f b =
             let n = noted-in f b in
-            finding-test f (record {
+            record {
               low = (let a = n .name in omega arith);
               high = (let a = n .name in omega arith);
               node = (let a = n .isNode in omega arith);
               index = n .index;
-            })
+            }
 
     room : writtenCount h (wordAt h 0 2) 0 1 F ≤ 512
     unfolding missingIn

@@ -4,13 +4,14 @@
 use Prim.Native.Nat.{ℕ, _+_, _*_, _≤_, _<_}
 use native.Mathlib.Nat.{zero-add}
 use native.Mathlib.Omega.{arith}
-use mathlib.Core.Path.{_≡_, ap, sym, _∙_, subst}
+use mathlib.Core.Path.{_≡_, refl, ap, sym, _∙_, subst}
 use mathlib.Core.Bool.{true}
-use mathlib.Core.List.{List, [], _∷_, _++_, map}
+use mathlib.Core.List.{List, [], _∷_, _++_, map, List·Memᴰ, List·Memᴰ·head, List·Memᴰ·tail}
 use lib.ListN.{length, getD, set, take, drop, length-set, length-append, length-map, take-append-drop, List·getD-map}
 use Rattle.model.specs.Sizes.{Bytes}
-use Rattle.model.specs.Entry.{Prefix}
-use Rattle.model.specs.History.{fresh, Certificate, Finding, History}
+use Rattle.model.specs.Entry.{Prefix, isIn, with, withAll}
+use Rattle.model.specs.History.{fresh, Certificate, Finding, History, sameFinding, noted}
+use Rattle.model.proofs.Tests.{cond-cases}
 use Rattle.storage.specs.Lists.{every}
 use Rattle.storage.specs.Words.{wordAt, wordBytes, putBytes}
 use Rattle.storage.specs.Tables.{NodeRow, CertificateRow, Tables, nodeRow, termRow, findingRow, prefixRow, prefixRows, termRows, certificateRows, findingRows, headPart, nodesPart, termsPart, certificatesPart, findingsPart, prefixesPart, tablesIn, tablesOf, withRow, withNode, withCommitted, withTerms, withCertificates, withFindings}
@@ -18,16 +19,16 @@ use Rattle.storage.specs.Decode.{prefixAt, extended, resolve, frontIn, c
 use Rattle.storage.specs.Rules.{certificateRight, findingRight, numbered, prefixRight, wellFormed}
 use Rattle.storage.specs.Values.{numberIndex}
 use Rattle.storage.specs.Writes.{nodeBytes, prefixBytes, prefixOf, CertificateFits, PrefixFits, prefixAppended, termAppended, committedSet, certificateInserted, certificateAdded}
-use Rattle.storage.proofs.ListLaws.{tabulate-length, tabulate-at, every-insert, map-insert}
+use Rattle.storage.proofs.ListLaws.{tabulate-length, tabulate-at, every-insert, map-insert, every-snoc}
 use Rattle.storage.proofs.WordLaws.{put-length}
 use Rattle.storage.proofs.PartLaws.{word-part}
 use Rattle.storage.proofs.RowFacts.{resolve-count}
-use Rattle.storage.proofs.RuleLaws.{within, index-among}
+use Rattle.storage.proofs.RuleLaws.{within, index-among, pass}
 use Rattle.storage.proofs.TableLaws.{findings-written, set-node, set-term, prefix-appended, term-appended, committed-set, certificate-added}
 use Rattle.storage.specs.Fresh.{freshHistory}
 use Rattle.storage.proofs.FreshLaws.{fresh-well-formed, fresh-decodes}
 use Rattle.storage.proofs.WellFormed.{rows-are, terms-are, certificates-are, findings-are, rows-count, terms-count, certificates-count, findings-count, node-row, formed, formed-rows}
-use Rattle.storage.proofs.DecodeLaws.{Kept, well-formed-parts, well-formed-of, NodeNamed, CertificateNamed, certificate-test, kept-node, kept-committed, kept-terms, kept-certificates, kept-findings, kept-row, decode-is, history-node, history-row}
+use Rattle.storage.proofs.DecodeLaws.{Kept, well-formed-parts, well-formed-of, NodeNamed, CertificateNamed, certificate-test, kept-node, kept-committed, kept-terms, kept-certificates, kept-findings, kept-row, decode-is, history-node, history-row, FindingNamed, finding-test}
 
 -- well-formed bytes that stand for a history
 pub record Stands (h : Bytes) (x : History) : Type 0 where
@@ -93,6 +94,21 @@ module _ (h : Bytes) where
   term-read k d l =
       tabulate-at (termRow (termsPart h)) 0 (wordAt (headPart h) 2 2) k d (omega (arith, word-part h 0 9 2 2 (omega arith)))
       ∙ ap (termRow (termsPart h)) (zero-add k)
+
+-- ---- noted findings keep the rules
+
+with-right : (fs : List Finding) (g : Finding) → every findingRight fs ≡ true → findingRight g ≡ true → every findingRight (with sameFinding fs g) ≡ true
+unfolding with
+with-right fs g e f =
+    cond-cases (λ (l : List Finding). every findingRight l ≡ true) (isIn sameFinding g fs) fs (fs ++ (g ∷ [])) (λ _. e)
+    (λ _. every-snoc findingRight fs g ∙ pass _ e ∙ f)
+
+pub noted-right : (gs fs : List Finding) → every findingRight fs ≡ true → ((g : Finding) → List·Memᴰ g gs → FindingNamed g)
+    → every findingRight (noted fs gs) ≡ true
+unfolding noted withAll
+noted-right [] fs e f = e
+noted-right (g ∷ gs) fs e f =
+    noted-right gs (with sameFinding fs g) (with-right fs g e (finding-test g (f g (List·Memᴰ·head refl)))) (λ y m. f y (List·Memᴰ·tail m))
 
 -- ---- what is written
 
@@ -208,6 +224,9 @@ module _ (h : Bytes) (x : History) (s : Stands h x) where
 
   pub certificates-stored : map (certificateIn (x .prefixes)) (certificateRows (certificatesPart h) (wordAt h 6 1)) ≡ x .certificates
   certificates-stored = ap (map (certificateIn (x .prefixes))) (sym (certificates-are h)) ∙ certificates-is
+
+  pub findings-right : every findingRight (x .findings) ≡ true
+  findings-right = ap (every findingRight) (sym (ap (λ (y : History). y .findings) is)) ∙ kept .findings
 
   pub findings-stored : findingRows (findingsPart h) (wordAt h 7 1) ≡ x .findings
   findings-stored = sym (findings-are h) ∙ ap (λ (y : History). y .findings) is

@@ -1,5 +1,5 @@
 // The history in lent bytes: which bytes stand for which history, the storage rules whose breach is answered 12, and the
-// fresh history. docs/LAYOUT.md has the layout.
+// fresh history. docs/LAYOUT.md has the layout. Stands on units and the model.
 pub mod certificates;
 pub mod findings;
 pub mod fresh;
