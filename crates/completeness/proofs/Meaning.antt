@@ -1,6 +1,5 @@
--- The completeness check on bytes is document 01's. Let bytes stand for a history whose terms fit 32 bits. Then the check of the bytes answers what
--- the model answers for the history: accepted, it has the model's value and leaves bytes that stand for the model's history
--- after the check; refused, it leaves every byte.
+-- What the check means: of bytes that stand for a history whose terms fit 32 bits the answer is the model's, and the bytes after
+-- it stand for the model's history after it.
 -- Assumes nothing.
 use Prim.Native.Nat.{ℕ, _<_, _≤_}
 use native.Mathlib.Omega.{arith}
