@@ -3,9 +3,10 @@
 -- Assumes nothing.
 use Prim.Native.Nat.{ℕ, zero, suc}
 use mathlib.Core.Path.{_≡_, refl, sym, _∙_, ap}
-use mathlib.Core.Bool.{true, false}
+use mathlib.Core.Bool.{true, false, cond}
 use mathlib.Core.List.{List, [], _∷_}
 use Rattle.model.specs.Sizes.{Bytes}
+use Rattle.model.specs.History.{History}
 use Rattle.model.specs.Lists.{findingList, leaderList, unseenList, unknownList}
 use Rattle.model.proofs.Tests.{cond-true, cond-false}
 use Rattle.storage.specs.Rules.{wellFormed}
@@ -41,38 +42,34 @@ nth-as f d g [] n = refl
 nth-as f d g (x ∷ xs) zero = refl
 nth-as f d g (x ∷ xs) (suc n) = nth-as f d g xs n
 
+-- One law for the readers: `list` is the model's, `answer` what the code of `lists` gives for it, `said` the reply for that, and
+-- `broken` the reply where the rules are broken.
+module _ {X A R : Type 0} (h : Bytes) (n : ℕ) (list : History → List X) (of : X → A) (none : A) (answer : A) (said : A → R) (broken : R) where
+  here : wellFormed h ≡ true → answer ≡ nth of none (list (decode h)) n → (a : A) → a ≡ answer → (r : R) → r ≡ said a
+      → r ≡ cond (wellFormed h) (nth (λ x. said (of x)) (said none) (list (decode h)) n) broken
+  here w told a ea r er =
+      er ∙ ap said (ea ∙ told) ∙ nth-as of none said (list (decode h)) n ∙ sym (cond-true (wellFormed h) _ broken w)
+
 module _ (h : Bytes) (n : ℕ) where
   pub finding-here : wellFormed h ≡ true → (a : FindingAnswer) → a ≡ findingAnswer h n → (r : FindingReply) → r ≡ foundAs a → r ≡ findingOut h n
-  finding-here w a ea r er =
-      er ∙ ap foundAs (ea ∙ findings-told h (decode h) n (stand h w))
-      ∙ nth-as findingOf FindingAnswer.NoMore foundAs (findingList (decode h)) n ∙ sym (cond-true (wellFormed h) _ (noFinding 12) w)
-
-  pub finding-broken : wellFormed h ≡ false → noFinding 12 ≡ findingOut h n
-  finding-broken w = sym (cond-false (wellFormed h) _ (noFinding 12) w)
+  finding-here w =
+      here h n findingList findingOf FindingAnswer.NoMore (findingAnswer h n) foundAs (noFinding 12) w (findings-told h (decode h) n (stand h w))
 
   pub leader-here : wellFormed h ≡ true → (a : LeaderAnswer) → a ≡ leaderAnswer h n → (r : LeaderReply) → r ≡ leaderIs a → r ≡ leaderOut h n
-  leader-here w a ea r er =
-      er ∙ ap leaderIs (ea ∙ leaders-told h (decode h) n (stand h w))
-      ∙ nth-as leaderAs LeaderAnswer.NoMore leaderIs (leaderList (decode h)) n ∙ sym (cond-true (wellFormed h) _ (noLeader 12) w)
-
-  pub leader-broken : wellFormed h ≡ false → noLeader 12 ≡ leaderOut h n
-  leader-broken w = sym (cond-false (wellFormed h) _ (noLeader 12) w)
+  leader-here w =
+      here h n leaderList leaderAs LeaderAnswer.NoMore (leaderAnswer h n) leaderIs (noLeader 12) w (leaders-told h (decode h) n (stand h w))
 
   pub mark-here : wellFormed h ≡ true → (a : UnseenAnswer) → a ≡ unseenAnswer h n → (r : UnseenReply) → r ≡ markIs a → r ≡ unseenOut h n
-  mark-here w a ea r er =
-      er ∙ ap markIs (ea ∙ unseen-told h (decode h) n (stand h w))
-      ∙ nth-as markOf UnseenAnswer.NoMore markIs (unseenList (decode h)) n ∙ sym (cond-true (wellFormed h) _ (noMark 12) w)
-
-  pub mark-broken : wellFormed h ≡ false → noMark 12 ≡ unseenOut h n
-  mark-broken w = sym (cond-false (wellFormed h) _ (noMark 12) w)
+  mark-here w =
+      here h n unseenList markOf UnseenAnswer.NoMore (unseenAnswer h n) markIs (noMark 12) w (unseen-told h (decode h) n (stand h w))
 
   pub index-here : wellFormed h ≡ true → (a : UnknownAnswer) → a ≡ unknownAnswer h n → (r : UnknownReply) → r ≡ indexIs a → r ≡ unknownOut h n
-  index-here w a ea r er =
-      er ∙ ap indexIs (ea ∙ unknown-told h (decode h) n (stand h w))
-      ∙ nth-as indexOf UnknownAnswer.NoMore indexIs (unknownList (decode h)) n ∙ sym (cond-true (wellFormed h) _ (noIndex 12) w)
+  index-here w =
+      here h n unknownList indexOf UnknownAnswer.NoMore (unknownAnswer h n) indexIs (noIndex 12) w (unknown-told h (decode h) n (stand h w))
 
-  pub index-broken : wellFormed h ≡ false → noIndex 12 ≡ unknownOut h n
-  index-broken w = sym (cond-false (wellFormed h) _ (noIndex 12) w)
+-- where the rules are broken
+pub is-broken : {R : Type 0} (h : Bytes) (given broken : R) → wellFormed h ≡ false → broken ≡ cond (wellFormed h) given broken
+is-broken h given broken w = sym (cond-false (wellFormed h) given broken w)
 
 module _ (h : Bytes) where
   pub committed-here : wellFormed h ≡ true → (l o : ℕ) → l ≡ lengthIn h → o ≡ ownerIn h
@@ -80,9 +77,6 @@ module _ (h : Bytes) where
   committed-here w l o el eo =
       (λ i. record { state = 0; length = (el ∙ length-told h (decode h) (stand h w)) i; owner = (eo ∙ owner-told h (decode h) (stand h w)) i })
       ∙ sym (cond-true (wellFormed h) _ _ w)
-
-  pub committed-broken : wellFormed h ≡ false → _≡_ {A = CommittedReply} (record { state = 12; length = 0; owner = 0 }) (committedOut h)
-  committed-broken w = sym (cond-false (wellFormed h) _ _ w)
 
 -- a fresh history, by the number of the answer
 pub fresh-made : (h : Bytes) (a : Made) (h′ : Bytes) (r : ℕ) → FreshMade h a h′ → r ≡ madeNumber a → MadeFresh h r h′

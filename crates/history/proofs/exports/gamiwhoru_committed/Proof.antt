@@ -2,7 +2,7 @@
 -- Assumes nothing.
 use mathlib.Core.Path.{sym, _∙_}
 use borrow.Author.Needs.{needs}
-use Rattle.history.proofs.Printed.{committed-here, committed-broken}
+use Rattle.history.proofs.Printed.{committed-here, is-broken}
 use Rattle.history.proofs.exports.gamiwhoru_committed.Statement.{statement}
 use Rattle.history.proofs.exports.gamiwhoru_committed.Tie as tie
 
@@ -21,7 +21,7 @@ returns c =
     (c .before .committed-length .ensures) (c .committed-owner .ensures)
 
 returns-2 : tie.Need-returns-2
-returns-2 c = committed-broken _ (sym (c .before .well-formed .ensures) ∙ c .if1 .left)
+returns-2 c = is-broken _ _ _ (sym (c .before .well-formed .ensures) ∙ c .if1 .left)
 
 pub gamiwhoru-committed-spec : {M : Type 1} → statement M
 gamiwhoru-committed-spec = tie.close (tie.spec well-formed-requires committed-length-requires committed-owner-requires returns returns-2)

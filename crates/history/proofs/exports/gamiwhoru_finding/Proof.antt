@@ -2,7 +2,7 @@
 -- Assumes nothing.
 use mathlib.Core.Path.{sym, _∙_}
 use borrow.Author.Needs.{needs}
-use Rattle.history.proofs.Printed.{finding-here, finding-broken}
+use Rattle.history.proofs.Printed.{finding-here, is-broken}
 use Rattle.history.proofs.exports.gamiwhoru_finding.Statement.{statement}
 use Rattle.history.proofs.exports.gamiwhoru_finding.Tie as tie
 
@@ -21,7 +21,7 @@ returns c =
     (c .before .finding-at .ensures) _ (c .found-as .ensures)
 
 returns-2 : tie.Need-returns-2
-returns-2 c = finding-broken _ _ (sym (c .before .well-formed .ensures) ∙ c .if1 .left)
+returns-2 c = is-broken _ _ _ (sym (c .before .well-formed .ensures) ∙ c .if1 .left)
 
 pub gamiwhoru-finding-spec : {M : Type 1} → statement M
 gamiwhoru-finding-spec = tie.close (tie.spec well-formed-requires finding-at-requires found-as-requires returns returns-2)

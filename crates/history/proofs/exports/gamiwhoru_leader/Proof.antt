@@ -2,7 +2,7 @@
 -- Assumes nothing.
 use mathlib.Core.Path.{sym, _∙_}
 use borrow.Author.Needs.{needs}
-use Rattle.history.proofs.Printed.{leader-here, leader-broken}
+use Rattle.history.proofs.Printed.{leader-here, is-broken}
 use Rattle.history.proofs.exports.gamiwhoru_leader.Statement.{statement}
 use Rattle.history.proofs.exports.gamiwhoru_leader.Tie as tie
 
@@ -21,7 +21,7 @@ returns c =
     (c .before .leader-at .ensures) _ (c .leader-is .ensures)
 
 returns-2 : tie.Need-returns-2
-returns-2 c = leader-broken _ _ (sym (c .before .well-formed .ensures) ∙ c .if1 .left)
+returns-2 c = is-broken _ _ _ (sym (c .before .well-formed .ensures) ∙ c .if1 .left)
 
 pub gamiwhoru-leader-spec : {M : Type 1} → statement M
 gamiwhoru-leader-spec = tie.close (tie.spec well-formed-requires leader-at-requires leader-is-requires returns returns-2)

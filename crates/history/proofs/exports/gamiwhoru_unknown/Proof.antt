@@ -2,7 +2,7 @@
 -- Assumes nothing.
 use mathlib.Core.Path.{sym, _∙_}
 use borrow.Author.Needs.{needs}
-use Rattle.history.proofs.Printed.{index-here, index-broken}
+use Rattle.history.proofs.Printed.{index-here, is-broken}
 use Rattle.history.proofs.exports.gamiwhoru_unknown.Statement.{statement}
 use Rattle.history.proofs.exports.gamiwhoru_unknown.Tie as tie
 
@@ -21,7 +21,7 @@ returns c =
     (c .before .unknown-at .ensures) _ (c .index-is .ensures)
 
 returns-2 : tie.Need-returns-2
-returns-2 c = index-broken _ _ (sym (c .before .well-formed .ensures) ∙ c .if1 .left)
+returns-2 c = is-broken _ _ _ (sym (c .before .well-formed .ensures) ∙ c .if1 .left)
 
 pub gamiwhoru-unknown-spec : {M : Type 1} → statement M
 gamiwhoru-unknown-spec = tie.close (tie.spec well-formed-requires unknown-at-requires index-is-requires returns returns-2)

@@ -2,7 +2,7 @@
 -- Assumes nothing.
 use mathlib.Core.Path.{sym, _∙_}
 use borrow.Author.Needs.{needs}
-use Rattle.history.proofs.Printed.{mark-here, mark-broken}
+use Rattle.history.proofs.Printed.{mark-here, is-broken}
 use Rattle.history.proofs.exports.gamiwhoru_unseen.Statement.{statement}
 use Rattle.history.proofs.exports.gamiwhoru_unseen.Tie as tie
 
@@ -21,7 +21,7 @@ returns c =
     (c .before .unseen-at .ensures) _ (c .mark-is .ensures)
 
 returns-2 : tie.Need-returns-2
-returns-2 c = mark-broken _ _ (sym (c .before .well-formed .ensures) ∙ c .if1 .left)
+returns-2 c = is-broken _ _ _ (sym (c .before .well-formed .ensures) ∙ c .if1 .left)
 
 pub gamiwhoru-unseen-spec : {M : Type 1} → statement M
 gamiwhoru-unseen-spec = tie.close (tie.spec well-formed-requires unseen-at-requires mark-is-requires returns returns-2)
