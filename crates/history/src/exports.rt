@@ -16,10 +16,10 @@ use lists::unknown::UnknownAnswer;
 use lists::unknown::unknown_at;
 use lists::unseen::UnseenAnswer;
 use lists::unseen::unseen_at;
+use rules::whole::well_formed;
 use storage::fresh::Made;
 use storage::fresh::fresh;
 use storage::layout::HISTORY_LENGTH;
-use storage::rules::well_formed;
 
 const HERE: u8 = 0;
 

@@ -13,7 +13,7 @@ use crate::kinds::take_terms;
 use crate::kinds::take_view;
 use records::head::Head;
 use records::head::read;
-use storage::rules::well_formed;
+use rules::whole::well_formed;
 
 // The record of that head, to a history that keeps the storage rules.
 fn dispatch(history: &mut [u8], s: &[u8], head: Head) -> Answer

@@ -24,7 +24,7 @@ use lists::unknown::UnknownAnswer;
 use lists::unknown::unknown_at;
 use lists::unseen::UnseenAnswer;
 use lists::unseen::unseen_at;
-use storage::rules::well_formed;
+use rules::whole::well_formed;
 
 // No list is longer: 128 findings and leaders, 64 unseen marks, 256 unknown indexes.
 const MOST: usize = 256;

@@ -3,9 +3,7 @@ ghost use mathlib.Core.Path.{_≡_};
 ghost use Prim.Native.Nat.{_+_, _*_, _≤_, _<_};
 ghost use mathlib.Core.List.{_++_};
 ghost use lib.ListN.{length};
-ghost use Rattle.storage.specs.Lists.{every};
-ghost use Rattle.storage.specs.Tables.{findingRow, findingRows};
-ghost use Rattle.storage.specs.Rules.{findingRight};
+ghost use Rattle.storage.specs.Tables.{findingRow};
 ghost use Rattle.storage.specs.Values.{findingValue};
 ghost use Rattle.storage.specs.Words.{wordBytes, putBytes};
 ghost use Rattle.storage.specs.Writes.{findingBytes};
@@ -16,9 +14,7 @@ use crate::words::get32;
 use crate::words::put8;
 use crate::words::put16;
 use crate::words::put32;
-use units::INDEX_LIMIT;
 use units::LogIndex;
-use units::NODE_LIMIT;
 use units::NodeId;
 use units::Term;
 
@@ -61,36 +57,4 @@ pub fn put_finding(findings: &mut [u8], k: usize, f: Found)
     put_name(&mut findings[..], o, f);
     put16(&mut findings[..], o + 2, f.index.0);
     put32(&mut findings[..], o + 4, f.term.0);
-}
-
-// The storage rules of one row.
-fn finding_right(f: Found) -> bool
-    ensures { λ r. ⌜ r ≡ findingRight (findingValue f) ⌝ }
-{
-    if f.name < 3 {
-        return false;
-    }
-    if 5 < f.name {
-        return false;
-    }
-    if NODE_LIMIT < f.node.0 {
-        return false;
-    }
-    f.index.0 <= INDEX_LIMIT
-}
-
-// The storage rules of every one of m rows.
-pub fn findings_right(findings: &[u8], m: usize) -> bool
-    requires { ⌜ (m ≤ 128) × (length (now findings) ≡ 1024) ⌝ }
-    ensures { λ r. ⌜ r ≡ every findingRight (findingRows (now (findings .entry)) m) ⌝ }
-{
-    let mut k = 0;
-    while k < m {
-        let f = finding_at(findings, k);
-        if !finding_right(f) {
-            return false;
-        }
-        k += 1;
-    }
-    true
 }

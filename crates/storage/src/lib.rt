@@ -1,5 +1,5 @@
-// The history in lent bytes: which bytes stand for which history, the storage rules whose breach is answered 12, and the
-// fresh history. docs/LAYOUT.md has the layout. Stands on units and the model.
+// The history in lent bytes: which bytes stand for which history, the tables of rows, and the fresh history. The storage rules
+// are defined here (specs/Rules.antt) and tested by `rules`. docs/LAYOUT.md has the layout. Stands on units and the model.
 pub mod certificates;
 pub mod findings;
 pub mod fresh;
@@ -7,6 +7,5 @@ pub mod head;
 pub mod layout;
 pub mod nodes;
 pub mod prefixes;
-pub mod rules;
 pub mod terms;
 pub mod words;

@@ -2,9 +2,7 @@
 ghost use mathlib.Core.Path.{_≡_};
 ghost use Prim.Native.Nat.{_+_, _*_, _<_};
 ghost use lib.ListN.{length};
-ghost use Rattle.storage.specs.Lists.{every};
-ghost use Rattle.storage.specs.Tables.{nodeRow, nodeRows};
-ghost use Rattle.storage.specs.Rules.{nodeRight};
+ghost use Rattle.storage.specs.Tables.{nodeRow};
 ghost use Rattle.storage.specs.Values.{nodeValue};
 ghost use Rattle.storage.specs.Words.{putBytes};
 ghost use Rattle.storage.specs.Writes.{nodeBytes};
@@ -13,7 +11,6 @@ use crate::layout::NODES_LENGTH;
 use crate::layout::NODES_START;
 use crate::words::get16;
 use crate::words::put16;
-use units::INDEX_LIMIT;
 use units::LogIndex;
 
 pub struct Node {
@@ -55,33 +52,4 @@ pub fn set_node(history: &mut [u8], k: usize, x: Node)
     let a = NODES_START;
     let e = a + NODES_LENGTH;
     put_node(&mut history[a..e], k, x);
-}
-
-// The storage rules of one row, where n prefixes are stored.
-fn node_right(n: usize, x: Node) -> bool
-    ensures { λ r. ⌜ r ≡ nodeRight n (nodeValue x) ⌝ }
-{
-    if n < x.front {
-        return false;
-    }
-    if INDEX_LIMIT < x.last.0 {
-        return false;
-    }
-    x.unseen.0 <= INDEX_LIMIT
-}
-
-// The storage rules of every row.
-pub fn nodes_right(nodes: &[u8], n: usize) -> bool
-    requires { ⌜ length (now nodes) ≡ 384 ⌝ }
-    ensures { λ r. ⌜ r ≡ every (nodeRight n) (nodeRows (now (nodes .entry))) ⌝ }
-{
-    let mut k = 0;
-    while k < 64 {
-        let x = node_at(nodes, k);
-        if !node_right(n, x) {
-            return false;
-        }
-        k += 1;
-    }
-    true
 }

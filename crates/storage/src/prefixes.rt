@@ -1,14 +1,11 @@
 // The table of prefixes, in the order stored. Row k holds the prefix of number k + 1: the prefix of a smaller number, 0 for the
 // empty one, with one entry more.
 ghost use mathlib.Core.Path.{_≡_};
-ghost use Prim.Native.Nat.{_+_, _-_, _*_, _≤_, _<_};
-ghost use mathlib.Core.List.{[], _++_};
+ghost use Prim.Native.Nat.{_+_, _*_, _≤_, _<_};
+ghost use mathlib.Core.List.{_++_};
 ghost use lib.ListN.{length};
-ghost use Rattle.storage.specs.Lists.{tabulate};
-ghost use Rattle.storage.specs.Words.{Word, wordAt, bytesAt, wordBytes, putBytes};
+ghost use Rattle.storage.specs.Words.{Word, wordAt, wordBytes, putBytes};
 ghost use Rattle.storage.specs.Writes.{prefixBytes, prefixAppended};
-ghost use Rattle.storage.specs.Tables.{prefixRow, prefixRows};
-ghost use Rattle.storage.specs.Rules.{sameBytes, sameRow, isAmong, prefixRight, prefixesRightAfter};
 ghost use Rattle.storage.specs.Values.{Index};
 use crate::head::prefix_count;
 use crate::head::set_prefix_count;
@@ -22,9 +19,6 @@ use crate::words::put_bytes;
 use crate::words::put8;
 use crate::words::put16;
 use crate::words::put32;
-use crate::words::same_bytes;
-use units::CONTENT_LIMIT;
-use units::INDEX_LIMIT;
 use units::LogIndex;
 use units::Term;
 
@@ -129,80 +123,4 @@ pub fn append_prefix(
     let n = prefix_count(&history[..]);
     set_prefix(&mut history[..], n, parent, index, term, size, content);
     set_prefix_count(&mut history[..], n + 1);
-}
-
-// Rows j and k store the same prefix.
-fn same_row(prefixes: &[u8], j: usize, k: usize) -> bool
-    requires { ⌜ (j < 512) × (k < 512) × (length (now prefixes) ≡ 20992) × (wordAt (now prefixes) (k * 41 + 8) 1 ≤ 32) ⌝ }
-    ensures { λ r. ⌜ r ≡ sameRow (prefixRow (now (prefixes .entry)) j) (prefixRow (now (prefixes .entry)) k) ⌝ }
-{
-    if parent_at(prefixes, j) != parent_at(prefixes, k) {
-        return false;
-    }
-    if term_at(prefixes, j) != term_at(prefixes, k) {
-        return false;
-    }
-    let n = size_at(prefixes, k);
-    if size_at(prefixes, j) != n {
-        return false;
-    }
-    same_bytes(
-        prefixes,
-        j * PREFIX_WIDTH + 9,
-        prefixes,
-        k * PREFIX_WIDTH + 9,
-        n,
-    )
-}
-
-// One of the rows from `start` on, before k, stores the same prefix as k.
-fn is_among(prefixes: &[u8], start: usize, k: usize) -> bool
-    requires { ⌜ (start ≤ k) × (k < 512) × (length (now prefixes) ≡ 20992) × (wordAt (now prefixes) (k * 41 + 8) 1 ≤ 32) ⌝ }
-    ensures { λ r. ⌜ r ≡ isAmong (prefixRow (now (prefixes .entry)) k) (tabulate (prefixRow (now (prefixes .entry))) start (k - start)) ⌝ }
-{
-    let mut j = start;
-    while j < k {
-        if same_row(prefixes, j, k) {
-            return true;
-        }
-        j += 1;
-    }
-    false
-}
-
-// The storage rules of row k, by the rows before it.
-fn prefix_right(prefixes: &[u8], k: usize) -> bool
-    requires { ⌜ (k < 512) × (length (now prefixes) ≡ 20992) ⌝ }
-    ensures { λ r. ⌜ r ≡ prefixRight (prefixRows (now (prefixes .entry)) k) (prefixRow (now (prefixes .entry)) k) ⌝ }
-{
-    let p = parent_at(prefixes, k);
-    if k < p {
-        return false;
-    }
-    let i = index_at(prefixes, k);
-    if i != index_of(prefixes, p) + 1 {
-        return false;
-    }
-    if INDEX_LIMIT < i {
-        return false;
-    }
-    if CONTENT_LIMIT < size_at(prefixes, k) {
-        return false;
-    }
-    !is_among(prefixes, p, k)
-}
-
-// The storage rules of every one of n rows.
-pub fn prefixes_right(prefixes: &[u8], n: usize) -> bool
-    requires { ⌜ (n ≤ 512) × (length (now prefixes) ≡ 20992) ⌝ }
-    ensures { λ r. ⌜ r ≡ prefixesRightAfter [] (prefixRows (now (prefixes .entry)) n) ⌝ }
-{
-    let mut k = 0;
-    while k < n {
-        if !prefix_right(prefixes, k) {
-            return false;
-        }
-        k += 1;
-    }
-    true
 }

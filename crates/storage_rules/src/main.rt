@@ -1,8 +1,8 @@
 // The storage rules shown at work: a history that holds something is accepted whole, and each rule, broken by one byte, is
 // answered 12. Bytes that stand for nothing may be anything.
 use libc::STDOUT_FILENO;
+use rules::whole::well_formed;
 use storage::layout::part;
-use storage::rules::well_formed;
 
 // Three prefixes, two nodes with views, a committed prefix, two commit terms, two certificates of one term, a finding.
 const FILLED: usize = 37;
