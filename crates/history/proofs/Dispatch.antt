@@ -9,7 +9,7 @@ use Rattle.model.proofs.Tests.{cond-true, cond-false}
 use Rattle.units.specs.declared.NodeId.{NodeId}
 use Rattle.units.specs.declared.LogIndex.{LogIndex}
 use Rattle.units.specs.declared.Term.{Term}
-use Rattle.records.specs.declared.bits.Fault.{Fault}
+use Rattle.bit_fields.specs.declared.bits.Fault.{Fault}
 use Rattle.records.specs.declared.head.Head.{Head}
 use Rattle.records.specs.Heads.{Told, Within}
 use Rattle.records.specs.Places.{rowsAt, firstRow}

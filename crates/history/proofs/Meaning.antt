@@ -12,9 +12,9 @@ use Rattle.model.specs.History.{History}
 use Rattle.model.specs.Answer as model
 use Rattle.model.specs.Answer.{answer, after, answerRead, afterRead, isAccepted}
 use Rattle.model.proofs.Tests.{cond-true, cond-false}
-use Rattle.records.specs.declared.bits.Fault.{Fault}
+use Rattle.bit_fields.specs.declared.bits.Fault.{Fault}
 use Rattle.records.specs.declared.head.Head.{Head}
-use Rattle.records.specs.Answers.{refusalOf}
+use Rattle.bit_fields.specs.Answers.{refusalOf}
 use Rattle.records.specs.Heads.{Told, headOf}
 use Rattle.records.specs.Places.{rowsAt, firstRow}
 use Rattle.records.proofs.Readable.{view-walk}

@@ -3,7 +3,7 @@
 use Prim.Native.Nat.{ℕ}
 use Rattle.model.specs.Refusal.{number, prefixesFull, findingsFull, oldExceedsNew, lengthExceedsFront, certificatesFull, numberTaken}
 use Rattle.model.specs.Answer as model
-use Rattle.records.specs.Answers.{refusalOf}
+use Rattle.bit_fields.specs.Answers.{refusalOf}
 use Rattle.history.specs.declared.answer.Answer.{Answer}
 use Rattle.history.specs.declared.numbers.Reply.{Reply}
 

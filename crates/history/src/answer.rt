@@ -1,5 +1,5 @@
 // What a record is answered.
-use records::bits::Fault;
+use bit_fields::bits::Fault;
 use units::NodeId;
 
 pub enum Answer {

@@ -2,7 +2,7 @@
 ghost use mathlib.Core.Path.{_≡_};
 ghost use Rattle.history.specs.Numbers.{refusalIn, replyOf};
 use crate::answer::Answer;
-use records::bits::fault_number;
+use bit_fields::bits::fault_number;
 
 #[repr(C)]
 pub struct Reply {

@@ -18,7 +18,7 @@ use Rattle.model.specs.History.{History}
 use Rattle.model.specs.View.{begun}
 use Rattle.model.proofs.Tests.{either, cond-true, cond-false}
 use Rattle.records.specs.Places.{Walk, indexAt, lengthAt, nextAt, entriesAt}
-use Rattle.records.proofs.Widths.{field-lt, bytes-length}
+use Rattle.bit_fields.proofs.Widths.{field-lt, bytes-length}
 use Rattle.records.proofs.Walks.{next-walk, walk-entered}
 use Rattle.storage.specs.Words.{wordAt}
 use Rattle.storage.specs.Tables.{prefixRow, prefixesPart, headPart, tablesIn, tablesOf}

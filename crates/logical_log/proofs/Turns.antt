@@ -16,7 +16,7 @@ use Rattle.model.specs.History.{Finding}
 use Rattle.records.specs.declared.walk.ShownEntry.{ShownEntry}
 use Rattle.records.specs.Places.{Walk, firstEntry, indexAt, termAt, lengthAt, contentAt, nextAt, shownAt, entriesAt}
 use Rattle.records.specs.Values.{Here, shownEntry}
-use Rattle.records.proofs.Widths.{bytes-length}
+use Rattle.bit_fields.proofs.Widths.{bytes-length}
 use Rattle.records.proofs.Walks.{entries-next, entries-none, next-walk, walk-entered, here, entry-content}
 use Rattle.model.proofs.Tests.{tf, cond-cases, cond-true, cond-false}
 use Rattle.storage.specs.Tables.{PrefixRow, prefixRow}

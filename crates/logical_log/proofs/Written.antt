@@ -14,7 +14,7 @@ use Rattle.model.specs.Entry.{Entry}
 use Rattle.model.specs.Record.{frontFrom}
 use Rattle.records.specs.Places.{Walk, lengthAt, contentAt, entriesAt}
 use Rattle.records.specs.Values.{Here, shownEntry}
-use Rattle.records.proofs.Widths.{bytes-length}
+use Rattle.bit_fields.proofs.Widths.{bytes-length}
 use Rattle.records.proofs.Walks.{next-walk, walk-entered, here}
 use Rattle.model.proofs.Tests.{either, cond-cases, cond-true, cond-false}
 use Rattle.records.specs.declared.walk.ShownEntry.{ShownEntry}

@@ -13,7 +13,7 @@ use Rattle.model.specs.Answer.{isAccepted, answer}
 use Rattle.model.specs.Ledger.{Ledger, fed}
 use Rattle.model.specs.Lists.{findingList, leaderList}
 use Rattle.model.proofs.Bridge.{Machine, stateFrom, toldFrom}
-use Rattle.records.specs.declared.bits.Fault.{Fault}
+use Rattle.bit_fields.specs.declared.bits.Fault.{Fault}
 use Rattle.storage.specs.Decode.{decode}
 use Rattle.storage.specs.Fresh.{freshHistory}
 use Rattle.storage.proofs.Meanings.{Stands, fresh-stands}

@@ -11,7 +11,7 @@ use Rattle.model.specs.Sizes.{Bytes}
 use Rattle.model.specs.Refusal.{Refusal, bitsMissing, filling, outOfLimit, notAbove}
 use Rattle.model.specs.Record.{Shown, Row, Record, view, commit, terms, election, check, rows}
 use Rattle.model.specs.Reading.{Reading, readable, unreadable, Part, got, fault, Reader, onward, fieldAt, bytesAt, field, limited, yesNo, content, governed, entryIndex, rowNode, many, shown, configuration, row, viewFields, commitFields, termsFields, electionFields, rowsFields, fieldsOf, filled, finish, recordFields, read}
-use Rattle.records.specs.Answers.{refusalOf}
+use Rattle.bit_fields.specs.Answers.{refusalOf}
 use Rattle.records.specs.Heads.{faultOf, readingOf, headOf, Told}
 use Rattle.records.proofs.Readable.{view-read, rows-read, told}
 

@@ -13,11 +13,12 @@ use Rattle.model.specs.Sizes.{Bytes}
 use Rattle.model.specs.Refusal.{Refusal, bitsMissing, outOfLimit, notAbove}
 use Rattle.model.specs.Record.{Shown, Configuration, Row}
 use Rattle.model.specs.Reading.{fieldAt, bytesAt, Part, got, fault, Reader, onward, require, return, field, limited, governed, yesNo, content, entryIndex, rowNode, shown, configuration, row}
-use Rattle.records.proofs.Widths.{field-lt}
-use Rattle.records.specs.declared.bits.Number.{Number}
-use Rattle.records.specs.declared.bits.Fault.{Fault}
+use Rattle.bit_fields.proofs.Widths.{field-lt}
+use Rattle.bit_fields.specs.declared.bits.Number.{Number}
+use Rattle.bit_fields.specs.declared.bits.Fault.{Fault}
 use Rattle.records.specs.declared.scan.Item.{Item}
-use Rattle.records.specs.Answers.{refusalOf, numberPart, scanPart}
+use Rattle.bit_fields.specs.Answers.{refusalOf, numberPart}
+use Rattle.records.specs.Scans.{scanPart}
 use Rattle.records.specs.Places.{indexAt, termAt, lengthAt, contentAt, nextAt, shownAt, configurationAt, rowAt, afterRow}
 
 -- ---- chains

@@ -7,9 +7,9 @@ use Rattle.model.specs.Sizes.{Bytes}
 use Rattle.model.specs.Refusal.{filling}
 use Rattle.model.specs.Record.{Record}
 use Rattle.model.specs.Reading.{readable, unreadable, got, filled, finish}
-use Rattle.records.specs.declared.bits.Fault.{Fault}
+use Rattle.bit_fields.specs.declared.bits.Fault.{Fault}
 use Rattle.records.specs.declared.head.Head.{Head}
-use Rattle.records.specs.Answers.{refusalOf}
+use Rattle.bit_fields.specs.Answers.{refusalOf}
 use Rattle.records.specs.Places.{shownAt, nextAt, rowAt, afterRow, firstEntry, firstRow}
 use Rattle.records.specs.Heads.{readingOf, finished, headOf, faultOf}
 use Rattle.records.proofs.Listed.{items-length}

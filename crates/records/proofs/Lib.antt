@@ -1,5 +1,3 @@
-pub mod Widths
-pub mod Readers
 pub mod Given
 pub mod Listed
 pub mod Walks

@@ -9,10 +9,11 @@ use lib.ListN.{length}
 use Rattle.model.specs.Sizes.{Bytes}
 use Rattle.model.specs.Refusal.{Refusal}
 use Rattle.model.specs.Reading.{Part, got, fault, Reader, onward, return, many}
-use Rattle.records.specs.declared.bits.Fault.{Fault}
+use Rattle.bit_fields.specs.declared.bits.Fault.{Fault}
 use Rattle.records.specs.declared.scan.Done.{Done}
 use Rattle.records.specs.declared.scan.End.{End}
-use Rattle.records.specs.Answers.{refusalOf, keyed, ended, endPart, donePart}
+use Rattle.bit_fields.specs.Answers.{refusalOf}
+use Rattle.records.specs.Scans.{keyed, ended, endPart, donePart}
 use Rattle.records.specs.Places.{itemsAt, endAt, Listed}
 use Rattle.records.proofs.Given.{fault≢got, got-same, went}
 

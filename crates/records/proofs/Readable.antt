@@ -18,7 +18,7 @@ use Rattle.units.specs.declared.NodeId.{NodeId}
 use Rattle.records.specs.declared.head.Head.{Head}
 use Rattle.records.specs.Heads.{readingOf, headOf, Within, Told}
 use Rattle.records.specs.Places.{indexOf, nodeOf, shownAt, nextAt, entriesAt, rowAt, afterRow, rowsAt, Walk, RowWalk, firstEntry, firstRow}
-use Rattle.records.proofs.Widths.{field-lt}
+use Rattle.bit_fields.proofs.Widths.{field-lt}
 use Rattle.records.proofs.Given.{fault≢got, got-same, went, field-is, field-below, limited-is, governed-within}
 use Rattle.records.proofs.Listed.{many-is, walk-read}
 use Rattle.records.proofs.Heads.{head-back}

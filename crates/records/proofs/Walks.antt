@@ -10,10 +10,10 @@ use Rattle.model.specs.Sizes.{Bytes}
 use Rattle.model.specs.Record.{Shown, Row, lastFrom}
 use Rattle.model.specs.Reading.{got, many, shown, row}
 use Rattle.records.specs.declared.scan.End.{End}
-use Rattle.records.specs.Answers.{keyed, ended, endPart}
+use Rattle.records.specs.Scans.{keyed, ended, endPart}
 use Rattle.records.specs.Places.{indexOf, nodeOf, shownAt, nextAt, entriesAt, indexAt, lengthAt, contentAt, rowAt, afterRow, rowsAt, Walk, RowWalk}
 use Rattle.records.specs.Values.{shownEntry, Here, RowHere}
-use Rattle.records.proofs.Widths.{field-lt, bytes-length}
+use Rattle.bit_fields.proofs.Widths.{field-lt, bytes-length}
 use Rattle.records.proofs.Given.{Entered, Rowed, shown-is, row-is}
 use Rattle.records.proofs.Listed.{Stands, keyed-is, many-is, walk-item, walk-next, items-none, items-next, items-length}
 

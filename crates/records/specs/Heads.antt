@@ -8,9 +8,9 @@ use Rattle.model.specs.Sizes.{Bytes}
 use Rattle.model.specs.Refusal.{Refusal, unknownKind, bitsMissing, filling, outOfLimit, notAbove, prefixesFull, findingsFull, oldExceedsNew, lengthExceedsFront, certificatesFull, numberTaken}
 use Rattle.model.specs.Record.{Record, view, commit, terms, election, check, rows}
 use Rattle.model.specs.Reading.{Reader, Reading, readable, unreadable, filled, finish, read}
-use Rattle.records.specs.declared.bits.Fault.{Fault}
+use Rattle.bit_fields.specs.declared.bits.Fault.{Fault}
 use Rattle.records.specs.declared.head.Head.{Head}
-use Rattle.records.specs.Answers.{refusalOf}
+use Rattle.bit_fields.specs.Answers.{refusalOf}
 use Rattle.records.specs.Places.{entriesAt, rowsAt, firstEntry, firstRow}
 
 -- the record that an answer stands for: the entries and rows are those in the bytes

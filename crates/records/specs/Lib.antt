@@ -1,4 +1,4 @@
-pub mod Answers
+pub mod Scans
 pub mod Places
 pub mod Heads
 pub mod Values

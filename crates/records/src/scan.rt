@@ -3,18 +3,18 @@
 ghost use mathlib.Core.Path.{_≡_};
 ghost use Prim.Native.Nat.{ℕ, _+_, _*_, _^_, _≤_};
 ghost use Rattle.model.specs.Reading as reading;
-ghost use Rattle.records.specs.Answers.{keyed, ended, scanPart, endPart, donePart};
+ghost use Rattle.records.specs.Scans.{keyed, ended, scanPart, endPart, donePart};
 ghost use Rattle.records.specs.Places.{indexOf, nodeOf};
-use crate::bits::Fault;
-use crate::bits::Number;
-use crate::bits::holds;
-use crate::fields::Flag;
-use crate::fields::entry_index;
-use crate::fields::governed;
-use crate::fields::index;
-use crate::fields::limited;
-use crate::fields::row_node;
-use crate::fields::yes_no;
+use bit_fields::bits::Fault;
+use bit_fields::bits::Number;
+use bit_fields::bits::holds;
+use bit_fields::fields::Flag;
+use bit_fields::fields::entry_index;
+use bit_fields::fields::governed;
+use bit_fields::fields::index;
+use bit_fields::fields::limited;
+use bit_fields::fields::row_node;
+use bit_fields::fields::yes_no;
 
 // An item of a list: its key and the bit after it, or its first fault.
 pub enum Item {

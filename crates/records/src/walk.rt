@@ -7,7 +7,7 @@ ghost use Rattle.model.specs.Reading as reading;
 ghost use Rattle.model.specs.Record as model;
 ghost use Rattle.records.specs.Places as places;
 ghost use Rattle.records.specs.Values.{padded, shownEntry, configurationValue, rowValue, Here, RowHere};
-use crate::bits::bits_at;
+use bit_fields::bits::bits_at;
 use units::LogIndex;
 use units::NodeId;
 use units::Term;

@@ -3,8 +3,8 @@
 ghost use Prim.Native.Nat.{ℕ, _≤_};
 ghost use lib.ListN.{length};
 ghost use Rattle.io.specs.Counts.{Counts};
+use bit_fields::bits::fault_number;
 use libc::STDOUT_FILENO;
-use records::bits::fault_number;
 use records::head::Head;
 use records::head::read;
 

@@ -6,7 +6,7 @@ use borrow.Author.Needs.{needs}
 use Rattle.model.specs.Reading.{many, shown, viewFields}
 use Rattle.records.specs.Places.{indexOf}
 use Rattle.records.proofs.Heads.{finish-head}
-use Rattle.records.proofs.Readers.{limited-within}
+use Rattle.bit_fields.proofs.Readers.{limited-within}
 use Rattle.records.proofs.Walks.{entries-scanned}
 use Rattle.records.proofs.Listed.{end-not}
 use Rattle.records.proofs.Given.{number-is, field-below, limited-is}

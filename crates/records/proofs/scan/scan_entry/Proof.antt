@@ -7,7 +7,7 @@ use borrow.Author.Needs.{needs}
 use borrow.Author.Tests.{leb-true, leb-false, not-true, not-false}
 use Rattle.model.specs.Reading.{shown}
 use Rattle.records.proofs.Given.{number-is, limited-is}
-use Rattle.records.proofs.Readers.{field-got, field-missing, content-got, content-missing}
+use Rattle.bit_fields.proofs.Readers.{field-got, field-missing, content-got, content-missing}
 use Rattle.records.proofs.scan.scan_entry.Statement.{statement}
 use Rattle.records.proofs.scan.scan_entry.Tie as tie
 

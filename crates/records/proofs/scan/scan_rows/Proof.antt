@@ -6,7 +6,7 @@ use native.Mathlib.Omega.{arith}
 use borrow.Author.Needs.{needs}
 use Rattle.model.specs.Reading.{many, row}
 use Rattle.records.specs.Places.{nodeOf}
-use Rattle.records.specs.Answers.{ended}
+use Rattle.records.specs.Scans.{ended}
 use Rattle.records.proofs.Walks.{row-near}
 use Rattle.records.proofs.Given.{item-is, item-not}
 use Rattle.records.proofs.Listed.{scan-end, scan-next, scan-stop}

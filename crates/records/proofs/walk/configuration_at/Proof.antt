@@ -3,7 +3,7 @@
 use Prim.Native.Nat.{_+_}
 use native.Mathlib.Omega.{arith}
 use borrow.Author.Needs.{needs}
-use Rattle.records.proofs.Widths.{field-lt}
+use Rattle.bit_fields.proofs.Widths.{field-lt}
 use Rattle.records.proofs.walk.configuration_at.Statement.{statement}
 use Rattle.records.proofs.walk.configuration_at.Tie as tie
 

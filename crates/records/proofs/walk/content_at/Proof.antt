@@ -7,7 +7,7 @@ use borrow.Author.Needs.{needs}
 use lib.ListN.{getD}
 use Rattle.model.specs.Reading.{bytesAt}
 use Rattle.records.specs.Values.{padded}
-use Rattle.records.proofs.Widths.{window-at, padded-more}
+use Rattle.bit_fields.proofs.Widths.{window-at, padded-more}
 use Rattle.records.proofs.walk.content_at.Statement.{statement}
 use Rattle.records.proofs.walk.content_at.Tie as tie
 

@@ -2,7 +2,7 @@
 -- Assumes nothing.
 use native.Mathlib.Omega.{arith}
 use borrow.Author.Needs.{needs}
-use Rattle.records.proofs.Widths.{head-parts}
+use Rattle.bit_fields.proofs.Widths.{head-parts}
 use Rattle.records.proofs.walk.entry_at.Statement.{statement}
 use Rattle.records.proofs.walk.entry_at.Tie as tie
 

@@ -2,7 +2,7 @@
 -- Assumes nothing.
 use native.Mathlib.Omega.{arith}
 use borrow.Author.Needs.{needs}
-use Rattle.records.proofs.Widths.{field-lt}
+use Rattle.bit_fields.proofs.Widths.{field-lt}
 use Rattle.records.proofs.walk.row_at.Statement.{statement}
 use Rattle.records.proofs.walk.row_at.Tie as tie
 

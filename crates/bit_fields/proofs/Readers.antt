@@ -1,0 +1,95 @@
+-- Laws of the model's readers, in the form that the code's exits want: what a reader gives from what was read and tested.
+-- Assumes nothing.
+use Prim.Native.Nat.{ℕ, _+_, _-_, _*_, _/_, _%_, _≤_, _<_}
+use mathlib.Core.Path.{_≡_, refl, sym, _∙_}
+use mathlib.Core.Bool.{Bool, true, false, cond}
+use native.Mathlib.Omega.{arith}
+use native.Mathlib.Decide.{decLe}
+use borrow.Author.Tests.{le-leb, lt-leb, lt-ltb, le-ltb}
+use lib.ListN.{length}
+use lib.Dec.{leb, eqb}
+use Rattle.model.specs.Sizes.{Bytes}
+use Rattle.model.specs.Refusal.{bitsMissing, outOfLimit}
+use Rattle.model.specs.Reading.{fieldAt, bytesAt, content, Part, got, fault, field, limited, filled}
+use Rattle.bit_fields.specs.declared.bits.Number.{Number}
+use Rattle.bit_fields.specs.declared.bits.Fault.{Fault}
+use Rattle.bit_fields.specs.Answers.{numberPart, atMost}
+
+-- ---- a field
+
+module _ (s : Bytes) (k w : ℕ) where
+  pub field-got : (v : ℕ) → k + w ≤ 8 * length s → v ≡ fieldAt s k w → field w s k ≡ got v (k + w)
+  unfolding field
+  field-got v h e = rw (le-leb (k + w) (8 * length s) h, e)
+
+  pub field-missing : 8 * length s < k + w → field w s k ≡ fault bitsMissing
+  unfolding field
+  field-missing h = rw (lt-leb (k + w) (8 * length s) h)
+
+-- ---- a field with its limit
+
+at-most : (b : Bool) (v k : ℕ)
+    → cond {A = Part ℕ} b (got v k) (fault outOfLimit)
+    ≡ numberPart (cond b (Number.Is v) (Number.Not Fault.OutOfLimit)) k
+at-most true v k = refl
+at-most false v k = refl
+
+module _ (s : Bytes) (k w m : ℕ) where
+  limited-most : (n : Number) → field w s k ≡ numberPart n (k + w) → limited w m s k ≡ numberPart (atMost m n) (k + w)
+  unfolding limited
+  limited-most (Number.Is v) e = rw e (at-most (leb v m) v (k + w))
+  limited-most (Number.Not f) e = rw e
+
+  -- what was read, and then held to its limit
+  pub limited-within : (n : Number) {r : Number} → field w s k ≡ numberPart n (k + w) → r ≡ atMost m n
+      → limited w m s k ≡ numberPart r (k + w)
+  limited-within n e q = rw q (limited-most n e)
+
+-- ---- content
+
+module _ (s : Bytes) (k n : ℕ) where
+  pub content-got : k + 8 * n ≤ 8 * length s → content n s k ≡ got (bytesAt s k n) (k + 8 * n)
+  unfolding content
+  content-got h = rw (le-leb (k + 8 * n) (8 * length s) h)
+
+  pub content-missing : 8 * length s < k + 8 * n → content n s k ≡ fault bitsMissing
+  unfolding content
+  content-missing h = rw (lt-leb (k + 8 * n) (8 * length s) h)
+
+-- two tests of an order say the same
+pub same-leb : (a b c d : ℕ) → (a ≤ b → c ≤ d) → (c ≤ d → a ≤ b) → leb a b ≡ leb c d
+same-leb a b c d f g = go (decLe a b)
+  where
+    go : Dec (a ≤ b) → leb a b ≡ leb c d
+    go (yes h) = le-leb a b h ∙ sym (le-leb c d (f h))
+    go (no h) =
+        let l : c ≤ d → ⊥ = λ m. h (g m) in
+        lt-leb a b (omega arith) ∙ sym (lt-leb c d (omega arith))
+
+-- ---- the filling
+
+module _ (s : Bytes) (k : ℕ) where
+  -- no bit is left
+  pub filled-none : 8 * length s ≤ k → true ≡ filled s k
+  unfolding filled fieldAt
+  filled-none h = let e : 8 * length s - k ≡ 0 = omega arith in rw e
+
+  -- a further byte
+  pub filled-further : k + 8 ≤ 8 * length s → false ≡ filled s k
+  unfolding filled
+  filled-further h = rw (le-ltb (8 * length s - k) 8 (omega arith))
+
+  -- the w bits of the filling
+  pub filled-rest : (w v : ℕ) → 8 * length s ≡ k + w → w < 8 → v ≡ fieldAt s k w → eqb v 0 ≡ filled s k
+  unfolding filled
+  filled-rest w v e h q = let f : 8 * length s - k ≡ w = omega arith in rw (f, lt-ltb w 8 h, q)
+
+-- the code counts in bytes
+pub holds-bytes : (s : Bytes) (k w : ℕ) → leb (k / 8 + (k % 8 + w + 7) / 8) (length s) ≡ leb (k + w) (8 * length s)
+holds-bytes s k w = same-leb _ _ _ _ here there
+  where
+    here : k / 8 + (k % 8 + w + 7) / 8 ≤ length s → k + w ≤ 8 * length s
+    here h = omega arith
+
+    there : k + w ≤ 8 * length s → k / 8 + (k % 8 + w + 7) / 8 ≤ length s
+    there h = omega arith

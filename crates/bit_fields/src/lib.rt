@@ -1,0 +1,4 @@
+// The bits of a record and its fields, each with its faults. Document 01, "Record bits", decides. Nothing is asked of the bytes.
+pub mod bits; // bits.rt: the number in some bits, and a field that may be missing
+pub mod fields; // fields.rt: each field of a record, with its faults
+pub mod reader; // reader.rt: the record with its next bit, and two fields in a row
