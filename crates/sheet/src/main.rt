@@ -1,22 +1,16 @@
 // The sheet of a recording: records from standard input, each behind a 16-bit byte length, high byte first; then the lists of
-// the history. A thin program over `history` and `lists`: what it prints is put together by proved functions (`decimal`, `lines`,
-// `split`); the functions here that read and write are proved to be safe and to end.
-mod closing;
-mod decimal;
-mod lines;
-mod split;
-mod taking;
-
+// the history. What it prints is put together by `sheet_text`, whose functions are proved to give it; the functions here, which
+// read and write, are proved to be safe and to end.
 ghost use mathlib.Core.Path.{_≡_};
 ghost use Prim.Native.Nat.{_+_, _≤_};
 ghost use lib.ListN.{length};
-use closing::put_lists;
 use libc::STDOUT_FILENO;
-use split::move_down;
+use sheet_text::closing::put_lists;
+use sheet_text::split::move_down;
+use sheet_text::taking::SOME;
+use sheet_text::taking::put_cut;
+use sheet_text::taking::take_some;
 use storage::layout::part;
-use taking::SOME;
-use taking::put_cut;
-use taking::take_some;
 
 // No recording has so many records, and none takes so many blocks.
 const LAST: u64 = 18446744073709551000;
