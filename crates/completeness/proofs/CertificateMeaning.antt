@@ -20,13 +20,14 @@ use Rattle.model.proofs.Tests.{either, no-begins}
 use Rattle.storage.specs.Words.{wordAt}
 use Rattle.storage.specs.Tables.{CertificateRow, termRow, termsPart}
 use Rattle.storage.specs.Decode.{prefixAt, certificateIn}
-use Rattle.storage.proofs.Meanings.{Stands, committed-stored, terms-stored}
+use Rattle.storage.proofs.Meanings.{Stands, committed-stored, terms-stored, end-is}
 use Rattle.commit.specs.Prefix.{agreeIn}
 use Rattle.commit.proofs.PrefixLaws.{agree-at, agree-beyond}
-use Rattle.completeness.specs.Relevance.{lastRelevant, committedEnd, recordedEnd, relevantIn}
+use Rattle.storage.specs.Values.{committedEnd}
+use Rattle.completeness.specs.Relevance.{lastRelevant, recordedEnd, relevantIn}
 use Rattle.completeness.specs.Judgement.{lacksThrough, lackingOf, lackingAt, lackingIn, flagIn, lackingsIn, flagsIn}
 use Rattle.completeness.proofs.RelevanceLaws.{last-below, at-most}
-use Rattle.completeness.proofs.Read.{right, end-is}
+use Rattle.storage.proofs.WellFormed.{formed}
 
 -- ---- tests
 
@@ -81,7 +82,7 @@ module _ (h : Bytes) (x : History) (s : Stands h x) where
   relevant-within c =
       let a = at-most (termRow (termsPart h)) (c .mark) (c .term) (min (committedEnd h) (wordAt h 2 2)) in
       let b = end-is h x s in
-      let d = right h x s .terms in
+      let d = formed h (s .right) .terms in
       (omega arith, omega arith)
 
   -- ---- the log
@@ -89,7 +90,7 @@ module _ (h : Bytes) (x : History) (s : Stands h x) where
   module _ (c : CertificateRow) (i : ℕ) (log : c .log ≤ wordAt h 0 2) (within : i ≤ length (x .committed)) where
     compared : agreeIn h (c .log) (wordAt h 4 2) i ≡ begins (prefixAt (x .prefixes) (c .log)) (take i (x .committed))
     compared =
-        let l = right h x s .committed in
+        let l = formed h (s .right) .committed in
         let e = committed-stored h x s in
         ⊎-elim
         (λ b. let z = ltb-true _ i b in

@@ -14,7 +14,7 @@ use Rattle.storage.proofs.WordLaws.{put-length}
 use Rattle.storage.proofs.PartLaws.{put-whole}
 use Rattle.logical_log.specs.Violation.{heldAll, bytesAll}
 use Rattle.completeness.specs.declared.leader_completeness.Checked.{Checked}
-use Rattle.completeness.specs.Relevance.{committedEnd}
+use Rattle.storage.specs.Values.{committedEnd}
 use Rattle.completeness.specs.Judgement.{lackingsIn, certificatesOf, JudgedAll}
 use Rattle.completeness.specs.Marks.{marksMoved}
 use Rattle.completeness.specs.Check.{valueOf, checkHeld, checkTable, checkWritten, checkAnswer, checkBytes, CheckedAs}

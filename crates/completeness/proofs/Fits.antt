@@ -19,7 +19,7 @@ use Rattle.storage.proofs.PartLaws.{part-length, part-at}
 use Rattle.storage.proofs.DecodeLaws.{CertificateNamed}
 use Rattle.storage.proofs.Meanings.{Stands, certificates-stored}
 use Rattle.completeness.specs.Judgement.{certificatesOf}
-use Rattle.completeness.proofs.Read.{right}
+use Rattle.storage.proofs.WellFormed.{formed}
 
 -- the term of every certificate is one of 32 bits
 abbrev pub TermsFit : History → Type 0
@@ -70,14 +70,14 @@ module _ (h : Bytes) (x : History) (s : Stands h x) where
       let held : List·Memᴰ (certificateIn (x .prefixes) c) (x .certificates) =
       subst (List·Memᴰ (certificateIn (x .prefixes) c)) (certificates-stored h x s) (Memᴰ·map (certificateIn (x .prefixes)) m) in
       record {
-        named = subst (CertificateNamed (wordAt h 0 2)) (sym (r .2)) (right h x s .certificate (r .0) (let z = r .1 in omega arith));
+        named = subst (CertificateNamed (wordAt h 0 2)) (sym (r .2)) (formed h (s .right) .certificate (r .0) (let z = r .1 in omega arith));
         term = f (certificateIn (x .prefixes) c) held;
       }
 
   -- of bytes, the terms fit
   pub octets-fit : Octets h → TermsFit x
   octets-fit o d m =
-      let l = right h x s .long in
+      let l = formed h (s .right) .long in
       let b : Octets (certificatesPart h) = part-octets h 1417 704 (omega arith) o in
       let a : (c : CertificateRow) × List·Memᴰ c (certificatesOf h) × (certificateIn (x .prefixes) c ≡ d) =
       Memᴰ·of-map (certificateIn (x .prefixes)) (certificatesOf h) (subst (List·Memᴰ d) (sym (certificates-stored h x s)) m) in

@@ -2,7 +2,6 @@ pub mod RelevanceLaws
 pub mod JudgementLaws
 pub mod MarkLaws
 pub mod CheckLaws
-pub mod Read
 pub mod Fits
 pub mod CertificateMeaning
 pub mod MarkMeaning

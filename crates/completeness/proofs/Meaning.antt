@@ -24,15 +24,15 @@ use Rattle.storage.specs.Tables.{CertificateRow, certificateRow, certificatesPa
 use Rattle.storage.specs.Rules.{findingRight}
 use Rattle.storage.proofs.ListLaws.{tabulate-length}
 use Rattle.storage.proofs.PartLaws.{part-length}
-use Rattle.storage.proofs.Meanings.{Stands, is, withElections, withNoted, certificates-stored, findings-stored, findings-taken, findings-right, noted-right}
+use Rattle.storage.proofs.Meanings.{Stands, is, withElections, withNoted, certificates-stored, findings-stored, findings-taken, findings-right, noted-right, end-is}
 use Rattle.storage.proofs.Answered.{Means, accepts, refuses}
 use Rattle.logical_log.proofs.ViolationLaws.{Holds, all-hold, all-length}
 use Rattle.completeness.specs.declared.leader_completeness.Checked.{Checked}
-use Rattle.completeness.specs.Relevance.{committedEnd}
+use Rattle.storage.specs.Values.{committedEnd}
 use Rattle.completeness.specs.Judgement.{lackingsIn, flagsIn, certificatesOf}
 use Rattle.completeness.specs.Marks.{marksMoved}
 use Rattle.completeness.specs.Check.{checkReply, valueOf, checkHeld, checkTable, checkWritten, checkAnswer, checkBytes, CheckedAs}
-use Rattle.completeness.proofs.Read.{right, end-is, end-small}
+use Rattle.storage.proofs.WellFormed.{formed, end-small}
 use Rattle.completeness.proofs.Fits.{TermsFit, Stored, stored}
 use Rattle.completeness.proofs.CertificateMeaning.{lackings-mean, flags-mean}
 use Rattle.completeness.proofs.MarkMeaning.{raised, marks-mean}
@@ -52,7 +52,7 @@ module _ (h : Bytes) (x : History) (s : Stands h x) (f : TermsFit x) where
       (lackings-mean h x s (certificatesOf h) (λ c m. rows c m .named .log) ∙ ap (lackings (x .committed) (x .terms)) (certificates-stored h x s))
 
   table-long : length (findingsPart h) ≡ 1024
-  table-long = part-length h 2121 1024 (let l = right h x s .long in omega arith)
+  table-long = part-length h 2121 1024 (let l = formed h (s .right) .long in omega arith)
 
   -- the copy of the findings holds the model's, or there are too many
   holds : Holds (checkTable h) (checkHeld h) (checkFindings x)
@@ -60,7 +60,7 @@ module _ (h : Bytes) (x : History) (s : Stands h x) (f : TermsFit x) where
   holds =
       subst (Holds (checkTable h) (checkHeld h)) found
       (all-hold (lackingsIn h (certificatesOf h)) (findingsPart h) (wordAt h 7 1) (x .findings) table-long
-      (λ g m. fitting g (notes-fit g m)) (inl (right h x s .findings, findings-stored h x s)))
+      (λ g m. fitting g (notes-fit g m)) (inl (formed h (s .right) .findings, findings-stored h x s)))
 
   flag : valueOf (flagsIn h false (certificatesOf h)) ≡ checkValue x
   unfolding checkValue
@@ -76,7 +76,7 @@ module _ (h : Bytes) (x : History) (s : Stands h x) (f : TermsFit x) where
       (tabulate-length (certificateRow (certificatesPart h)) 0 (wordAt h 6 1))
       (subst (λ (cs : List Certificate). Stands (marksMoved h (committedEnd h) 0 (length (certificatesOf h))) (withElections x cs))
       (λ i. map (raised (end-is h x s i)) (certificates-stored h x s i))
-      (marks-mean (certificatesOf h) [] h x s (committedEnd h) (end-small h x s) (sym (certificates-stored h x s))))
+      (marks-mean (certificatesOf h) [] h x s (committedEnd h) (end-small h (s .right)) (sym (certificates-stored h x s))))
 
   found-right : every findingRight (checkFindings x) ≡ true
   found-right =

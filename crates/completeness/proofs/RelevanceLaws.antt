@@ -16,10 +16,10 @@ use Rattle.model.proofs.Tests.{tf, cond-cases, cond-true, cond-false}
 use Rattle.model.specs.Sizes.{Bytes}
 use Rattle.storage.specs.Lists.{tabulate}
 use Rattle.storage.specs.Words.{wordAt}
-use Rattle.storage.specs.Tables.{CertificateRow, termRow, termsPart, prefixesPart}
-use Rattle.storage.specs.Values.{numberIndex}
+use Rattle.storage.specs.Tables.{CertificateRow, termRow, termsPart}
+use Rattle.storage.specs.Values.{committedEnd}
 use Rattle.storage.proofs.ListLaws.{tabulate-length, tabulate-snoc}
-use Rattle.completeness.specs.Relevance.{lastRelevant, committedEnd, recordedEnd, relevantIn}
+use Rattle.completeness.specs.Relevance.{lastRelevant, recordedEnd, relevantIn}
 
 -- ---- the turns of the loop
 
@@ -143,10 +143,6 @@ module _ (mark end t : ℕ) where
 -- ---- what is read
 
 module _ (h : Bytes) where
-  pub end-read : (p : Bytes) (n r : ℕ) → p ≡ prefixesPart h → n ≡ wordAt h 4 2 → r ≡ numberIndex p n → r ≡ committedEnd h
-  unfolding committedEnd
-  end-read p n r a b e = e ∙ (λ i. numberIndex (a i) (b i))
-
   module _ (a b : ℕ) (ea : a ≡ committedEnd h) (eb : b ≡ wordAt h 2 2) where
     lesser : min a b ≡ recordedEnd h
     unfolding recordedEnd

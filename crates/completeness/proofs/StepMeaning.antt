@@ -13,12 +13,13 @@ use Rattle.model.specs.Check.{relevant, lacking, moved}
 use Rattle.storage.specs.Words.{wordAt}
 use Rattle.storage.specs.Tables.{CertificateRow, certificateRow, certificatesPart}
 use Rattle.storage.specs.Decode.{certificateIn}
-use Rattle.storage.proofs.Meanings.{Stands, withElections}
+use Rattle.storage.proofs.Meanings.{Stands, withElections, end-is}
 use Rattle.logical_log.proofs.ViolationLaws.{Holds, all-hold}
-use Rattle.completeness.specs.Relevance.{committedEnd, relevantIn}
+use Rattle.storage.specs.Values.{committedEnd}
+use Rattle.completeness.specs.Relevance.{relevantIn}
 use Rattle.completeness.specs.Judgement.{flagIn, lackingIn, JudgedAs}
 use Rattle.completeness.specs.Marks.{markMoved}
-use Rattle.completeness.proofs.Read.{end-is, end-small}
+use Rattle.storage.proofs.WellFormed.{end-small}
 use Rattle.completeness.proofs.Fits.{Stored}
 use Rattle.completeness.proofs.CertificateMeaning.{positive, relevant-means, lacking-means}
 use Rattle.completeness.proofs.MarkMeaning.{raised, mark-means}
@@ -58,4 +59,4 @@ module _ (h : Bytes) (x : History) (s : Stands h x) where
   move-means k l =
       subst (λ (n : ℕ). Stands (markMoved h k (committedEnd h)) (withElections x (set (x .certificates) k (raised n (certificateIn (x .prefixes) (certificateRow (certificatesPart h) k))))))
       (end-is h x s)
-      (mark-means h x s (committedEnd h) (end-small h x s) k l)
+      (mark-means h x s (committedEnd h) (end-small h (s .right)) k l)

@@ -11,7 +11,7 @@ use Rattle.model.specs.Answer.{Answer, accepted, refused}
 use Rattle.storage.specs.Words.{wordAt, wordBytes, putBytes}
 use Rattle.storage.specs.Tables.{findingsPart}
 use Rattle.logical_log.specs.Violation.{heldAll, bytesAll}
-use Rattle.completeness.specs.Relevance.{committedEnd}
+use Rattle.storage.specs.Values.{committedEnd}
 use Rattle.completeness.specs.Judgement.{lackingsIn, flagsIn, certificatesOf}
 use Rattle.completeness.specs.Marks.{marksMoved}
 use Rattle.completeness.specs.declared.leader_completeness.Checked.{Checked}

@@ -5,8 +5,8 @@ use mathlib.Core.Bool.{cond}
 use lib.Dec.{ltb}
 use Rattle.model.specs.Sizes.{Bytes}
 use Rattle.storage.specs.Words.{wordAt}
-use Rattle.storage.specs.Tables.{CertificateRow, termRow, termsPart, prefixesPart}
-use Rattle.storage.specs.Values.{numberIndex}
+use Rattle.storage.specs.Tables.{CertificateRow, termRow, termsPart}
+use Rattle.storage.specs.Values.{committedEnd}
 
 -- the last of the indexes up to the given one that is after the mark and has a term below t, 0 where none has. The term of
 -- index k + 1 is `row k`.
@@ -14,11 +14,6 @@ unfoldable pub lastRelevant : (ℕ → ℕ) → ℕ → ℕ → ℕ → ℕ
 lastRelevant row mark t zero = 0
 lastRelevant row mark t (suc k) =
     cond (ltb mark (suc k)) (cond (ltb (row k) t) (suc k) (lastRelevant row mark t k)) 0
-
--- the end of the committed prefix
-unfoldable pub committedEnd : Bytes → ℕ
-unfolding wordAt numberIndex
-committedEnd h = numberIndex (prefixesPart h) (wordAt h 4 2)
 
 -- the last committed index with a recorded term: an absent one is not relevant
 unfoldable pub recordedEnd : Bytes → ℕ

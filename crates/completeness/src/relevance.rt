@@ -7,16 +7,13 @@ ghost use lib.ListN.{length};
 ghost use Rattle.storage.specs.Tables.{termRow};
 ghost use Rattle.storage.specs.Rules.{wellFormed};
 ghost use Rattle.storage.specs.Values.{certificateValue};
-ghost use Rattle.completeness.specs.Relevance.{lastRelevant, committedEnd, recordedEnd, relevantIn};
+ghost use Rattle.completeness.specs.Relevance.{lastRelevant, recordedEnd, relevantIn};
 use storage::certificates::Certificate;
-use storage::head::committed_number;
 use storage::head::term_count;
-use storage::layout::PREFIXES_LENGTH;
-use storage::layout::PREFIXES_START;
 use storage::layout::TERMS_LENGTH;
 use storage::layout::TERMS_START;
 use storage::layout::part;
-use storage::prefixes::index_of;
+use storage::prefixes::committed_end;
 use storage::terms::term_at;
 use units::LogIndex;
 use units::Term;
@@ -34,17 +31,6 @@ fn last_relevant(terms: &[u8], end: usize, mark: LogIndex, term: Term) -> LogInd
         i -= 1;
     }
     LogIndex::ZERO
-}
-
-// The end of the committed prefix.
-pub fn committed_end(history: &[u8]) -> LogIndex
-    requires { ⌜ wellFormed (now history) ≡ true ⌝ }
-    ensures { λ r. ⌜ r .0 ≡ committedEnd (now (history .entry)) ⌝ }
-{
-    LogIndex(index_of(
-        part(history, PREFIXES_START, PREFIXES_LENGTH),
-        committed_number(history),
-    ))
 }
 
 // The last committed index with a recorded term.

@@ -13,9 +13,10 @@ use Rattle.storage.specs.Rules.{wellFormed}
 use Rattle.storage.specs.Decode.{decode}
 use Rattle.storage.specs.Fresh.{FreshMade, madeNumber}
 use Rattle.storage.specs.declared.fresh.Made.{Made}
-use Rattle.storage.proofs.Meanings.{Stands}
+use Rattle.storage.proofs.Meanings.{end-is, Stands}
 use Rattle.lists.specs.Picked.{nth}
-use Rattle.lists.specs.Committed.{lengthIn, ownerIn}
+use Rattle.storage.specs.Values.{committedEnd}
+use Rattle.lists.specs.Committed.{ownerIn}
 use Rattle.lists.specs.declared.findings.FindingAnswer.{FindingAnswer}
 use Rattle.lists.specs.Findings.{findingOf, findingAnswer}
 use Rattle.lists.specs.declared.leaders.LeaderAnswer.{LeaderAnswer}
@@ -24,7 +25,7 @@ use Rattle.lists.specs.declared.unseen.UnseenAnswer.{UnseenAnswer}
 use Rattle.lists.specs.Unseen.{markOf, unseenAnswer}
 use Rattle.lists.specs.declared.unknown.UnknownAnswer.{UnknownAnswer}
 use Rattle.lists.specs.Unknown.{indexOf, unknownAnswer}
-use Rattle.lists.proofs.Meaning.{length-told, owner-told, findings-told, leaders-told, unseen-told, unknown-told}
+use Rattle.lists.proofs.Meaning.{owner-told, findings-told, leaders-told, unseen-told, unknown-told}
 use Rattle.history.specs.declared.exports.FindingReply.{FindingReply}
 use Rattle.history.specs.declared.exports.LeaderReply.{LeaderReply}
 use Rattle.history.specs.declared.exports.UnseenReply.{UnseenReply}
@@ -72,10 +73,10 @@ pub is-broken : {R : Type 0} (h : Bytes) (given broken : R) → wellFormed h ≡
 is-broken h given broken w = sym (cond-false (wellFormed h) given broken w)
 
 module _ (h : Bytes) where
-  pub committed-here : wellFormed h ≡ true → (l o : ℕ) → l ≡ lengthIn h → o ≡ ownerIn h
+  pub committed-here : wellFormed h ≡ true → (l o : ℕ) → l ≡ committedEnd h → o ≡ ownerIn h
       → _≡_ {A = CommittedReply} (record { state = 0; length = l; owner = o }) (committedOut h)
   committed-here w l o el eo =
-      (λ i. record { state = 0; length = (el ∙ length-told h (decode h) (stand h w)) i; owner = (eo ∙ owner-told h (decode h) (stand h w)) i })
+      (λ i. record { state = 0; length = (el ∙ end-is h (decode h) (stand h w)) i; owner = (eo ∙ owner-told h (decode h) (stand h w)) i })
       ∙ sym (cond-true (wellFormed h) _ _ w)
 
 -- a fresh history, by the number of the answer

@@ -6,15 +6,16 @@ use mathlib.Core.Path.{_≡_, sym, _∙_, ap}
 use mathlib.Core.List.{List}
 use Rattle.model.specs.Sizes.{Bytes}
 use Rattle.model.specs.History.{Finding, History}
-use Rattle.model.specs.Lists.{ordered, findingList, leadersOf, leaderList, marksFrom, unseenList, unknownFrom, unknownList, committedLength, committedOwner}
+use Rattle.model.specs.Lists.{ordered, findingList, leadersOf, leaderList, marksFrom, unseenList, unknownFrom, unknownList, committedOwner}
 use Rattle.storage.specs.Words.{wordAt}
 use Rattle.storage.specs.Tables.{nodesPart, termsPart, findingRows, findingsPart, tablesIn}
 use Rattle.storage.specs.Decode.{decode}
-use Rattle.storage.proofs.Meanings.{Stands, owner-read, committed-index, findings-stored}
+use Rattle.storage.specs.Values.{committedEnd}
+use Rattle.storage.proofs.Meanings.{Stands, owner-read, end-is, findings-stored}
 use Rattle.lists.specs.declared.unseen.UnseenAnswer.{UnseenAnswer}
 use Rattle.lists.specs.declared.unknown.UnknownAnswer.{UnknownAnswer}
 use Rattle.lists.specs.Picked.{nth}
-use Rattle.lists.specs.Committed.{lengthIn, ownerIn}
+use Rattle.lists.specs.Committed.{ownerIn}
 use Rattle.lists.specs.declared.findings.FindingAnswer.{FindingAnswer}
 use Rattle.lists.specs.Findings.{findingOf, findingAnswer}
 use Rattle.lists.specs.declared.leaders.LeaderAnswer.{LeaderAnswer}
@@ -26,11 +27,7 @@ use Rattle.storage.proofs.ListLaws.{tabulate-length}
 use Rattle.model.specs.Leaders.{ascending}
 use Rattle.lists.proofs.Printed.{marks-picked, known-read, indexes-picked, leaders-all}
 
--- ---- the committed prefix
-
-pub length-told : (h : Bytes) (x : History) → Stands h x → lengthIn h ≡ committedLength x
-unfolding lengthIn
-length-told h x s = committed-index h x s
+-- ---- the committed prefix: its length is `end-is` of `storage`
 
 pub owner-told : (h : Bytes) (x : History) → Stands h x → ownerIn h ≡ committedOwner x
 unfolding ownerIn
@@ -48,8 +45,8 @@ unseen-told h x n s =
 pub unknown-told : (h : Bytes) (x : History) (n : ℕ) → Stands h x → unknownAnswer h n ≡ nth indexOf UnknownAnswer.NoMore (unknownList x) n
 unfolding unknownAnswer indexIn unknownList
 unknown-told h x n s =
-    indexes-picked (isKnown (termsPart h) (wordAt h 2 2)) (decode h .terms) (known-read h) 0 (lengthIn h) n
-    ∙ (λ i. nth indexOf UnknownAnswer.NoMore (unknownFrom (s .decodes i .terms) 0 (length-told h x s i)) n)
+    indexes-picked (isKnown (termsPart h) (wordAt h 2 2)) (decode h .terms) (known-read h) 0 (committedEnd h) n
+    ∙ (λ i. nth indexOf UnknownAnswer.NoMore (unknownFrom (s .decodes i .terms) 0 (end-is h x s i)) n)
 
 -- ---- findings
 

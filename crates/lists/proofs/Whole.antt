@@ -1,14 +1,11 @@
 -- A reader's answer from a lent table is that of the whole history.
 -- Assumes nothing.
-use Prim.Native.Nat.{ℕ, _≤_}
+use Prim.Native.Nat.{ℕ}
 use mathlib.Core.Path.{_≡_, _∙_, ap}
-use mathlib.Core.Bool.{true}
 use Rattle.model.specs.Sizes.{Bytes}
 use Rattle.storage.specs.Words.{wordAt}
 use Rattle.storage.specs.Tables.{findingRows, nodesPart, termsPart, findingsPart}
-use Rattle.storage.specs.Rules.{wellFormed}
-use Rattle.storage.proofs.WellFormed.{formed, formed-index}
-use Rattle.lists.specs.Committed.{lengthIn}
+use Rattle.storage.specs.Values.{committedEnd}
 use Rattle.lists.specs.declared.unseen.UnseenAnswer.{UnseenAnswer}
 use Rattle.lists.specs.declared.unknown.UnknownAnswer.{UnknownAnswer}
 use Rattle.lists.specs.declared.findings.FindingAnswer.{FindingAnswer}
@@ -16,18 +13,11 @@ use Rattle.lists.specs.Findings.{pickOrdered, findingAnswer}
 use Rattle.lists.specs.Unseen.{markIn, unseenAnswer}
 use Rattle.lists.specs.Unknown.{indexIn, unknownAnswer}
 
--- the committed prefix is no longer than an index
-pub committed-few : (h : Bytes) → wellFormed h ≡ true → lengthIn h ≤ 256
-unfolding lengthIn
-committed-few h right = let f = formed h right in formed-index h f (wordAt h 4 2) (f .committed)
-
--- ---- the answer of a lent table is that of the whole
-
 pub unseen-lent : (h t : Bytes) (n : ℕ) {r : UnseenAnswer} → t ≡ nodesPart h → r ≡ markIn t n → r ≡ unseenAnswer h n
 unfolding unseenAnswer
 unseen-lent h t n e q = q ∙ ap (λ (u : Bytes). markIn u n) e
 
-pub unknown-lent : (h t : Bytes) (count m n : ℕ) {r : UnknownAnswer} → t ≡ termsPart h → count ≡ wordAt h 2 2 → m ≡ lengthIn h
+pub unknown-lent : (h t : Bytes) (count m n : ℕ) {r : UnknownAnswer} → t ≡ termsPart h → count ≡ wordAt h 2 2 → m ≡ committedEnd h
     → r ≡ indexIn t count m n → r ≡ unknownAnswer h n
 unfolding unknownAnswer
 unknown-lent h t count m n et ec em q = q ∙ (λ i. indexIn (et i) (ec i) (em i) n)

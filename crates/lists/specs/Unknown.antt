@@ -8,7 +8,7 @@ use Rattle.storage.specs.Words.{wordAt}
 use Rattle.storage.specs.Tables.{termRow, termsPart}
 use Rattle.lists.specs.declared.unknown.UnknownAnswer.{UnknownAnswer}
 use Rattle.lists.specs.Picked.{pickFrom}
-use Rattle.lists.specs.Committed.{lengthIn}
+use Rattle.storage.specs.Values.{committedEnd}
 
 -- the index after i has a term, of the count that are stored
 unfoldable pub isKnown : Bytes → ℕ → ℕ → Bool
@@ -24,5 +24,5 @@ unfolding isKnown pickFrom
 indexIn t count m n = pickFrom (isKnown t count) (λ i. indexOf (i + 1)) UnknownAnswer.NoMore 0 m n
 
 unfoldable pub unknownAnswer : Bytes → ℕ → UnknownAnswer
-unfolding indexIn lengthIn wordAt
-unknownAnswer h n = indexIn (termsPart h) (wordAt h 2 2) (lengthIn h) n
+unfolding indexIn committedEnd wordAt
+unknownAnswer h n = indexIn (termsPart h) (wordAt h 2 2) (committedEnd h) n

@@ -2,21 +2,16 @@
 ghost use mathlib.Core.Path.{_≡_};
 ghost use mathlib.Core.Bool.{true};
 ghost use Rattle.storage.specs.Rules.{wellFormed};
-ghost use Rattle.lists.specs.Committed.{lengthIn, ownerIn};
-use storage::head::committed_number;
+ghost use Rattle.storage.specs.Values.{committedEnd};
+ghost use Rattle.lists.specs.Committed.{ownerIn};
 use storage::head::owner_number;
-use storage::layout::PREFIXES_LENGTH;
-use storage::layout::PREFIXES_START;
-use storage::layout::part;
-use storage::prefixes::index_of;
+use storage::prefixes::committed_end;
 
 pub fn committed_length(history: &[u8]) -> usize
     requires { ⌜ wellFormed (now history) ≡ true ⌝ }
-    ensures { λ r. ⌜ r ≡ lengthIn (now (history .entry)) ⌝ }
+    ensures { λ r. ⌜ r ≡ committedEnd (now (history .entry)) ⌝ }
 {
-    let p = committed_number(history);
-    let prefixes = part(history, PREFIXES_START, PREFIXES_LENGTH);
-    index_of(prefixes, p)
+    committed_end(history).0
 }
 
 pub fn committed_owner(history: &[u8]) -> usize

@@ -17,9 +17,8 @@ use Rattle.storage.specs.Rules.{wellFormed}
 use Rattle.storage.specs.Tables.{NodeRow, nodeRow, nodesPart, findingRow, findingRows, findingsPart, tablesIn, tablesOf}
 use Rattle.storage.specs.Decode.{decode}
 use Rattle.storage.proofs.ListLaws.{tabulate-length}
-use Rattle.storage.proofs.WellFormed.{formed}
-use Rattle.completeness.proofs.Read.{end-is, end-small}
-use Rattle.storage.proofs.Meanings.{findings-stored}
+use Rattle.storage.proofs.WellFormed.{formed, end-small}
+use Rattle.storage.proofs.Meanings.{end-is, findings-stored}
 use Rattle.lists.proofs.Ascents.{leaders-few}
 use Rattle.history.proofs.Printed.{stand}
 
@@ -76,4 +75,4 @@ module _ (h : Bytes) (right : wellFormed h ≡ true) where
   unfolding unknownList
   unknown-bound =
       let s = stand h right in
-      omega (arith, unknown-length (decode h .terms) 0 (length (decode h .committed)), end-is h (decode h) s, end-small h (decode h) s)
+      omega (arith, unknown-length (decode h .terms) 0 (length (decode h .committed)), end-is h (decode h) s, end-small h right)

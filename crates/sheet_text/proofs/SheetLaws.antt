@@ -21,8 +21,10 @@ use Rattle.model.specs.Lists.{Unseen, findingList, leaderList, unseenList, unkn
 use Rattle.model.proofs.Tests.{cond-true, cond-false}
 use Rattle.storage.specs.Rules.{wellFormed}
 use Rattle.storage.specs.Decode.{decode}
-use Rattle.lists.specs.Committed.{lengthIn, ownerIn}
-use Rattle.lists.proofs.Meaning.{length-told, owner-told}
+use Rattle.storage.specs.Values.{committedEnd}
+use Rattle.storage.proofs.Meanings.{end-is}
+use Rattle.lists.specs.Committed.{ownerIn}
+use Rattle.lists.proofs.Meaning.{owner-told}
 use Rattle.history.proofs.Printed.{stand}
 use Rattle.lists.specs.Picked.{nth}
 use Rattle.lists.specs.declared.findings.FindingAnswer.{FindingAnswer}
@@ -60,7 +62,7 @@ pub closed-right : (h t : Bytes) (a b c d r : ℕ) (ta tb tc td t′ : Bytes) �
     → Put 12544 ta a (linesOf ofLeader (leaderList (decode h))) b tb
     → Put 12544 tb b (linesOf ofUnseen (unseenList (decode h))) c tc
     → Put 7424 tc c (linesOf unknownLine (unknownList (decode h))) d td
-    → (n o : ℕ) → n ≡ lengthIn h → o ≡ ownerIn h → Put 52 td d (committedLine n o) r t′ → Put 55092 t 0 (closingOf h) r t′
+    → (n o : ℕ) → n ≡ committedEnd h → o ≡ ownerIn h → Put 52 td d (committedLine n o) r t′ → Put 55092 t 0 (closingOf h) r t′
 unfolding closing
 closed-right h t a b c d r ta tb tc td t′ w p q s u n o en eo v =
     let x = decode h in
@@ -68,7 +70,7 @@ closed-right h t a b c d r ta tb tc td t′ w p q s u n o en eo v =
     put-as (put-then (put-then (put-then (put-then p q) s) u) v) _
     (ap (λ (l : Bytes).
     linesOf ofFinding (findingList x) ++ linesOf ofLeader (leaderList x) ++ linesOf ofUnseen (unseenList x) ++ linesOf unknownLine (unknownList x) ++ l)
-    (λ i. committedLine ((en ∙ length-told h x st) i) ((eo ∙ owner-told h x st) i))
+    (λ i. committedLine ((en ∙ end-is h x st) i) ((eo ∙ owner-told h x st) i))
     ∙ sym (cond-true (wellFormed h) _ [] w))
     (omega arith)
 

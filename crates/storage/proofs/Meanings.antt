@@ -17,7 +17,7 @@ use Rattle.storage.specs.Words.{wordAt, wordBytes, putBytes}
 use Rattle.storage.specs.Tables.{NodeRow, CertificateRow, Tables, nodeRow, termRow, findingRow, prefixRow, prefixRows, termRows, certificateRows, findingRows, headPart, nodesPart, termsPart, certificatesPart, findingsPart, prefixesPart, tablesIn, tablesOf, withRow, withNode, withCommitted, withTerms, withCertificates, withFindings}
 use Rattle.storage.specs.Decode.{prefixAt, extended, resolve, frontIn, certificateIn, historyIn, decode}
 use Rattle.storage.specs.Rules.{certificateRight, findingRight, numbered, prefixRight, wellFormed}
-use Rattle.storage.specs.Values.{numberIndex}
+use Rattle.storage.specs.Values.{committedEnd}
 use Rattle.storage.specs.Writes.{nodeBytes, prefixBytes, prefixOf, CertificateFits, PrefixFits, prefixAppended, termAppended, committedSet, certificateInserted, certificateAdded}
 use Rattle.storage.proofs.ListLaws.{tabulate-length, tabulate-at, every-insert, map-insert, every-snoc}
 use Rattle.storage.proofs.WordLaws.{put-length}
@@ -231,12 +231,13 @@ module _ (h : Bytes) (x : History) (s : Stands h x) where
   pub findings-stored : findingRows (findingsPart h) (wordAt h 7 1) ≡ x .findings
   findings-stored = sym (findings-are h) ∙ ap (λ (y : History). y .findings) is
 
-  -- the committed prefix, and its index, which is its length
+  -- the committed prefix, and its end, which is its length
   pub committed-stored : prefixAt (x .prefixes) (wordAt h 4 2) ≡ x .committed
   committed-stored = sym (subst (λ (y : History). y .committed ≡ prefixAt (y .prefixes) (wordAt h 4 2)) (s .decodes) (committed-read h))
 
-  pub committed-index : numberIndex (prefixesPart h) (wordAt h 4 2) ≡ length (x .committed)
-  committed-index =
+  pub end-is : committedEnd h ≡ length (x .committed)
+  unfolding committedEnd
+  end-is =
       let f = formed h (s .right) in
       let c = tabulate-length (prefixRow (prefixesPart h)) 0 (wordAt h 0 2) in
       sym (index-among (prefixesPart h) (wordAt h 0 2) (wordAt h 4 2) (f .committed))

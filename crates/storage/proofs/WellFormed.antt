@@ -11,7 +11,7 @@ use lib.ListN.{length, getD}
 use Rattle.model.specs.Sizes.{Bytes}
 use Rattle.storage.specs.Words.{wordAt}
 use Rattle.storage.specs.Tables.{NodeRow, CertificateRow, nodeRow, certificateRow, prefixRow, findingRow, termRow, prefixRows, certificateRows, findingRows, termRows, headPart, nodesPart, termsPart, certificatesPart, findingsPart, prefixesPart, tablesIn, tablesOf}
-use Rattle.storage.specs.Values.{numberIndex}
+use Rattle.storage.specs.Values.{numberIndex, committedEnd}
 use Rattle.storage.specs.Rules.{nodeRight, certificateRight, prefixesRightAfter, wellFormed}
 use Rattle.storage.proofs.ListLaws.{tabulate-length, tabulate-at, every-at}
 use Rattle.storage.proofs.PartLaws.{word-part}
@@ -132,3 +132,7 @@ pub formed-index : (h : Bytes) → Formed h → (p : ℕ) → p ≤ wordAt h 0 2
 formed-index h f p l =
     subst (λ (x : ℕ). x ≤ 256) (index-among (prefixesPart h) (wordAt h 0 2) p l)
     (index-small (prefixRows (prefixesPart h) (wordAt h 0 2)) (formed-rows h f) p (omega (arith, tabulate-length (prefixRow (prefixesPart h)) 0 (wordAt h 0 2))))
+
+pub end-small : (h : Bytes) → wellFormed h ≡ true → committedEnd h ≤ 256
+unfolding committedEnd
+end-small h right = let f = formed h right in formed-index h f (wordAt h 4 2) (f .committed)

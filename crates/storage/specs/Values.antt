@@ -10,7 +10,7 @@ use Rattle.storage.specs.declared.nodes.Node.{Node}
 use Rattle.storage.specs.declared.certificates.Certificate.{Certificate}
 use Rattle.storage.specs.declared.findings.Found.{Found}
 use Rattle.storage.specs.Words.{wordAt}
-use Rattle.storage.specs.Tables.{NodeRow, CertificateRow, prefixRow}
+use Rattle.storage.specs.Tables.{NodeRow, CertificateRow, prefixRow, prefixesPart}
 
 abbrev pub nodeValue : Node → NodeRow
 nodeValue x = record { front = x .front; last = x .last .0; unseen = x .unseen .0 }
@@ -33,6 +33,11 @@ findingValue x = record { name = x .name; node = x .node .0; index = x .index .0
 unfoldable pub numberIndex : Bytes → ℕ → ℕ
 unfolding wordAt
 numberIndex t p = cond (eqb p 0) 0 (prefixRow t (p - 1) .index)
+
+-- the end of the committed prefix
+unfoldable pub committedEnd : Bytes → ℕ
+unfolding wordAt numberIndex
+committedEnd h = numberIndex (prefixesPart h) (wordAt h 4 2)
 
 -- an index read, with its bound
 pub record Index (t : Bytes) (p r : ℕ) : Type 0 where

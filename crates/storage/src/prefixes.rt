@@ -2,16 +2,20 @@
 // empty one, with one entry more.
 ghost use mathlib.Core.Path.{_≡_};
 ghost use Prim.Native.Nat.{_+_, _*_, _≤_, _<_};
+ghost use mathlib.Core.Bool.{true};
 ghost use mathlib.Core.List.{_++_};
 ghost use lib.ListN.{length};
 ghost use Rattle.storage.specs.Words.{Word, wordAt, wordBytes, putBytes};
 ghost use Rattle.storage.specs.Writes.{prefixBytes, prefixAppended};
-ghost use Rattle.storage.specs.Values.{Index};
+ghost use Rattle.storage.specs.Rules.{wellFormed};
+ghost use Rattle.storage.specs.Values.{Index, committedEnd};
+use crate::head::committed_number;
 use crate::head::prefix_count;
 use crate::head::set_prefix_count;
 use crate::layout::PREFIX_WIDTH;
 use crate::layout::PREFIXES_LENGTH;
 use crate::layout::PREFIXES_START;
+use crate::layout::part;
 use crate::words::get8;
 use crate::words::get16;
 use crate::words::get32;
@@ -59,6 +63,17 @@ pub fn index_of(prefixes: &[u8], p: usize) -> usize
         return 0;
     }
     index_at(prefixes, p - 1)
+}
+
+// The end of the committed prefix.
+pub fn committed_end(history: &[u8]) -> LogIndex
+    requires { ⌜ wellFormed (now history) ≡ true ⌝ }
+    ensures { λ r. ⌜ r .0 ≡ committedEnd (now (history .entry)) ⌝ }
+{
+    LogIndex(index_of(
+        part(history, PREFIXES_START, PREFIXES_LENGTH),
+        committed_number(history),
+    ))
 }
 
 // A row's parent, index and term.

@@ -1,8 +1,7 @@
 -- `election::certificate::keep` meets its contract: the row at its place.
 -- Assumes nothing.
 use Rattle.storage.proofs.WellFormed.{formed}
-use Rattle.election.proofs.Turns.{place-fits}
-use Rattle.election.proofs.Turns.{kept-is}
+use Rattle.election.proofs.Turns.{place-fits, kept-is}
 use Prim.Native.Nat.{_-_}
 use mathlib.Core.Path.{_∙_}
 use borrow.Author.Needs.{needs}

@@ -2,8 +2,8 @@
 -- Assumes nothing.
 use native.Mathlib.Omega.{arith}
 use borrow.Author.Needs.{needs}
-use Rattle.storage.proofs.WellFormed.{formed}
-use Rattle.lists.proofs.Whole.{committed-few, unknown-lent}
+use Rattle.storage.proofs.WellFormed.{formed, end-small}
+use Rattle.lists.proofs.Whole.{unknown-lent}
 use Rattle.lists.proofs.unknown.unknown_at.Statement.{statement}
 use Rattle.lists.proofs.unknown.unknown_at.Tie as tie
 
@@ -20,7 +20,7 @@ index-in-requires : tie.Need-index-in-requires
 index-in-requires c κs =
     let s = c .before .before .before .before in
     let n = formed (s .args .history .now) (s .pre) .terms in
-    let m = committed-few (s .args .history .now) (s .pre) in
+    let m = end-small (s .args .history .now) (s .pre) in
     let e = c .before .term-count .ensures .is in
     let f = c .before .before .committed-length .ensures in
     (omega arith, omega arith, c .part .ensures .long)

@@ -1,10 +1,11 @@
--- `completeness::relevance::committed_end` meets its contract.
+-- `storage::prefixes::committed_end` meets its contract.
 -- Assumes nothing.
-use Rattle.completeness.proofs.RelevanceLaws.{end-read}
+use Rattle.storage.specs.Values.{numberIndex, committedEnd}
 use Rattle.storage.proofs.WellFormed.{formed}
+use mathlib.Core.Path.{_∙_}
 use native.Mathlib.Omega.{arith}
-use Rattle.completeness.proofs.relevance.committed_end.Statement.{statement}
-use Rattle.completeness.proofs.relevance.committed_end.Tie as tie
+use Rattle.storage.proofs.prefixes.committed_end.Statement.{statement}
+use Rattle.storage.proofs.prefixes.committed_end.Tie as tie
 
 part-requires : tie.Need-part-requires
 part-requires c κs = let l = formed _ (c .before .pre) .long in omega arith
@@ -21,7 +22,10 @@ index-of-requires c κs =
     (omega arith, c .before .part .ensures .long)
 
 returns : tie.Need-returns
-returns c = end-read (c .before .before .before .before .args .history .now) _ _ _ (c .before .before .part .ensures .is) (c .before .committed-number .ensures .is) (c .index-of .ensures .is)
+unfolding committedEnd
+returns c =
+    c .index-of .ensures .is
+    ∙ (λ i. numberIndex (c .before .before .part .ensures .is i) (c .before .committed-number .ensures .is i))
 
 pub committed-end-spec : {M : Type 1} → statement M
 committed-end-spec =
