@@ -49,25 +49,25 @@ LeaderCompleteness =
 
 -- ---- examples
 
-abbrev leader : ℕ → ℕ → Leader
+abbrev pub leader : ℕ → ℕ → Leader
 leader t l = record { term = t; leader = l }
 
 -- a check
-checked : Bytes
+unfoldable pub checked : Bytes
 checked = 0x50 ∷ []
 
 -- the premises of the theorem but the last, for a list and then a check
-CheckedAfter : List Bytes → Type 0
+abbrev CheckedAfter : List Bytes → Type 0
 CheckedAfter ss = (read checked ≡ readable check) × (isAccepted (answer (historyOf ss) checked) ≡ true)
 
 -- for a list and then a check: the leader lists of the history and of the ledger
-LeadersAfter : List Bytes → List Leader → List Leader → Type 0
+abbrev pub LeadersAfter : List Bytes → List Leader → List Leader → Type 0
 LeadersAfter ss l m =
     (leaderList (historyOf (ss ++ (checked ∷ []))) ≡ l) × (ledgerLeaders (ledgerOf (ss ++ (checked ∷ []))) ≡ m)
 
 -- P12 with its late term: node 0 shows one entry and commits it; its commit term is 5; node 1 is elected in term 4 with a
 -- log of no entries; check; its commit term is 3
-late : List Bytes
+unfoldable pub late : List Bytes
 unfolding checked
 late =
     (0x10 ∷ 0x00 ∷ 0x10 ∷ 0x04 ∷ 0x00 ∷ 0x00 ∷ 0x00 ∷ 0x04 ∷ 0x00 ∷ [])
@@ -80,19 +80,19 @@ late =
 
 -- All premises hold, and the list is not empty.
 late-checked : CheckedAfter late
-unfolding CheckedAfter late checked read answer historyFrom
+unfolding late checked read answer historyFrom
 late-checked = (refl, refl)
 
 late-known : KnownAtChecks (late ++ (checked ∷ []))
 unfolding late checked knownAll eventsFrom
 late-known = known-all (eventsOf (late ++ (checked ∷ []))) refl
 
-late-leaders : LeadersAfter late (leader 4 1 ∷ []) (leader 4 1 ∷ [])
-unfolding LeadersAfter late checked historyFrom ledgerFrom leaderList ledgerLeaders
+pub late-leaders : LeadersAfter late (leader 4 1 ∷ []) (leader 4 1 ∷ [])
+unfolding late checked historyFrom ledgerFrom leaderList ledgerLeaders
 late-leaders = (refl, refl)
 
 -- node 1 shows one entry and commits it; its commit term is recorded as zero; node 2 is elected in term 4 with no log
-zeroTerm : List Bytes
+unfoldable pub zeroTerm : List Bytes
 zeroTerm =
     (0x10 ∷ 0x40 ∷ 0x10 ∷ 0x04 ∷ 0x00 ∷ 0x00 ∷ 0x00 ∷ 0x04 ∷ 0x00 ∷ [])
     ∷ (0x20 ∷ 0x40 ∷ 0x10 ∷ [])
@@ -102,30 +102,30 @@ zeroTerm =
 
 -- The last premise is needed: a recorded zero is below every nonzero term for the history, and no term for the ledger.
 zero-checked : CheckedAfter zeroTerm
-unfolding CheckedAfter zeroTerm checked read answer historyFrom
+unfolding zeroTerm checked read answer historyFrom
 zero-checked = (refl, refl)
 
-zero-differs : LeadersAfter zeroTerm (leader 4 2 ∷ []) []
-unfolding LeadersAfter zeroTerm checked historyFrom ledgerFrom leaderList ledgerLeaders
+pub zero-differs : LeadersAfter zeroTerm (leader 4 2 ∷ []) []
+unfolding zeroTerm checked historyFrom ledgerFrom leaderList ledgerLeaders
 zero-differs = (refl, refl)
 
 -- the same and a check; then its commit term is 9
-toldLater : List Bytes
+unfoldable pub toldLater : List Bytes
 unfolding zeroTerm checked
 toldLater = zeroTerm ++ (checked ∷ (0x30 ∷ 0x00 ∷ 0x01 ∷ 0x00 ∷ 0x00 ∷ 0x00 ∷ 0x09 ∷ []) ∷ [])
 
 -- It is needed at every check: at the last one each committed entry has its commit term, and the history keeps a leader
 -- that the ledger does not have.
 later-checked : CheckedAfter toldLater
-unfolding CheckedAfter toldLater zeroTerm checked read answer historyFrom
+unfolding toldLater zeroTerm checked read answer historyFrom
 later-checked = (refl, refl)
 
 later-known : Known (ledgerOf toldLater)
 unfolding toldLater zeroTerm checked ledgerFrom knownTo
 later-known i p l = known-to (ledgerOf toldLater) 1 i refl p l
 
-later-differs : LeadersAfter toldLater (leader 4 2 ∷ []) []
-unfolding LeadersAfter toldLater zeroTerm checked historyFrom ledgerFrom leaderList ledgerLeaders
+pub later-differs : LeadersAfter toldLater (leader 4 2 ∷ []) []
+unfolding toldLater zeroTerm checked historyFrom ledgerFrom leaderList ledgerLeaders
 later-differs = (refl, refl)
 
 -- ---- the invariant after every list

@@ -1,18 +1,20 @@
--- Demand 3 is not empty, and its premise is needed: two lists, computed on the model and carried to what the reader of leaders
+-- Demand 3 is not empty, and its premise is needed: three lists, computed on the model and carried to what the reader of leaders
 -- gives.
 -- Assumes nothing.
 use Prim.Native.Nat.{ℕ}
-use mathlib.Core.Path.{_≡_, refl, sym, _∙_, ap}
-use mathlib.Core.List.{List, [], _∷_}
+use mathlib.Core.Path.{_≡_, sym, _∙_, ap}
+use mathlib.Core.List.{List, [], _∷_, _++_}
 use Rattle.model.specs.Sizes.{Bytes}
 use Rattle.model.specs.History.{History}
 use Rattle.model.specs.Leaders.{Leader}
 use Rattle.model.specs.Ledger.{empty, ledgerLeaders}
 use Rattle.model.specs.Lists.{leaderList}
-use Rattle.model.specs.Run.{historyFrom, historyOf, ledgerFrom}
-use Rattle.model.specs.Run as model
+use Rattle.model.specs.Run.{historyOf}
+use Rattle.model.specs.Run as run
 use Rattle.model.proofs.Tests.{cond-true}
 use Rattle.model.proofs.Bridge as bridge
+use Rattle.model.proofs.Completeness as completeness
+use Rattle.model.proofs.Completeness.{leader, checked, LeadersAfter, late, late-leaders, zeroTerm, toldLater}
 use Rattle.storage.specs.Rules.{wellFormed}
 use Rattle.storage.specs.Fresh.{freshHistory}
 use Rattle.lists.specs.Picked.{nth}
@@ -29,61 +31,34 @@ given ss n =
     cond-true (wellFormed (bytesOf ss)) _ (noLeader 12) (never-broken ss .0)
     ∙ ap (λ (x : History). nth aLeader (noLeader 1) (leaderList x) n) (never-broken ss .1)
 
-same-ledger : (ss : List Bytes) → ledgerOf ss ≡ model.ledgerOf ss
+same-ledger : (ss : List Bytes) → ledgerOf ss ≡ run.ledgerOf ss
 same-ledger ss = sym (ledgers-are ss freshHistory empty) ∙ bridge.stands-always submitting ss .2
 
-abbrev leader : ℕ → ℕ → Leader
-leader t l = record { term = t; leader = l }
+-- ---- the lists of model/proofs/Completeness.antt, each with a check behind it
 
--- ---- P12 with its late term
-
--- node 0 shows one entry and commits it; its commit term is 5; node 1 is elected in term 4 with a log of no entries; check; its
--- commit term is 3; check
-unfoldable pub late : List Bytes
-late =
-    (0x10 ∷ 0x00 ∷ 0x10 ∷ 0x04 ∷ 0x00 ∷ 0x00 ∷ 0x00 ∷ 0x04 ∷ 0x00 ∷ [])
-    ∷ (0x20 ∷ 0x00 ∷ 0x10 ∷ [])
-    ∷ (0x30 ∷ 0x00 ∷ 0x01 ∷ 0x00 ∷ 0x00 ∷ 0x00 ∷ 0x05 ∷ [])
-    ∷ (0x40 ∷ 0x40 ∷ 0x00 ∷ 0x00 ∷ 0x01 ∷ 0x20 ∷ 0x00 ∷ [])
-    ∷ (0x50 ∷ [])
-    ∷ (0x30 ∷ 0x00 ∷ 0x01 ∷ 0x00 ∷ 0x00 ∷ 0x00 ∷ 0x03 ∷ [])
-    ∷ (0x50 ∷ [])
-    ∷ []
-
-late-leaders : leaderList (historyOf late) ≡ leader 4 1 ∷ []
-unfolding late historyFrom leaderList
-late-leaders = refl
-
--- the reader gives leader 1 of term 4, and then no more
-pub late-given : (leaderOut (bytesOf late) 0 ≡ aLeader (leader 4 1)) × (leaderOut (bytesOf late) 1 ≡ noLeader 1)
+-- P12 with its late term: the reader gives leader 1 of term 4, and then no more
+pub late-given : let ss = late ++ (checked ∷ []) in
+    (leaderOut (bytesOf ss) 0 ≡ aLeader (leader 4 1)) × (leaderOut (bytesOf ss) 1 ≡ noLeader 1)
 late-given = (
-  given late 0 ∙ ap (λ (ls : List Leader). nth aLeader (noLeader 1) ls 0) late-leaders,
-  given late 1 ∙ ap (λ (ls : List Leader). nth aLeader (noLeader 1) ls 1) late-leaders,
+  given (late ++ (checked ∷ [])) 0 ∙ ap (λ (ls : List Leader). nth aLeader (noLeader 1) ls 0) (late-leaders .0),
+  given (late ++ (checked ∷ [])) 1 ∙ ap (λ (ls : List Leader). nth aLeader (noLeader 1) ls 1) (late-leaders .0),
 )
 
--- ---- a commit term that is not known at the check
+-- the reader gives leader 2 of term 4, whom the ledger does not have
+abbrev pub Invented : List Bytes → Type 0
+Invented ss =
+    (leaderOut (bytesOf (ss ++ (checked ∷ []))) 0 ≡ aLeader (leader 4 2)) × (ledgerLeaders (ledgerOf (ss ++ (checked ∷ []))) ≡ [])
 
--- node 1 shows one entry and commits it; its commit term is recorded as zero; node 2 is elected in term 4 with no log; check
-unfoldable pub zeroTerm : List Bytes
-zeroTerm =
-    (0x10 ∷ 0x40 ∷ 0x10 ∷ 0x04 ∷ 0x00 ∷ 0x00 ∷ 0x00 ∷ 0x04 ∷ 0x00 ∷ [])
-    ∷ (0x20 ∷ 0x40 ∷ 0x10 ∷ [])
-    ∷ (0x30 ∷ 0x00 ∷ 0x01 ∷ 0x00 ∷ 0x00 ∷ 0x00 ∷ 0x00 ∷ [])
-    ∷ (0x40 ∷ 0x80 ∷ 0x00 ∷ 0x00 ∷ 0x01 ∷ 0x00 ∷ 0x00 ∷ [])
-    ∷ (0x50 ∷ [])
-    ∷ []
-
-zero-leaders : leaderList (historyOf zeroTerm) ≡ leader 4 2 ∷ []
-unfolding zeroTerm historyFrom leaderList
-zero-leaders = refl
-
-zero-ledger : ledgerLeaders (model.ledgerOf zeroTerm) ≡ []
-unfolding zeroTerm ledgerFrom ledgerLeaders
-zero-ledger = refl
-
--- the reader gives a leader that the ledger does not have
-pub zero-differs : (leaderOut (bytesOf zeroTerm) 0 ≡ aLeader (leader 4 2)) × (ledgerLeaders (ledgerOf zeroTerm) ≡ [])
-zero-differs = (
-  given zeroTerm 0 ∙ ap (λ (ls : List Leader). nth aLeader (noLeader 1) ls 0) zero-leaders,
-  ap ledgerLeaders (same-ledger zeroTerm) ∙ zero-ledger,
+invented : (ss : List Bytes) → LeadersAfter ss (leader 4 2 ∷ []) [] → Invented ss
+invented ss e = (
+  given (ss ++ (checked ∷ [])) 0 ∙ ap (λ (ls : List Leader). nth aLeader (noLeader 1) ls 0) (e .0),
+  ap ledgerLeaders (same-ledger (ss ++ (checked ∷ []))) ∙ e .1,
 )
+
+-- a commit term that is not known at the check
+pub zero-differs : Invented zeroTerm
+zero-differs = invented zeroTerm completeness.zero-differs
+
+-- one that is known only at the last check
+pub later-differs : Invented toldLater
+later-differs = invented toldLater completeness.later-differs
