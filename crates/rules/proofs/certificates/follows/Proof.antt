@@ -1,6 +1,6 @@
 -- `rules::certificates::follows` meets its contract: each test of the code is one of the definition's.
 -- Assumes nothing.
-use Rattle.storage.proofs.RuleLaws.{eqb-pred}
+use Rattle.rules.proofs.Turns.{eqb-pred}
 use borrow.Author.Tests.{le-ltb, lt-ltb, eq-eqb, ne-eqb}
 use Rattle.storage.specs.Rules.{follows}
 use Prim.Native.Nat.{_+_}

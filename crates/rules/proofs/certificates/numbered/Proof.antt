@@ -1,6 +1,6 @@
 -- `rules::certificates::numbered` meets its contract. The invariant: the answer is that of the rows that are left, after the last one passed.
 -- Assumes nothing.
-use Rattle.storage.proofs.RuleLaws.{numbered-start, numbered-first, numbered-no-rows, numbered-next, numbered-stop, numbered-none}
+use Rattle.rules.proofs.Turns.{numbered-start, numbered-first, numbered-no-rows, numbered-next, numbered-stop, numbered-none}
 use Rattle.storage.specs.Values.{certificateValue}
 use Rattle.storage.specs.Rules.{numbered, numberedAfter, follows}
 use Rattle.storage.specs.Tables.{certificateRow, certificateRows}

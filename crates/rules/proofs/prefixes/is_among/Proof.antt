@@ -1,6 +1,6 @@
 -- `rules::prefixes::is_among` meets its contract. The invariant: the answer is that of the rows that are left.
 -- Assumes nothing.
-use Rattle.storage.proofs.RuleLaws.{among-next, among-stop, among-none}
+use Rattle.rules.proofs.Turns.{among-next, among-stop, among-none}
 use Rattle.storage.specs.Rules.{isAmong}
 use Rattle.storage.specs.Tables.{prefixRow}
 use Rattle.storage.specs.Lists.{tabulate}

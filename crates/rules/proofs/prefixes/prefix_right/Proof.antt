@@ -1,7 +1,8 @@
 -- `rules::prefixes::prefix_right` meets its contract: each test of the code is one of the definition's.
 -- Assumes nothing.
 use mathlib.Core.Bool.{not}
-use Rattle.storage.proofs.RuleLaws.{right-parent, right-rest, stop, pass}
+use Rattle.storage.proofs.RuleLaws.{stop, pass}
+use Rattle.rules.proofs.Turns.{right-parent, right-rest}
 use borrow.Author.Tests.{le-leb, lt-leb, eq-eqb, ne-eqb}
 use mathlib.Core.Path.{ap, sym, _∙_}
 use borrow.Author.Needs.{needs}

@@ -1,6 +1,6 @@
 -- `rules::prefixes::prefixes_right` meets its contract. The invariant: the answer is that of the rows that are left, after those passed.
 -- Assumes nothing.
-use Rattle.storage.proofs.RuleLaws.{rows-next, rows-stop, rows-none}
+use Rattle.rules.proofs.Turns.{rows-next, rows-stop, rows-none}
 use Rattle.storage.proofs.ListLaws.{from-zero}
 use Rattle.storage.specs.Rules.{prefixesRightAfter}
 use Rattle.storage.specs.Tables.{prefixRow, prefixRows}

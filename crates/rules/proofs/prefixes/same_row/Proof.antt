@@ -1,6 +1,6 @@
 -- `rules::prefixes::same_row` meets its contract: each test of the code is one of the definition's.
 -- Assumes nothing.
-use Rattle.storage.proofs.RuleLaws.{same-row-rest}
+use Rattle.rules.proofs.Turns.{same-row-rest}
 use borrow.Author.Tests.{eq-eqb, ne-eqb}
 use Rattle.storage.specs.Rules.{sameRow}
 use mathlib.Core.Path.{sym, _∙_}

@@ -1,6 +1,7 @@
 -- `rules::whole::well_formed` meets its contract: the code tests the rules in the order of `rules-in-turn`.
 -- Assumes nothing.
-use Rattle.storage.proofs.RuleLaws.{wrong-length, rules-in-turn, within, Limited, stop, pass}
+use Rattle.storage.proofs.RuleLaws.{within, Limited, stop, pass}
+use Rattle.rules.proofs.Turns.{wrong-length, rules-in-turn}
 use Rattle.storage.specs.Words.{wordAt}
 use borrow.Author.Tests.{not-true, not-false}
 use Prim.Native.Nat.{_≤_}
