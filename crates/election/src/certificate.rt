@@ -67,10 +67,10 @@ fn first_entries(history: &[u8], p: usize, length: LogIndex) -> Slice
 fn within_front(slice: Slice) -> ElectionAnswer
     ensures { λ r. ⌜ r ≡ withinFront slice ⌝ }
 {
-    match slice {
-        Slice::Prefix(_) => ElectionAnswer::Accepted,
-        Slice::Beyond => ElectionAnswer::LengthExceedsFront,
-    }
+    let Slice::Prefix(_) = slice else {
+        return ElectionAnswer::LengthExceedsFront;
+    };
+    ElectionAnswer::Accepted
 }
 
 // 10, then 11, over the n certificates held.
@@ -180,7 +180,7 @@ fn new_certificate(
     Certificate {
         term,
         log,
-        mark: LogIndex(0),
+        mark: LogIndex::ZERO,
         leader,
         number,
         present: flag(present),

@@ -101,7 +101,7 @@ fn leader_in(findings: &[u8], m: usize, n: usize) -> LeaderAnswer
     requires { ⌜ (m ≤ 128) × (length (now findings) ≡ 1024) ⌝ }
     ensures { λ r. ⌜ r ≡ leaderIn (findingRows (now (findings .entry)) m) n ⌝ }
 {
-    let mut found = least_from(findings, m, Term(0), 0);
+    let mut found = least_from(findings, m, Term::ZERO, 0);
     let mut left = n;
     while 0 < left {
         found = next_leader(findings, m, found);
