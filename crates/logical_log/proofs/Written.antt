@@ -3,8 +3,8 @@
 use Prim.Native.Nat.{ℕ, _+_, _-_, _*_, _<_, _≤_}
 use native.Mathlib.Omega.{arith}
 use mathlib.Core.Path.{_≡_, refl, sym, _∙_, ap, subst}
-use mathlib.Core.Bool.{true, false}
-use mathlib.Core.Logic.{_⊎_, ⊎-elim}
+use mathlib.Core.Bool.{Bool, true, false}
+use mathlib.Core.Logic.{⊎-elim}
 use mathlib.Core.List.{List, [], _∷_, _++_}
 use lib.Dec.{eqb}
 use lib.ListN.{length, replicate}
@@ -16,7 +16,7 @@ use Rattle.records.specs.Places.{Walk, lengthAt, contentAt, entriesAt}
 use Rattle.records.specs.Values.{Here, shownEntry}
 use Rattle.bit_fields.proofs.Widths.{bytes-length}
 use Rattle.records.proofs.Walks.{next-walk, walk-entered, here}
-use Rattle.model.proofs.Tests.{either, cond-cases, cond-true, cond-false}
+use Rattle.model.proofs.Tests.{tf, either, cond-cases, cond-true, cond-false}
 use Rattle.records.specs.declared.walk.ShownEntry.{ShownEntry}
 use Rattle.storage.specs.Words.{bytesAt, wordAt, putBytes, wordBytes}
 use Rattle.storage.specs.Tables.{prefixRow, prefixesPart}
@@ -27,8 +27,10 @@ use Rattle.storage.proofs.RowLaws.{word-set}
 use Rattle.logical_log.proofs.Turns.{entry-read, front-shown, front-stop, front-none, find-within}
 use Rattle.logical_log.specs.Table.{entryValue}
 use Rattle.logical_log.specs.Prefix.{rowOf, find}
-use Rattle.logical_log.specs.Observation.{extensionIn, storedContent, appended, extendedBytes, extendedCount, extendedNumber, Extending, ExtendedAs, writtenBytes, writtenCount, writtenNumber, frontAt, Storing, StoredAs}
+use Rattle.logical_log.specs.Observation.{extensionIn, storedContent, appended, extendedBytes, extendedCount, extendedNumber, Extending, ExtendedAs, ExtensionAs, writtenBytes, writtenCount, writtenNumber, frontAt, Storing, StoredAs}
 use Rattle.logical_log.specs.declared.observation.Place.{Place}
+use Rattle.logical_log.specs.declared.prefix.Extended.{Extended}
+use Rattle.logical_log.specs.declared.prefix.Extension.{Extension}
 
 pub value-length : (e : ShownEntry) → length (entryValue e .content) ≡ e .length
 unfolding bytesAt
@@ -127,6 +129,30 @@ module _ (h : Bytes) (n p : ℕ) (e : ShownEntry) (q : Bytes) (eq : q ≡ prefix
             λ j. prefixAppended h p (e .index .0) (e .term .0) (a j) (b j)
 
 -- ---- the whole front
+
+-- ---- an entry of the next index, and any other
+
+module _ (h : Bytes) (n p next : ℕ) (e : ShownEntry) where
+  isPrefix : Extension → Bool
+  isPrefix (Extension.Prefix x) = true
+  isPrefix Extension.NotNext = false
+
+  prefixOr : Extended → Extension → Extended
+  prefixOr x (Extension.Prefix y) = y
+  prefixOr x Extension.NotNext = x
+
+  pub extends-next : e .index .0 ≡ next → (x : Extended) (h′ : Bytes) → ExtendedAs h n p e (x .number) (x .count) h′
+      → ExtensionAs h n p next e (Extension.Prefix x) h′
+  unfolding isPrefix prefixOr
+  extends-next i x h′ a =
+      record {
+        longer = λ y q. (i, subst (λ (z : Extended). ExtendedAs h n p e (z .number) (z .count) h′) (ap (prefixOr x) q) a);
+        stays = λ q. absurd (tf (ap isPrefix q));
+      }
+
+  pub extends-none : (e .index .0 ≡ next → ⊥) → ExtensionAs h n p next e Extension.NotNext h
+  unfolding isPrefix
+  extends-none o = record { longer = λ y q. absurd (tf (sym (ap isPrefix q))); stays = λ q. (o, refl) }
 
 extension-within : (h : Bytes) (n p : ℕ) (e : Entry) → extensionIn h n p e ≤ n
 unfolding extensionIn

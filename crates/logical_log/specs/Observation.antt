@@ -17,6 +17,8 @@ use Rattle.storage.specs.Writes.{prefixAppended, nodeBytes}
 use Rattle.storage.specs.Rules.{wellFormed}
 use Rattle.logical_log.specs.declared.observation.Observed.{Observed}
 use Rattle.logical_log.specs.declared.observation.Place.{Place}
+use Rattle.logical_log.specs.declared.prefix.Extended.{Extended}
+use Rattle.logical_log.specs.declared.prefix.Extension.{Extension}
 use Rattle.records.specs.declared.walk.ShownEntry.{ShownEntry}
 use Rattle.logical_log.specs.Table.{entryValue}
 use Rattle.logical_log.specs.Prefix.{rowOf, find, first}
@@ -170,6 +172,11 @@ pub record ExtendedAs (h : Bytes) (n p : ℕ) (e : ShownEntry) (number count : �
   pub is : number ≡ extendedNumber h n p (entryValue e)
   pub holds : count ≡ extendedCount h n p (entryValue e)
   pub bytes : h′ ≡ extendedBytes h n p (e .index .0) (entryValue e)
+
+-- an entry of the next index extends the prefix; any other leaves every byte
+pub record ExtensionAs (h : Bytes) (n p next : ℕ) (e : ShownEntry) (r : Extension) (h′ : Bytes) : Type 0 where
+  pub longer : (x : Extended) → r ≡ Extension.Prefix x → (e .index .0 ≡ next) × ExtendedAs h n p e (x .number) (x .count) h′
+  pub stays : r ≡ Extension.NotNext → (e .index .0 ≡ next → ⊥) × (h′ ≡ h)
 
 -- what storing the front of a view from a place on asks: a history that holds n prefixes, with room for the front's
 pub record Storing (h : Bytes) (n : ℕ) (s : Bytes) (r : Place) : Type 0 where

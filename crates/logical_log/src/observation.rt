@@ -8,6 +8,7 @@ ghost use Rattle.logical_log.specs.Table.{Table, entryValue};
 ghost use Rattle.logical_log.specs.Violation.{heldAll, bytesAll};
 ghost use Rattle.logical_log.specs.Observation.{nextNumber, other, counted as countedMissing, noteOf, JudgedAs, onward as onwardFrom, Storing, StoredAs, viewReplaced, findingsKept, restWritten, Observing, ViewJudged, observed, observedBytes};
 use crate::comparison::same_prefix;
+use crate::prefix::Extension;
 use crate::prefix::extend;
 use crate::prefix::find_extension;
 use crate::prefix::first_of;
@@ -130,7 +131,7 @@ fn onward(missing: usize, old: Place, at: usize, left: usize, index: usize, numb
 }
 
 // The walk along the front of a view of `entries` entries: how many of its prefixes are not stored and where they begin, and
-// its LG-03, noted among the findings, of which n are held.
+// its LG-03, noted among the findings, of which `held` are held.
 pub fn judge(
     prefixes: &[u8],
     count: usize,
@@ -189,10 +190,9 @@ pub fn store(history: &mut [u8], count: usize, view: &[u8], rest: Place) -> usiz
     let mut n = count;
     while 0 < left {
         let shown = entry_at(view, at);
-        if shown.index.0 != i {
-            break;
-        }
-        let x = extend(&mut history[..], n, p, shown);
+        let Extension::Prefix(x) = extend(&mut history[..], n, p, LogIndex(i), shown) else {
+            return p;
+        };
         p = x.number;
         n = x.count;
         i += 1;

@@ -6,7 +6,7 @@ ghost use lib.ListN.{length};
 ghost use Rattle.storage.specs.Tables.{prefixRow};
 ghost use Rattle.storage.specs.Rules.{sameRow};
 ghost use Rattle.logical_log.specs.Table.{Table, entryValue};
-ghost use Rattle.logical_log.specs.Observation.{Extending, ExtendedAs};
+ghost use Rattle.logical_log.specs.Observation.{Extending, ExtendedAs, ExtensionAs};
 ghost use Rattle.logical_log.specs.Prefix.{rowOf, find, isOf, first, sliceOf};
 use records::walk::ShownEntry;
 use storage::layout::PREFIX_WIDTH;
@@ -111,8 +111,8 @@ pub struct Extended {
     pub count: usize,
 }
 
-// The one step that lengthens a prefix: the extension of the prefix of number p by the entry is found or made.
-pub fn extend(history: &mut [u8], count: usize, p: usize, e: ShownEntry) -> Extended
+// The extension of the prefix of number p by the entry is found or made.
+fn find_or_make(history: &mut [u8], count: usize, p: usize, e: ShownEntry) -> Extended
     requires { ⌜ Extending (now history) count p e ⌝ }
     ensures { λ r. ⌜ ExtendedAs (now (history .entry)) count p e (r .number) (r .count) (now (history .exit)) ⌝ }
 {
@@ -131,4 +131,27 @@ pub fn extend(history: &mut [u8], count: usize, p: usize, e: ShownEntry) -> Exte
         number: count + 1,
         count: count + 1,
     }
+}
+
+// A prefix that was extended, or that the entry's index is not the next one.
+pub enum Extension {
+    Prefix(Extended),
+    NotNext,
+}
+
+// The one step that lengthens a prefix: that of number p takes the entry of the index after its last, `next`, and no other.
+pub fn extend(
+    history: &mut [u8],
+    count: usize,
+    p: usize,
+    next: LogIndex,
+    e: ShownEntry,
+) -> Extension
+    requires { ⌜ ((e .index .0 ≡ next .0) → Extending (now history) count p e) ⌝ }
+    ensures { λ r. ⌜ ExtensionAs (now (history .entry)) count p (next .0) e r (now (history .exit)) ⌝ }
+{
+    if e.index.0 != next.0 {
+        return Extension::NotNext;
+    }
+    Extension::Prefix(find_or_make(&mut history[..], count, p, e))
 }
