@@ -15,6 +15,7 @@ use Rattle.model.specs.Entry.{Prefix, same, agree, withAll}
 use Rattle.model.specs.History.{Finding, History, frontOf, noted}
 use Rattle.model.proofs.Tests.{cond-cases}
 use Rattle.storage.specs.Words.{wordAt}
+use Rattle.storage.specs.Values.{indexOf}
 use Rattle.storage.specs.Lists.{every}
 use Rattle.storage.specs.Tables.{PrefixRow, NodeRow, findingRows, prefixRows, findingsPart, prefixesPart}
 use Rattle.storage.specs.Decode.{prefixAt, resolve}
@@ -22,7 +23,7 @@ use Rattle.storage.specs.Rules.{findingRight}
 use Rattle.storage.proofs.PartLaws.{part-length}
 use Rattle.storage.proofs.RowFacts.{Facts}
 use Rattle.storage.proofs.Meanings.{Stands, withNoted, long, prefixes-read, findings-read, owner-read, front-read, last-read, node-written, committed-written, prefixes-stored, findings-stored, committed-stored, findings-taken}
-use Rattle.logical_log.specs.Prefix.{indexOf, sliceOf}
+use Rattle.logical_log.specs.Prefix.{sliceOf}
 use Rattle.logical_log.specs.Comparison.{sameFrom}
 use Rattle.logical_log.specs.declared.prefix.Slice.{Slice}
 use Rattle.logical_log.proofs.TableLaws.{rows-length, rows-at}

@@ -9,10 +9,11 @@ use Rattle.model.specs.Refusal.{findingsFull}
 use Rattle.model.specs.Answer.{Answer, accepted, refused}
 use Rattle.model.specs.History.{Finding}
 use Rattle.storage.specs.Words.{wordAt, putBytes}
+use Rattle.storage.specs.Values.{indexOf}
 use Rattle.storage.specs.Tables.{PrefixRow, NodeRow, nodeRow, prefixRow, nodesPart, findingsPart, prefixesPart}
 use Rattle.storage.specs.Writes.{nodeBytes, committedSet}
 use Rattle.logical_log.specs.Observation.{findingsKept}
-use Rattle.logical_log.specs.Prefix.{indexOf, sliceOf}
+use Rattle.logical_log.specs.Prefix.{sliceOf}
 use Rattle.logical_log.specs.Comparison.{sameFrom}
 use Rattle.logical_log.specs.Violation.{noteHeld, noteBytes}
 use Rattle.logical_log.specs.declared.prefix.Slice.{Slice}

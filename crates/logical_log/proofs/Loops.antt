@@ -15,9 +15,9 @@ use Rattle.storage.specs.Tables.{PrefixRow, prefixRow}
 use Rattle.storage.specs.Rules.{sameBytes, sameRow}
 use Rattle.storage.proofs.ListLaws.{tabulate-length}
 use Rattle.storage.proofs.RuleLaws.{same-start}
-use Rattle.logical_log.specs.Prefix.{rowOf, searchFrom, indexOf, sliceFrom, sliceOf}
+use Rattle.logical_log.specs.Prefix.{rowOf, searchFrom, sliceFrom, sliceOf}
 use Rattle.logical_log.specs.declared.prefix.Slice.{Slice}
-use Rattle.storage.specs.Values.{numberIndex}
+use Rattle.storage.specs.Values.{indexOf, numberIndex}
 use Rattle.logical_log.specs.Comparison.{sameEntry, sameFrom}
 
 -- ---- a search from place k on, before place n

@@ -10,12 +10,12 @@ use lib.Dec.{leb, ltb, eqb}
 use lib.ListN.{length, take, length-append}
 use lib.Seq.{take-all, take-append-le}
 use borrow.Author.Tests.{le-leb, leb-true, leb-false, ltb-true, ltb-false, ne-eqb}
-use Rattle.model.specs.Entry.{Prefix}
 use Rattle.model.proofs.Tests.{either, cond-true, cond-false}
 use Rattle.storage.specs.Tables.{PrefixRow}
+use Rattle.storage.specs.Values.{indexOf}
 use Rattle.storage.specs.Decode.{prefixAt, entryOf, resolve}
 use Rattle.storage.proofs.RowFacts.{Facts, rowAt}
-use Rattle.logical_log.specs.Prefix.{indexOf, sliceFrom, sliceOf}
+use Rattle.logical_log.specs.Prefix.{sliceFrom, sliceOf}
 use Rattle.logical_log.specs.declared.prefix.Slice.{Slice}
 use Rattle.logical_log.proofs.PrefixLaws.{Rows, row-index}
 

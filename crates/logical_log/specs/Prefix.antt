@@ -7,6 +7,7 @@ use lib.Dec.{leb, ltb, eqb}
 use lib.ListN.{length}
 use Rattle.model.specs.Entry.{Entry}
 use Rattle.storage.specs.Tables.{PrefixRow}
+use Rattle.storage.specs.Values.{indexOf}
 use Rattle.storage.specs.Rules.{sameRow}
 use Rattle.logical_log.specs.declared.prefix.Slice.{Slice}
 
@@ -31,10 +32,6 @@ isOf i t r = eqb (r .index) i && eqb (r .term) t
 unfoldable pub first : (ℕ → PrefixRow) → ℕ → ℕ → ℕ → ℕ
 unfolding searchFrom
 first row count i t = searchFrom (λ k. isOf i t (row k)) (i - 1) (count - (i - 1))
-
--- the index of a number's prefix: 0 of the empty one
-abbrev pub indexOf : (ℕ → PrefixRow) → ℕ → ℕ
-indexOf row p = cond (eqb p 0) 0 (row (p - 1) .index)
 
 -- the number of the prefix of p through index i: its parents, at most `fuel` of them, until one does not pass i
 unfoldable pub sliceFrom : (ℕ → PrefixRow) → ℕ → ℕ → ℕ → ℕ

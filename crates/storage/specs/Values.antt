@@ -1,4 +1,4 @@
--- The rows that the code's structs stand for.
+-- The rows that the code's structs stand for, the index of a number's prefix, and the end of the committed one.
 -- Assumes nothing.
 use Prim.Native.Nat.{ℕ, _-_, _<_}
 use mathlib.Core.Path.{_≡_}
@@ -10,7 +10,7 @@ use Rattle.storage.specs.declared.nodes.Node.{Node}
 use Rattle.storage.specs.declared.certificates.Certificate.{Certificate}
 use Rattle.storage.specs.declared.findings.Found.{Found}
 use Rattle.storage.specs.Words.{wordAt}
-use Rattle.storage.specs.Tables.{NodeRow, CertificateRow, prefixRow, prefixesPart}
+use Rattle.storage.specs.Tables.{NodeRow, CertificateRow, PrefixRow, prefixRow, prefixesPart}
 
 abbrev pub nodeValue : Node → NodeRow
 nodeValue x = record { front = x .front; last = x .last .0; unseen = x .unseen .0 }
@@ -30,9 +30,13 @@ abbrev pub findingValue : Found → Finding
 findingValue x = record { name = x .name; node = x .node .0; index = x .index .0; term = x .term .0 }
 
 -- the index of a number's prefix: 0 of the empty one
+abbrev pub indexOf : (ℕ → PrefixRow) → ℕ → ℕ
+indexOf row p = cond (eqb p 0) 0 (row (p - 1) .index)
+
+-- the same in the bytes of the table
 unfoldable pub numberIndex : Bytes → ℕ → ℕ
 unfolding wordAt
-numberIndex t p = cond (eqb p 0) 0 (prefixRow t (p - 1) .index)
+numberIndex t p = indexOf (prefixRow t) p
 
 -- the end of the committed prefix
 unfoldable pub committedEnd : Bytes → ℕ
