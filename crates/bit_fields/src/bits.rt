@@ -1,6 +1,6 @@
 // Bits of a record, most significant first: the number in any 57 or fewer of them, and a field that may be missing.
 ghost use mathlib.Core.Path.{_≡_};
-ghost use Prim.Native.Nat.{ℕ, _+_, _*_, _≤_};
+ghost use Prim.Native.Nat.{_+_, _*_, _≤_};
 ghost use lib.ListN.{length};
 ghost use lib.Dec.{leb};
 ghost use Rattle.model.specs.Reading as reading;

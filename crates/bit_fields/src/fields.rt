@@ -1,7 +1,7 @@
 // The fields of records, each with all its own faults in document 01's order: its bits are missing, its value is out of
 // its limit, it is not above the one before.
 ghost use mathlib.Core.Path.{_≡_};
-ghost use Prim.Native.Nat.{ℕ, _+_, _≤_};
+ghost use Prim.Native.Nat.{_+_, _≤_};
 ghost use Rattle.model.specs.Reading as reading;
 ghost use Rattle.bit_fields.specs.Answers.{numberPart, flagPart, atMost};
 use crate::bits::Fault;

@@ -1,7 +1,7 @@
 // The record reader: it borrows the record and remembers its next bit. A function over it takes it apart, and the bits are
 // read on plain parameters (bits.rt). Callers use `two_fields`, whose parameters are plain too.
 ghost use mathlib.Core.Path.{_≡_};
-ghost use Prim.Native.Nat.{ℕ, _+_, _^_, _≤_, _<_};
+ghost use Prim.Native.Nat.{_+_, _^_, _≤_, _<_};
 ghost use Rattle.model.specs.Reading as reading;
 ghost use Rattle.bit_fields.specs.Answers.{numberPart};
 use crate::bits::Number;

@@ -1,4 +1,4 @@
--- The marks: the turns of the loop that moves them, and what moving them means.
+-- The marks: the turns of the loop that moves them.
 -- Assumes nothing.
 use Prim.Native.Nat.{ℕ, zero, suc, _+_, _-_, _<_, _≤_}
 use native.Mathlib.Omega.{arith}

@@ -24,7 +24,7 @@ use Rattle.storage.specs.Tables.{CertificateRow, certificateRow, certificatesPa
 use Rattle.storage.specs.Rules.{findingRight}
 use Rattle.storage.proofs.ListLaws.{tabulate-length}
 use Rattle.storage.proofs.PartLaws.{part-length}
-use Rattle.storage.proofs.Meanings.{Stands, is, withElections, withNoted, certificates-stored, findings-stored, findings-taken, findings-right, noted-right, end-is}
+use Rattle.storage.proofs.Meanings.{Stands, withElections, withNoted, certificates-stored, findings-stored, findings-taken, findings-right, noted-right, end-is}
 use Rattle.storage.proofs.Answered.{Means, accepts, refuses}
 use Rattle.logical_log.proofs.ViolationLaws.{Holds, all-hold, all-length}
 use Rattle.completeness.specs.declared.leader_completeness.Checked.{Checked}

@@ -1,6 +1,6 @@
 // One record handed to a history in lent bytes: 12 where the bytes break the storage rules, else the record is read, and its kind
 // answers. Stands on all the kinds.
-pub mod answer; // answer.rt: the answers, and document 01's numbers
+pub mod answer; // answer.rt: the answers
 pub mod kinds; // kinds.rt: each kind's answer as one of them
 pub mod submit; // submit.rt: any bytes, to any history
 pub mod numbers; // numbers.rt: document 01's numbers for an answer

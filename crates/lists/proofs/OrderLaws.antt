@@ -1,4 +1,4 @@
--- The turns of the search for the n-th finding in printed order, and what it finds: the n-th of the model's ordered list.
+-- The turns of the search for the n-th finding in printed order.
 -- Assumes nothing.
 use Prim.Native.Nat.{ℕ, _+_, _-_, _<_, _≤_}
 use native.Mathlib.Omega.{arith}

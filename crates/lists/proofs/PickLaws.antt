@@ -1,5 +1,4 @@
--- The turns of a loop that counts down to the n-th place that is not passed over, and what the n-th is: that of the list of
--- those places. Each law of a turn takes the loop's invariant first.
+-- The turns of a loop that counts down to the n-th place that is not passed over. Each law takes the loop's invariant first.
 -- Assumes nothing.
 use Prim.Native.Nat.{ℕ, suc, _+_, _-_, _<_, _≤_}
 use native.Mathlib.Omega.{arith}

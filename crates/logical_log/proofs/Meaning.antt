@@ -6,7 +6,7 @@ use native.Mathlib.Nat.{le-refl}
 use native.Mathlib.Omega.{arith}
 use mathlib.Core.Path.{_≡_, refl, sym, _∙_, ap, subst}
 use mathlib.Core.Bool.{Bool, true, false, cond}
-use mathlib.Core.Logic.{_⊎_, inl, ⊎-elim}
+use mathlib.Core.Logic.{inl, ⊎-elim}
 use mathlib.Core.List.{List, [], _∷_, List·Memᴰ, List·Memᴰ·not-nil, List·Memᴰ·cases-cons, List·Memᴰ·append-cases, List·Memᴰ·eq-of-singleton}
 use mathlib.Core.Option.{Option, none, some}
 use lib.Dec.{ltb}
@@ -31,7 +31,7 @@ use Rattle.storage.proofs.ListLaws.{tabulate-length, tabulate-at, every-at}
 use Rattle.storage.proofs.DecodeLaws.{NodeNamed, node-named, FindingNamed}
 use Rattle.storage.proofs.RowFacts.{resolve-count}
 use Rattle.storage.proofs.WellFormed.{rows-count, formed}
-use Rattle.storage.proofs.Meanings.{Stands, withPrefixes, withFront, withNoted, prefixes-is, findings-stored, findings-right, noted-right, kept, is, unseen-read, node-written, findings-taken}
+use Rattle.storage.proofs.Meanings.{Stands, withPrefixes, withFront, withNoted, prefixes-is, findings-stored, findings-right, noted-right, kept, unseen-read, node-written, findings-taken}
 use Rattle.storage.proofs.Answered.{Means, accepts, refuses}
 use Rattle.logical_log.specs.Observation.{nextNumber, counted, missingFrom, noteOf, notesFrom, other, writtenBytes, writtenCount, writtenNumber, viewReplaced, findingsKept, viewWritten, missingIn, notesIn, heldIn, tableIn, observed, observedBytes}
 use Rattle.logical_log.specs.Violation.{heldAll, bytesAll}

@@ -14,7 +14,7 @@ use Rattle.model.specs.Commit.{commitRefusal, commitValue, commitEffect}
 use Rattle.model.specs.Terms.{termsRefusal, termsEffect}
 use Rattle.model.specs.Election.{electionRefusal, electionEffect}
 use Rattle.model.specs.Check.{checkRefusal, checkValue, checkEffect}
-use Rattle.model.specs.Rows.{Verdict, verdict}
+use Rattle.model.specs.Rows.{verdict}
 
 -- why the history refuses a readable record, if it does
 abbrev pub refusal : History → Record → Option Refusal

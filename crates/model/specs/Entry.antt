@@ -1,12 +1,11 @@
 -- Document 01, "Prefix": a prefix is the entries 1 to n, and equality covers term and content at each index.
 -- So a prefix is a list of entries, its end is its length, and equality is equality of lists.
 -- Assumes nothing.
-use Prim.Native.Nat.{ℕ, zero, suc, min}
+use Prim.Native.Nat.{ℕ, min}
 use native.Mathlib.Decide.{ℕ-discrete}
 use mathlib.Core.Path.{_≡_, refl, ap}
 use mathlib.Core.Bool.{Bool, true, false, cond, _||_}
 use mathlib.Core.List.{List, [], _∷_, _++_, nil≢cons, cons≢nil, head-eq-of-cons-eq, tail-eq-of-cons-eq}
-use mathlib.Core.Option.{Option, none, some}
 use lib.ListN.{length, take}
 
 -- an entry: its term and its content bytes. Its index is its place in the prefix.

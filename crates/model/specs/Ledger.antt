@@ -1,11 +1,11 @@
 -- Document 01, "The plain ledger". It is fed the same records in the same order, and told of each only whether it was
--- accepted. It takes nothing from the history: this file stands on records and entries alone.
+-- accepted. It takes nothing from the history: this file stands on records, their reading, entries and the order of leaders.
 -- Assumes nothing.
-use Prim.Native.Nat.{ℕ, zero, suc, _+_}
+use Prim.Native.Nat.{ℕ, zero, suc}
 use mathlib.Core.Bool.{Bool, true, false, cond, not, _&&_, _||_}
 use mathlib.Core.List.{List, [], _∷_, _++_}
 use mathlib.Core.Option.{Option, none, some}
-use lib.Dec.{leb, ltb, eqb}
+use lib.Dec.{leb, ltb}
 use lib.ListN.{length, getD, take, set, replicate}
 use Rattle.model.specs.Sizes.{Bytes, nodes}
 use Rattle.model.specs.Entry.{Prefix, begins}

@@ -6,12 +6,11 @@
 -- looked at last.
 -- Assumes nothing.
 use Prim.Native.Nat.{ℕ, zero, suc, _+_, _-_, _*_, _/_, _%_, _^_}
-use mathlib.Core.Bool.{Bool, true, false, cond, _&&_, _||_}
+use mathlib.Core.Bool.{Bool, cond, _&&_}
 use mathlib.Core.List.{List, [], _∷_}
 use lib.Dec.{leb, ltb, eqb}
 use lib.ListN.{length, getD}
 use Rattle.model.specs.Sizes.{Bytes, indexLimit, contentLimit}
-use Rattle.model.specs.Entry.{Entry}
 use Rattle.model.specs.Refusal.{Refusal, unknownKind, bitsMissing, filling, outOfLimit, notAbove}
 use Rattle.model.specs.Record.{Shown, Configuration, Row, Record, view, commit, terms, election, check, rows}
 

@@ -4,8 +4,8 @@ use Prim.Native.Nat.{ℕ}
 use mathlib.Core.Bool.{Bool, cond, not, _&&_, _||_}
 use mathlib.Core.List.{List, [], _∷_}
 use mathlib.Core.Option.{Option, none, some}
-use lib.Dec.{leb, ltb, eqb}
-use Rattle.model.specs.Record.{Row, Configuration}
+use lib.Dec.{ltb, eqb}
+use Rattle.model.specs.Record.{Row}
 
 -- 1 commit below floor
 abbrev pub rule1 : Row → Bool

@@ -2,7 +2,6 @@
 -- list of records. Each record is handed the history as the one before it left it, and the ledger is told of each only
 -- whether it was accepted.
 -- Assumes nothing.
-use Prim.Native.Nat.{ℕ}
 use mathlib.Core.List.{List, [], _∷_, _++_}
 use mathlib.Core.Option.{Option, none, some}
 use Rattle.model.specs.Sizes.{Bytes}

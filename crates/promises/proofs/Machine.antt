@@ -9,7 +9,7 @@ use Rattle.model.specs.Sizes.{Bytes}
 use Rattle.model.specs.Refusal.{unknownKind}
 use Rattle.model.specs.History.{History}
 use Rattle.model.specs.Answer as model
-use Rattle.model.specs.Answer.{isAccepted, answer}
+use Rattle.model.specs.Answer.{isAccepted}
 use Rattle.model.specs.Ledger.{Ledger, fed}
 use Rattle.model.specs.Lists.{findingList, leaderList}
 use Rattle.model.proofs.Bridge.{Machine, stateFrom, toldFrom}

@@ -1,4 +1,4 @@
-// The record reader: what a clinic server's record says, or the first fault from the left. Document 01, "Record bits"
+// Reading a whole record: what a clinic server's record says, or the first fault from the left. Document 01, "Record bits"
 // and "Refused records", decides. Nothing is asked of the bytes. Stands on `bit_fields`.
 pub mod scan; // scan.rt: the entries of a view and the rows, looked at for faults
 pub mod head; // head.rt: the whole record, read

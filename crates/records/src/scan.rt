@@ -1,7 +1,7 @@
 // The entries of a view and the rows, looked at from the left for their first fault. An item's answer has its key, the
 // entry's index or the row's node, and the bit after it; contents are not read here.
 ghost use mathlib.Core.Path.{_≡_};
-ghost use Prim.Native.Nat.{ℕ, _+_, _*_, _^_, _≤_};
+ghost use Prim.Native.Nat.{_+_, _*_, _^_, _≤_};
 ghost use Rattle.model.specs.Reading as reading;
 ghost use Rattle.records.specs.Scans.{keyed, ended, scanPart, endPart, donePart};
 ghost use Rattle.records.specs.Places.{indexOf, nodeOf};

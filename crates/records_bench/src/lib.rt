@@ -1,6 +1,6 @@
 // What bench/ times: a view's record is read, and its entries are walked, with every content byte used.
 ghost use mathlib.Core.Path.{_≡_};
-ghost use Prim.Native.Nat.{ℕ, _+_, _*_, _≤_};
+ghost use Prim.Native.Nat.{_≤_};
 ghost use lib.ListN.{length, take};
 ghost use Rattle.model.specs.Reading as reading;
 ghost use Rattle.records.specs.Places as places;

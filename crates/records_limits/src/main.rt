@@ -1,6 +1,6 @@
 // Reads cases from standard input, a line each: a name, a space and a record in hexadecimal. Writes for each its name and
 // `ok`, or the number of its first fault. tests/record_limits.py wrote the cases and what is to come out.
-ghost use Prim.Native.Nat.{ℕ, _≤_};
+ghost use Prim.Native.Nat.{_≤_};
 ghost use lib.ListN.{length};
 ghost use Rattle.io.specs.Counts.{Counts};
 use bit_fields::bits::fault_number;

@@ -2,19 +2,18 @@
 -- Assumes nothing.
 use Prim.Native.Nat.{ℕ, zero, suc, _+_, _≤_}
 use native.Mathlib.Omega.{arith}
-use mathlib.Core.Path.{_≡_, refl, ap, sym, _∙_}
+use mathlib.Core.Path.{_≡_, refl, ap, _∙_}
 use mathlib.Core.Bool.{true}
-use mathlib.Core.List.{List, [], _∷_, _++_, map}
+use mathlib.Core.List.{List, [], _∷_}
 use lib.Dec.{eqb}
 use lib.ListN.{length, getD, length-append, length-map}
 use Rattle.model.specs.Sizes.{Bytes}
-use Rattle.model.specs.History.{Finding, History}
-use Rattle.model.specs.Lists.{Unseen, before, insert, ordered, findingList, leadersOf, leaderList, unseenOf, marksFrom, unseenList, unknownOf, unknownFrom, unknownList}
-use Rattle.model.specs.Leaders.{ascending}
+use Rattle.model.specs.History.{Finding}
+use Rattle.model.specs.Lists.{Unseen, before, insert, ordered, findingList, leaderList, unseenOf, marksFrom, unseenList, unknownOf, unknownFrom, unknownList}
 use Rattle.model.proofs.Tests.{cond-cases}
 use Rattle.storage.specs.Words.{wordAt}
 use Rattle.storage.specs.Rules.{wellFormed}
-use Rattle.storage.specs.Tables.{NodeRow, nodeRow, nodesPart, findingRow, findingRows, findingsPart, tablesIn, tablesOf}
+use Rattle.storage.specs.Tables.{nodeRow, nodesPart, findingRow, findingsPart, tablesIn}
 use Rattle.storage.specs.Decode.{decode}
 use Rattle.storage.proofs.ListLaws.{tabulate-length}
 use Rattle.storage.proofs.WellFormed.{formed, end-small}

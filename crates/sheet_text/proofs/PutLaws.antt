@@ -1,9 +1,8 @@
 -- Laws of putting bytes into the output: one byte, one thing after another, more room.
 -- Assumes nothing.
 use Prim.Native.Nat.{ℕ, suc, _+_, _≤_}
-use native.Mathlib.Nat.{add-assoc}
 use native.Mathlib.Omega.{arith}
-use mathlib.Core.Path.{_≡_, refl, ap, sym, _∙_}
+use mathlib.Core.Path.{_≡_, refl, ap, _∙_}
 use mathlib.Core.List.{[], _∷_, _++_, append-assoc}
 use lib.ListN.{length, set, length-append}
 use Rattle.model.specs.Sizes.{Bytes}

@@ -12,7 +12,7 @@ use lib.ListN.{length, getD, set, take, drop, length-set, length-drop, length-ap
 use lib.Seq.{getD-set-same, getD-set-other, getD-drop, drop-drop, take-append-le, drop-append-le}
 use borrow.Author.Tests.{ltb-false, eqb-false, lt-ltb, le-ltb, eq-eqb, ne-eqb}
 use Rattle.model.specs.Sizes.{Bytes}
-use Rattle.storage.specs.Words.{wordAt, bytesAt}
+use Rattle.storage.specs.Words.{wordAt}
 use Rattle.storage.specs.Layout.{part}
 use Rattle.storage.proofs.WordLaws.{word-agree, word-shift, bytes-shift}
 use Rattle.sheet_text.specs.declared.split.Piece.{Piece}

@@ -3,13 +3,12 @@
 use Prim.Native.Nat.{ℕ, zero, suc, _+_, _*_, _≤_, _<_}
 use native.Mathlib.Numerals.{add-one}
 use native.Mathlib.Omega.{arith}
-use mathlib.Core.Path.{_≡_, refl, ap, sym, subst, _∙_}
+use mathlib.Core.Path.{_≡_, refl, ap, sym, _∙_}
 use mathlib.Core.List.{List, [], _∷_, _++_, append-assoc, append-nil}
 use lib.ListN.{length, take, drop}
 use Rattle.model.specs.Sizes.{Bytes}
 use Rattle.storage.specs.Words.{putBytes}
 use Rattle.storage.specs.Layout.{part}
-use Rattle.sheet_text.specs.declared.taking.Progress.{Progress}
 use Rattle.sheet_text.specs.declared.split.Piece as code
 use Rattle.sheet_text.specs.Decimal.{Put}
 use Rattle.sheet_text.specs.Pieces.{Piece, whole, cut, pieces, pieceAt, piecesBy, Split}

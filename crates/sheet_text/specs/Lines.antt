@@ -5,7 +5,6 @@ use mathlib.Core.Bool.{cond}
 use mathlib.Core.List.{[], _∷_, _++_}
 use lib.Dec.{eqb}
 use Rattle.model.specs.Sizes.{Bytes}
-use Rattle.model.specs.History.{Finding}
 use Rattle.history.specs.declared.numbers.Reply.{Reply}
 use Rattle.sheet_text.specs.Decimal.{decimal}
 

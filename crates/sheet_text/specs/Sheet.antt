@@ -12,7 +12,6 @@ use Rattle.model.specs.Leaders.{Leader}
 use Rattle.model.specs.Lists.{Unseen, findingList, leaderList, unseenList, unknownList, committedLength, committedOwner}
 use Rattle.storage.specs.Rules.{wellFormed}
 use Rattle.storage.specs.Decode.{decode}
-use Rattle.history.specs.declared.numbers.Reply.{Reply}
 use Rattle.history.specs.Numbers.{refusalIn, replyOf}
 use Rattle.history.specs.Replies.{submitAnswer, submitBytes}
 use Rattle.sheet_text.specs.declared.taking.Progress.{Progress}

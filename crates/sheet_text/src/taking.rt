@@ -1,5 +1,4 @@
 // Pieces taken in turn: each record is handed to the history and its line put into the output.
-ghost use mathlib.Core.Path.{_≡_};
 ghost use Prim.Native.Nat.{_+_, _≤_};
 ghost use lib.ListN.{length};
 ghost use Rattle.sheet_text.specs.Decimal.{Put};

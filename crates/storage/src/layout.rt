@@ -1,6 +1,5 @@
 // Where each table of a history lies in its lent bytes, and how wide its rows are.
 // A table's functions take only its own region, so that they can touch no other.
-ghost use mathlib.Core.Path.{_≡_};
 ghost use Prim.Native.Nat.{_+_, _≤_};
 ghost use lib.ListN.{length};
 ghost use Rattle.storage.specs.Layout.{Part};

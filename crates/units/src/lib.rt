@@ -1,7 +1,6 @@
 // The units of the log history: node, index and term, each a tuple struct over one number, as in the Rust. No unit
 // converts into another. The limits are those of document 01, "Sizes of things".
 ghost use mathlib.Core.Path.{_≡_};
-ghost use Prim.Native.Nat.{ℕ};
 ghost use Rattle.units.specs.Units.{nodeOf, indexOf};
 
 // The greatest node.

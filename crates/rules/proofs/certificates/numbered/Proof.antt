@@ -2,7 +2,7 @@
 -- Assumes nothing.
 use Rattle.rules.proofs.Turns.{numbered-start, numbered-first, numbered-no-rows, numbered-next, numbered-stop, numbered-none}
 use Rattle.storage.specs.Values.{certificateValue}
-use Rattle.storage.specs.Rules.{numbered, numberedAfter, follows}
+use Rattle.storage.specs.Rules.{numbered, numberedAfter}
 use Rattle.storage.specs.Tables.{certificateRow, certificateRows}
 use borrow.Author.Tests.{not-true, not-false}
 use borrow.Author.Count.{falls}
