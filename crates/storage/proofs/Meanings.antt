@@ -14,20 +14,20 @@ use Rattle.model.specs.History.{fresh, Certificate, Finding, History, sameFindi
 use Rattle.model.proofs.Tests.{cond-cases}
 use Rattle.storage.specs.Lists.{every}
 use Rattle.storage.specs.Words.{wordAt, wordBytes, putBytes}
-use Rattle.storage.specs.Tables.{NodeRow, CertificateRow, Tables, nodeRow, termRow, findingRow, prefixRow, prefixRows, termRows, certificateRows, findingRows, headPart, nodesPart, termsPart, certificatesPart, findingsPart, prefixesPart, tablesIn, tablesOf, withRow, withNode, withCommitted, withTerms, withCertificates, withFindings}
+use Rattle.storage.specs.Tables.{NodeRow, CertificateRow, Tables, nodeRow, termRow, findingRow, prefixRows, termRows, certificateRows, findingRows, headPart, nodesPart, termsPart, certificatesPart, findingsPart, prefixesPart, tablesIn, tablesOf, withRow, withNode, withCommitted, withTerms, withCertificates, withFindings}
 use Rattle.storage.specs.Decode.{prefixAt, extended, resolve, frontIn, certificateIn, historyIn, decode}
 use Rattle.storage.specs.Rules.{certificateRight, findingRight, numbered, prefixRight, wellFormed}
-use Rattle.storage.specs.Values.{committedEnd}
+use Rattle.storage.specs.Values.{numberIndex, committedEnd}
 use Rattle.storage.specs.Writes.{nodeBytes, prefixBytes, prefixOf, CertificateFits, PrefixFits, prefixAppended, termAppended, committedSet, certificateInserted, certificateAdded}
 use Rattle.storage.proofs.ListLaws.{tabulate-length, tabulate-at, every-insert, map-insert, every-snoc}
 use Rattle.storage.proofs.WordLaws.{put-length}
 use Rattle.storage.proofs.PartLaws.{word-part}
 use Rattle.storage.proofs.RowFacts.{resolve-count}
-use Rattle.storage.proofs.RuleLaws.{within, index-among, pass}
+use Rattle.storage.proofs.RuleLaws.{within, pass}
 use Rattle.storage.proofs.TableLaws.{findings-written, set-node, set-term, prefix-appended, term-appended, committed-set, certificate-added}
 use Rattle.storage.specs.Fresh.{freshHistory}
 use Rattle.storage.proofs.FreshLaws.{fresh-well-formed, fresh-decodes}
-use Rattle.storage.proofs.WellFormed.{rows-are, terms-are, certificates-are, findings-are, rows-count, terms-count, certificates-count, findings-count, node-row, formed, formed-rows}
+use Rattle.storage.proofs.WellFormed.{rows-are, terms-are, certificates-are, findings-are, rows-count, terms-count, certificates-count, findings-count, node-row, formed, formed-rows, rows-index}
 use Rattle.storage.proofs.DecodeLaws.{Kept, well-formed-parts, well-formed-of, NodeNamed, CertificateNamed, certificate-test, kept-node, kept-committed, kept-terms, kept-certificates, kept-findings, kept-row, decode-is, history-node, history-row, FindingNamed, finding-test}
 
 -- well-formed bytes that stand for a history
@@ -231,19 +231,19 @@ module _ (h : Bytes) (x : History) (s : Stands h x) where
   pub findings-stored : findingRows (findingsPart h) (wordAt h 7 1) ≡ x .findings
   findings-stored = sym (findings-are h) ∙ ap (λ (y : History). y .findings) is
 
+  -- a number's index is the length of its prefix
+  pub number-length : (p : ℕ) → p ≤ wordAt h 0 2 → numberIndex (prefixesPart h) p ≡ length (prefixAt (x .prefixes) p)
+  number-length p l =
+      rows-index (prefixesPart h) (wordAt h 0 2) p (formed-rows h (formed h (s .right))) l
+      ∙ ap (λ (ps : List Prefix). length (prefixAt ps p)) prefixes-stored
+
   -- the committed prefix, and its end, which is its length
   pub committed-stored : prefixAt (x .prefixes) (wordAt h 4 2) ≡ x .committed
   committed-stored = sym (subst (λ (y : History). y .committed ≡ prefixAt (y .prefixes) (wordAt h 4 2)) (s .decodes) (committed-read h))
 
   pub end-is : committedEnd h ≡ length (x .committed)
   unfolding committedEnd
-  end-is =
-      let f = formed h (s .right) in
-      let c = tabulate-length (prefixRow (prefixesPart h)) 0 (wordAt h 0 2) in
-      sym (index-among (prefixesPart h) (wordAt h 0 2) (wordAt h 4 2) (f .committed))
-      ∙ sym (formed-rows h f .index (wordAt h 4 2) (omega (arith, f .committed)))
-      ∙ ap (λ (ps : List Prefix). length (prefixAt ps (wordAt h 4 2))) prefixes-stored
-      ∙ ap length committed-stored
+  end-is = number-length (wordAt h 4 2) (formed h (s .right) .committed) ∙ ap length committed-stored
 
   certificates-change : (cs : List CertificateRow) → historyIn (withCertificates (tablesOf h) cs) ≡ withElections x (map (certificateIn (x .prefixes)) cs)
   certificates-change cs = ap (λ (y : History). withElections y (map (certificateIn (y .prefixes)) cs)) is

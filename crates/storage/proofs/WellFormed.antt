@@ -12,6 +12,7 @@ use Rattle.model.specs.Sizes.{Bytes}
 use Rattle.storage.specs.Words.{wordAt}
 use Rattle.storage.specs.Tables.{NodeRow, CertificateRow, nodeRow, certificateRow, prefixRow, findingRow, termRow, prefixRows, certificateRows, findingRows, termRows, headPart, nodesPart, termsPart, certificatesPart, findingsPart, prefixesPart, tablesIn, tablesOf}
 use Rattle.storage.specs.Values.{numberIndex, committedEnd}
+use Rattle.storage.specs.Decode.{prefixAt, resolve}
 use Rattle.storage.specs.Rules.{nodeRight, certificateRight, prefixesRightAfter, wellFormed}
 use Rattle.storage.proofs.ListLaws.{tabulate-length, tabulate-at, every-at}
 use Rattle.storage.proofs.PartLaws.{word-part}
@@ -127,6 +128,11 @@ module _ (h : Bytes) (e : wellFormed h ≡ true) where
 -- the rows have their facts, and the index of a stored prefix is within the limit
 pub formed-rows : (h : Bytes) → Formed h → Facts (prefixRows (prefixesPart h) (wordAt h 0 2))
 formed-rows h f = facts-of (prefixRows (prefixesPart h) (wordAt h 0 2)) (rows-sized (prefixesPart h) (wordAt h 0 2)) (f .rows)
+
+-- a number's index is the length of its prefix
+pub rows-index : (t : Bytes) (n p : ℕ) → Facts (prefixRows t n) → p ≤ n → numberIndex t p ≡ length (prefixAt (resolve (prefixRows t n)) p)
+rows-index t n p f l =
+    sym (index-among t n p l) ∙ sym (f .index p (subst (λ (m : ℕ). p ≤ m) (sym (tabulate-length (prefixRow t) 0 n)) l))
 
 pub formed-index : (h : Bytes) → Formed h → (p : ℕ) → p ≤ wordAt h 0 2 → numberIndex (prefixesPart h) p ≤ 256
 formed-index h f p l =
