@@ -11,4 +11,5 @@ pub mod Written
 pub mod Rest
 pub mod Whole
 pub mod Stored
+pub mod Writing
 pub mod Meaning

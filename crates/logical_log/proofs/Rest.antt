@@ -7,7 +7,7 @@ use mathlib.Core.Path.{_≡_, refl, sym, _∙_, ap, subst, subst₂}
 use mathlib.Core.Bool.{false}
 use mathlib.Core.List.{[], _∷_}
 use lib.Dec.{eqb}
-use lib.ListN.{length}
+use lib.ListN.{length, length-append}
 use borrow.Author.Tests.{eq-eqb, ne-eqb}
 use Rattle.model.specs.Sizes.{Bytes}
 use Rattle.model.specs.Entry.{Entry}
@@ -17,10 +17,16 @@ use Rattle.records.specs.declared.walk.ShownEntry.{ShownEntry}
 use Rattle.records.specs.Places.{Walk, firstEntry, entriesAt}
 use Rattle.records.specs.Values.{shownEntry}
 use Rattle.records.proofs.Walks.{last-next}
-use Rattle.storage.specs.Tables.{prefixRow, prefixesPart}
+use Rattle.storage.specs.Tables.{prefixRow, prefixRows, prefixesPart}
+use Rattle.storage.specs.Values.{numberIndex}
+use Rattle.storage.specs.Decode.{prefixAt, resolve}
+use Rattle.storage.proofs.WellFormed.{rows-index}
+use Rattle.logical_log.specs.Table.{Table}
 use Rattle.logical_log.specs.Prefix.{rowOf, find}
 use Rattle.logical_log.specs.Observation.{nextNumber, counted, extensionIn, writtenBytes, writtenCount, writtenNumber, onward, frontAt, SameWritten, Stand, lastAt, Rest}
 use Rattle.logical_log.specs.declared.observation.Place.{Place}
+use Rattle.logical_log.proofs.PrefixLaws.{found}
+use Rattle.logical_log.proofs.TableLaws.{rows-length, rows-at, table-facts}
 use Rattle.logical_log.proofs.Turns.{next-lost}
 use Rattle.logical_log.proofs.Written.{number-found, count-found, bytes-found, written-cons}
 
@@ -49,6 +55,21 @@ module _ (h ps : Bytes) (eh : prefixesPart h ≡ ps) (n p i : ℕ) (e : Entry) (
         counts = w .counts ∙ ap (writtenCount h n p i) steps ∙ u .1 ∙ (λ j. writtenCount (b j) (c j) (d j) (i + 1) R);
         number = w .number ∙ ap (writtenNumber h n p i) steps ∙ u .2 ∙ (λ j. writtenNumber (b j) (c j) (d j) (i + 1) R);
       }
+
+-- the index after it is one more
+index-next : (ps : Bytes) (n p i : ℕ) (e : Entry) (k : ℕ) → Table ps n → p ≤ n → length (e .content) ≤ 32 → i ≡ numberIndex ps p + 1
+    → k ≡ nextNumber (prefixRow ps) n 0 p e → (k ≡ 0 → ⊥) → i + 1 ≡ numberIndex ps k + 1
+unfolding nextNumber
+index-next ps n p i e zero t l short w ek z = absurd (z refl)
+index-next ps n p i e (suc k) t l short w ek z =
+    let f = table-facts ps n t in
+    let size = rows-length ps n in
+    let x = found (prefixRow ps) (prefixRows ps n) f (rows-at ps n) p 0 e (subst (λ (m : ℕ). p ≤ m) (sym size) l) short k
+    (ap (λ (m : ℕ). find (prefixRow ps) m (rowOf p 0 e)) size ∙ sym ek) in
+    let a = rows-index ps n p f l in
+    let b = rows-index ps n (suc k) f (subst (λ (m : ℕ). suc k ≤ m) size (x .0)) in
+    let c = ap length (x .1) ∙ length-append (prefixAt (resolve (prefixRows ps n)) p) (e ∷ []) in
+    omega arith
 
 -- ---- what was counted
 
@@ -83,9 +104,14 @@ pub record Placed (ps : Bytes) (count : ℕ) (s : Bytes) (n : ℕ) (r : Place) (
   pub lack : length (frontAt s r) ≡ missing + length (frontFrom i (entriesAt s at left))
   pub last : lastIndex (entriesAt s firstEntry n) ≡ lastAt s r
   pub stands : Stand s count r
+  pub next : r .index ≡ numberIndex ps (r .number) + 1
   pub own : missing ≡ 0 → r ≡ record { at = at; left = left; index = i; number = p }
 
-module _ (ps : Bytes) (count : ℕ) (s : Bytes) (n : ℕ) where
+module _ (ps : Bytes) (count : ℕ) (t : Table ps count) (s : Bytes) (n : ℕ) where
+  first : 1 ≡ numberIndex ps 0 + 1
+  unfolding numberIndex
+  first = refl
+
   pub placed-starts : Walk s firstEntry n
       → Placed ps count s n (record { at = firstEntry; left = n; index = 1; number = 0 }) firstEntry n 1 0 0
   placed-starts w =
@@ -94,6 +120,7 @@ module _ (ps : Bytes) (count : ℕ) (s : Bytes) (n : ℕ) where
         lack = omega arith;
         last = refl;
         stands = record { walk = w; number = omega arith; positive = omega arith; small = omega arith };
+        next = first;
         own = λ z. refl;
       }
 
@@ -105,10 +132,12 @@ module _ (ps : Bytes) (count : ℕ) (s : Bytes) (n : ℕ) where
           lack = (let a = w .lack in let b = ap length e in omega arith);
           last = w .last;
           stands = w .stands;
+          next = w .next;
         }
 
     module _ (e : Entry) (at′ left′ k : ℕ) (steps : frontFrom i (entriesAt s at left) ≡ e ∷ frontFrom (i + 1) (entriesAt s at′ left′))
-        (le : lastFrom (i - 1) (entriesAt s at left) ≡ lastFrom i (entriesAt s at′ left′)) (ek : k ≡ nextNumber (prefixRow ps) count missing p e) where
+        (le : lastFrom (i - 1) (entriesAt s at left) ≡ lastFrom i (entriesAt s at′ left′)) (ek : k ≡ nextNumber (prefixRow ps) count missing p e)
+        (short : length (e .content) ≤ 32) where
       abbrev new : Place
       new = record { at = at′; left = left′; index = i + 1; number = k }
 
@@ -116,6 +145,12 @@ module _ (ps : Bytes) (count : ℕ) (s : Bytes) (n : ℕ) where
       lasts z =
           subst (λ (x : Place). lastIndex (entriesAt s firstEntry n) ≡ lastAt s x) (w .own z) (w .last)
           ∙ le ∙ ap (λ (x : ℕ). lastFrom x (entriesAt s at′ left′)) (let y : i ≡ i + 1 - 1 = omega arith in y)
+
+      nexts : missing ≡ 0 → (k ≡ 0 → ⊥) → i + 1 ≡ numberIndex ps k + 1
+      nexts m z =
+          index-next ps count p i e k t (subst (λ (x : Place). x .number ≤ count) (w .own m) (w .stands .number)) short
+          (subst (λ (x : Place). x .index ≡ numberIndex ps (x .number) + 1) (w .own m) (w .next))
+          (ek ∙ ap (λ (x : ℕ). nextNumber (prefixRow ps) count x p e) m) z
 
       moved : counted missing k ≡ 0 → Walk s at′ left′ → k ≤ count → i + 1 ≤ 257 → Placed ps count s n new at′ left′ (i + 1) k (counted missing k)
       moved z wk nk sm =
@@ -126,6 +161,7 @@ module _ (ps : Bytes) (count : ℕ) (s : Bytes) (n : ℕ) where
             lack = (let x = z in omega arith);
             last = lasts (c .0);
             stands = record { walk = wk; number = nk; positive = omega arith; small = sm };
+            next = nexts (c .0) (c .1);
             own = λ y. refl;
           }
 
@@ -136,6 +172,7 @@ module _ (ps : Bytes) (count : ℕ) (s : Bytes) (n : ℕ) where
             lack = (let a = w .lack in let b = ap length steps in let c = counted-some ps count missing p e k ek z in omega arith);
             last = w .last;
             stands = w .stands;
+            next = w .next;
             own = λ y. absurd (z y);
           }
 

@@ -172,9 +172,10 @@ module _ (limit : ℕ) (h s : Bytes) (m node missing held count : ℕ) (r : Plac
     pub observed-room : Observing h s m node → limit ≤ 512 → Storing h count s r
     observed-room o g =
         record {
-          long = formed h (o .right) .long;
+          right = o .right;
           count = e;
           stands = subst (λ (x : ℕ). Stand s x r) (sym e) (j .rest .stands);
+          next = j .rest .next;
           room = subst (λ (x : ℕ). x ≤ 512)
               (sym (ap (λ (x : ℕ). writtenCount h x (r .number) (r .index) (frontAt s r)) e ∙ sym (j .rest .same h refl .counts) ∙ written-count (front (entriesAt s firstEntry m)) h (wordAt h 0 2) 0 1))
               (subst (λ (x : ℕ). x ≤ 512) (total ∙ missing-in) (omega arith));

@@ -14,6 +14,7 @@ use Rattle.records.specs.Places.{Walk, firstEntry, entriesAt}
 use Rattle.storage.specs.Words.{putBytes, wordBytes, wordAt}
 use Rattle.storage.specs.Tables.{PrefixRow, prefixRow, prefixesPart, nodeRow, nodesPart, findingsPart}
 use Rattle.storage.specs.Writes.{prefixAppended, nodeBytes}
+use Rattle.storage.specs.Values.{numberIndex}
 use Rattle.storage.specs.Rules.{wellFormed}
 use Rattle.logical_log.specs.declared.observation.Observed.{Observed}
 use Rattle.logical_log.specs.declared.observation.Place.{Place}
@@ -67,7 +68,7 @@ notesFrom row count n missing p i (e ∷ es) =
 
 -- ---- written
 
--- `extend`: an extension that is stored has its number, one that is not gets the next
+-- an extension that is stored has its number, one that is not gets the next
 abbrev pub orNext : ℕ → ℕ → ℕ
 orNext k count = cond (eqb k 0) (count + 1) k
 
@@ -96,6 +97,22 @@ extendedCount h n p e = cond (eqb (extensionIn h n p e) 0) (n + 1) n
 unfoldable pub extendedNumber : Bytes → ℕ → ℕ → Entry → ℕ
 unfolding extensionIn
 extendedNumber h n p e = orNext (extensionIn h n p e) n
+
+abbrev pub extended : Bytes → ℕ → ℕ → Entry → Extended
+extended h n p e = record { number = extendedNumber h n p e; count = extendedCount h n p e }
+
+-- the index after the last of the prefix of number p
+abbrev pub nextIndex : Bytes → ℕ → ℕ
+nextIndex h p = numberIndex (prefixesPart h) p + 1
+
+-- `extend` takes the next index only: the extension, and the history after it; any other entry leaves every byte
+unfoldable pub extension : Bytes → ℕ → ℕ → ShownEntry → Extension
+unfolding extendedNumber extendedCount
+extension h n p e = cond (eqb (e .index .0) (nextIndex h p)) (Extension.Prefix (extended h n p (entryValue e))) Extension.NotNext
+
+unfoldable pub extensionBytes : Bytes → ℕ → ℕ → ShownEntry → Bytes
+unfolding extendedBytes
+extensionBytes h n p e = cond (eqb (e .index .0) (nextIndex h p)) (extendedBytes h n p (e .index .0) (entryValue e)) h
 
 -- the entries of a front, from index i on, one after the other
 unfoldable pub writtenBytes : Bytes → ℕ → ℕ → ℕ → List Entry → Bytes
@@ -146,6 +163,7 @@ pub record Rest (ps : Bytes) (count : ℕ) (s : Bytes) (n missing : ℕ) (r : Pl
   pub last : lastIndex (entriesAt s firstEntry n) ≡ lastAt s r
   pub lack : missing ≡ length (frontAt s r)
   pub stands : Stand s count r
+  pub next : r .index ≡ numberIndex ps (r .number) + 1
 
 -- what judging a view of n entries comes to: how many prefixes are missing, where they begin, and the findings
 -- with its LG-03
@@ -157,32 +175,23 @@ pub record JudgedAs (ps : Bytes) (count : ℕ) (s : Bytes) (n node : ℕ) (t : B
   pub table : t′ ≡ bytesAll t held (notesFrom (prefixRow ps) count node 0 0 1 (front (entriesAt s firstEntry n)))
   pub rest : Rest ps count s n missing r
 
--- what `extend` asks: a history of the right length that holds n prefixes, with room for the extension
+-- what `extend` asks: a history of the right length that holds n prefixes, with room for the extension, and an entry as it is read
 pub record Extending (h : Bytes) (n p : ℕ) (e : ShownEntry) : Type 0 where
   pub long : length h ≡ 24137
   pub count : n ≡ wordAt h 0 2
   pub number : p ≤ n
-  pub room : extendedCount h n p (entryValue e) ≤ 512
   pub fits : n ≤ 512
+  pub room : e .index .0 ≡ nextIndex h p → extendedCount h n p (entryValue e) ≤ 512
   pub short : e .length ≤ 32
   pub padded : e .content ≡ storedContent (entryValue e)
 
--- and what it does
-pub record ExtendedAs (h : Bytes) (n p : ℕ) (e : ShownEntry) (number count : ℕ) (h′ : Bytes) : Type 0 where
-  pub is : number ≡ extendedNumber h n p (entryValue e)
-  pub holds : count ≡ extendedCount h n p (entryValue e)
-  pub bytes : h′ ≡ extendedBytes h n p (e .index .0) (entryValue e)
-
--- an entry of the next index extends the prefix; any other leaves every byte
-pub record ExtensionAs (h : Bytes) (n p next : ℕ) (e : ShownEntry) (r : Extension) (h′ : Bytes) : Type 0 where
-  pub longer : (x : Extended) → r ≡ Extension.Prefix x → (e .index .0 ≡ next) × ExtendedAs h n p e (x .number) (x .count) h′
-  pub stays : r ≡ Extension.NotNext → (e .index .0 ≡ next → ⊥) × (h′ ≡ h)
-
--- what storing the front of a view from a place on asks: a history that holds n prefixes, with room for the front's
+-- what storing the front of a view from a place on asks: well-formed storage that holds n prefixes, a place at the index after
+-- its prefix, and room for what is left of the front
 pub record Storing (h : Bytes) (n : ℕ) (s : Bytes) (r : Place) : Type 0 where
-  pub long : length h ≡ 24137
+  pub right : wellFormed h ≡ true
   pub count : n ≡ wordAt h 0 2
   pub stands : Stand s n r
+  pub next : r .index ≡ nextIndex h (r .number)
   pub room : writtenCount h n (r .number) (r .index) (frontAt s r) ≤ 512
 
 -- and what it does: the number of the front, and the history

@@ -185,17 +185,15 @@ pub fn store(history: &mut [u8], count: usize, view: &[u8], rest: Place) -> usiz
 {
     let mut at = rest.at;
     let mut left = rest.left;
-    let mut i = rest.index;
     let mut p = rest.number;
     let mut n = count;
     while 0 < left {
         let shown = entry_at(view, at);
-        let Extension::Prefix(x) = extend(&mut history[..], n, p, LogIndex(i), shown) else {
+        let Extension::Prefix(x) = extend(&mut history[..], n, p, shown) else {
             return p;
         };
         p = x.number;
         n = x.count;
-        i += 1;
         at = shown.next;
         left -= 1;
     }

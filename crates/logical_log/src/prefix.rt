@@ -6,7 +6,7 @@ ghost use lib.ListN.{length};
 ghost use Rattle.storage.specs.Tables.{prefixRow};
 ghost use Rattle.storage.specs.Rules.{sameRow};
 ghost use Rattle.logical_log.specs.Table.{Table, entryValue};
-ghost use Rattle.logical_log.specs.Observation.{Extending, ExtendedAs, ExtensionAs};
+ghost use Rattle.logical_log.specs.Observation.{nextIndex, Extending, extended, extendedBytes, extension, extensionBytes};
 ghost use Rattle.logical_log.specs.Prefix.{rowOf, find, isOf, first, sliceOf};
 use records::walk::ShownEntry;
 use storage::layout::PREFIX_WIDTH;
@@ -113,8 +113,8 @@ pub struct Extended {
 
 // The extension of the prefix of number p by the entry is found or made.
 fn find_or_make(history: &mut [u8], count: usize, p: usize, e: ShownEntry) -> Extended
-    requires { ⌜ Extending (now history) count p e ⌝ }
-    ensures { λ r. ⌜ ExtendedAs (now (history .entry)) count p e (r .number) (r .count) (now (history .exit)) ⌝ }
+    requires { ⌜ Extending (now history) count p e × (e .index .0 ≡ nextIndex (now history) p) ⌝ }
+    ensures { λ r. ⌜ (r ≡ extended (now (history .entry)) count p (entryValue e)) × (now (history .exit) ≡ extendedBytes (now (history .entry)) count p (e .index .0) (entryValue e)) ⌝ }
 {
     let k = find_extension(
         part(&history[..], PREFIXES_START, PREFIXES_LENGTH),
@@ -139,18 +139,13 @@ pub enum Extension {
     NotNext,
 }
 
-// The one step that lengthens a prefix: that of number p takes the entry of the index after its last, `next`, and no other.
-pub fn extend(
-    history: &mut [u8],
-    count: usize,
-    p: usize,
-    next: LogIndex,
-    e: ShownEntry,
-) -> Extension
-    requires { ⌜ ((e .index .0 ≡ next .0) → Extending (now history) count p e) ⌝ }
-    ensures { λ r. ⌜ ExtensionAs (now (history .entry)) count p (next .0) e r (now (history .exit)) ⌝ }
+// The one step that lengthens a prefix: that of number p takes the entry of the index after its last, and no other.
+pub fn extend(history: &mut [u8], count: usize, p: usize, e: ShownEntry) -> Extension
+    requires { ⌜ Extending (now history) count p e ⌝ }
+    ensures { λ r. ⌜ (r ≡ extension (now (history .entry)) count p e) × (now (history .exit) ≡ extensionBytes (now (history .entry)) count p e) ⌝ }
 {
-    if e.index.0 != next.0 {
+    let last = index_of(part(&history[..], PREFIXES_START, PREFIXES_LENGTH), p);
+    if e.index.0 != last + 1 {
         return Extension::NotNext;
     }
     Extension::Prefix(find_or_make(&mut history[..], count, p, e))

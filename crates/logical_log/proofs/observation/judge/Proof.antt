@@ -6,6 +6,7 @@ use borrow.Author.Needs.{needs}
 use Rattle.records.proofs.Walks.{here}
 use Rattle.logical_log.proofs.Turns.{Judging, judging-starts, judging-ends, judging-gap, judging-next, entry-short, next-within, front-shown}
 use Rattle.logical_log.specs.Table.{entryValue}
+use Rattle.logical_log.proofs.Written.{value-length}
 use Rattle.logical_log.proofs.Rest.{Placed, placed-starts, placed-ends, placed-next, last-shown}
 use Rattle.logical_log.proofs.observation.judge.Statement.{statement}
 use Rattle.logical_log.proofs.observation.judge.Tie as tie
@@ -22,7 +23,7 @@ loop-holds c =
     let s = c .before .before .before in (
       judging-starts (s .args .prefixes .now) (s .args .count) (s .args .view .now) (s .args .entries) (s .args .node .0) (s .args .findings .now) (s .args .held)
           (s .pre .1) (s .pre .2) (s .pre .3),
-      placed-starts (s .args .prefixes .now) (s .args .count) (s .args .view .now) (s .args .entries) (s .pre .1),
+      placed-starts (s .args .prefixes .now) (s .args .count) (s .pre .0) (s .args .view .now) (s .args .entries) (s .pre .1),
     )
 
 entry-at-requires : tie.Need-entry-at-requires Inv-loop μ-loop
@@ -81,9 +82,10 @@ loop-again c =
     let j = judging-next (s .args .prefixes .now) (s .args .count) (s .args .view .now) (s .args .entries) (s .args .node .0) (s .args .findings .now) (s .args .held) (l .loop .findings) (l .loop .at) (l .loop .left) (l .loop .i) (l .loop .p) (l .loop .missing) (l .loop .n) (l .loop .inv .0) w e q (e1 .if1 .left)
     (k .result) (k .ensures) _ (o .before .before .is-other .ensures) _ _ (o .note-other .ensures) (m .result) (m .ensures) in (
       j,
-      placed-next (s .args .prefixes .now) (s .args .count) (s .args .view .now) (s .args .entries) (l .loop .rest) (l .loop .at) (l .loop .left) (l .loop .i) (l .loop .p) (l .loop .missing) (l .loop .inv .1)
+      placed-next (s .args .prefixes .now) (s .args .count) (s .pre .0) (s .args .view .now) (s .args .entries) (l .loop .rest) (l .loop .at) (l .loop .left) (l .loop .i) (l .loop .p) (l .loop .missing) (l .loop .inv .1)
           (entryValue e) (e .next) (l .loop .left - 1) (k .result) (front-shown (s .args .view .now) (l .loop .at) (l .loop .left) (l .loop .i) e (l .loop .inv .0 .walk) w q (e1 .if1 .left))
           (last-shown (s .args .view .now) (l .loop .at) (l .loop .left) (l .loop .i) (l .loop .i - 1) e w q (e1 .if1 .left)) (k .ensures)
+          (subst (λ (x : ℕ). x ≤ 32) (sym (value-length e)) (entry-short (s .args .prefixes .now) (s .args .count) (s .args .view .now) (s .args .entries) (s .args .node .0) (s .args .findings .now) (s .args .held) (l .loop .findings) (l .loop .at) (l .loop .left) (l .loop .i) (l .loop .p) (l .loop .missing) (l .loop .n) (l .loop .inv .0) w e q))
           (j .walk) (j .number) (j .small) (m .result) (m .ensures) _ (c .onward .ensures),
     )
 
@@ -95,7 +97,7 @@ returns c =
     let l = c .before in
     let s = l .before .before .before .before in
     judging-ends (s .args .prefixes .now) (s .args .count) (s .args .view .now) (s .args .entries) (s .args .node .0) (s .args .findings .now) (s .args .held) (l .loop .findings) (l .loop .at) (l .loop .left) (l .loop .i) (l .loop .p) (l .loop .missing) (l .loop .n) (l .loop .inv .0) (c .loop-test .left)
-    _ (placed-ends (s .args .prefixes .now) (s .args .count) (s .args .view .now) (s .args .entries) (l .loop .rest) (l .loop .at) (l .loop .left) (l .loop .i) (l .loop .p) (l .loop .missing) (l .loop .inv .1))
+    _ (placed-ends (s .args .prefixes .now) (s .args .count) (s .pre .0) (s .args .view .now) (s .args .entries) (l .loop .rest) (l .loop .at) (l .loop .left) (l .loop .i) (l .loop .p) (l .loop .missing) (l .loop .inv .1))
 
 same-length-2 : tie.Need-same-length-2 Inv-loop μ-loop
 same-length-2 c = search needs
@@ -105,7 +107,7 @@ returns-2 c =
     let l = c .before .before .before .before in
     let s = l .before .before .before .before in
     judging-gap (s .args .prefixes .now) (s .args .count) (s .args .view .now) (s .args .entries) (s .args .node .0) (s .args .findings .now) (s .args .held) (l .loop .findings) (l .loop .at) (l .loop .left) (l .loop .i) (l .loop .p) (l .loop .missing) (l .loop .n) (l .loop .inv .0) (c .before .before .before .loop-test .taken) _ (c .before .before .entry-at .ensures) (c .if1 .taken)
-    _ (placed-ends (s .args .prefixes .now) (s .args .count) (s .args .view .now) (s .args .entries) (l .loop .rest) (l .loop .at) (l .loop .left) (l .loop .i) (l .loop .p) (l .loop .missing) (l .loop .inv .1))
+    _ (placed-ends (s .args .prefixes .now) (s .args .count) (s .pre .0) (s .args .view .now) (s .args .entries) (l .loop .rest) (l .loop .at) (l .loop .left) (l .loop .i) (l .loop .p) (l .loop .missing) (l .loop .inv .1))
 
 pub judge-spec : {M : Type 1} → statement M
 judge-spec =

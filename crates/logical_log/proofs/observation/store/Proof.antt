@@ -1,21 +1,21 @@
 -- `logical_log::observation::store` meets its contract.
 -- Assumes nothing.
-use Prim.Native.Nat.{_-_}
 use mathlib.Core.Path.{sym, _∙_, ap, subst}
 use lib.ListN.{length}
 use borrow.Author.Needs.{needs}
 use Rattle.records.proofs.Walks.{here}
+use Rattle.storage.proofs.WellFormed.{formed}
 use Rattle.logical_log.specs.Observation.{StoredAs}
-use Rattle.logical_log.proofs.Written.{Written, writing-starts, writing-ends, writing-gap, writing-asks, writing-next}
+use Rattle.logical_log.proofs.Written.{answer-longer, answer-stays}
+use Rattle.logical_log.proofs.Writing.{Written, writing-starts, writing-ends, writing-gap, writing-asks, writing-next}
 use Rattle.logical_log.proofs.observation.store.Statement.{statement}
 use Rattle.logical_log.proofs.observation.store.Tie as tie
 
 abbrev Inv-loop : tie.InvT-loop
-Inv-loop history₀ count view at₀ left₀ i₀ p₀ n₀ history at left i p n =
-    Written history₀ count view (record { at = at₀; left = left₀; index = i₀; number = p₀ }) history at left i p n
+Inv-loop history₀ count view at₀ left₀ p₀ n₀ history at left p n = Written history₀ count view at₀ left₀ p₀ history at left p n
 
 abbrev μ-loop : tie.MeasureT-loop
-μ-loop history₀ count view at₀ left₀ i₀ p₀ n₀ history at left i p n = left
+μ-loop history₀ count view at₀ left₀ p₀ n₀ history at left p n = left
 
 loop-holds : tie.Need-loop-holds Inv-loop μ-loop
 loop-holds c =
@@ -29,7 +29,7 @@ extend-requires : tie.Need-extend-requires Inv-loop μ-loop
 extend-requires c κs =
     let l = c .before .before .before in
     let s = l .before .before .before in
-    λ x. writing-asks (s .args .history .now) (s .args .count) (s .args .view .now) (s .args .rest) (s .pre) (l .loop .history) (l .loop .at) (l .loop .left) (l .loop .i) (l .loop .p) (l .loop .n) (l .loop .inv) (c .before .before .loop-test .taken) _ (c .before .entry-at .ensures) x
+    writing-asks (s .args .history .now) (s .args .count) (s .args .view .now) (s .args .rest) (s .pre) (l .loop .history) (l .loop .at) (l .loop .left) (l .loop .p) (l .loop .n) (l .loop .inv) (c .before .before .loop-test .taken) _ (c .before .entry-at .ensures)
 
 enum-known-x : tie.Need-enum-known-x Inv-loop μ-loop
 enum-known-x c = search needs
@@ -41,19 +41,17 @@ same-length : tie.Need-same-length Inv-loop μ-loop
 same-length c =
     let x = c .before .before .before .before in
     let l = x .before .before .before .before in
-    ap length (x .extend .ensures .stays (c .enum-told .given .1) .1) ∙ l .loop .inv .long ∙ sym (l .before .before .before .pre .long)
+    let o = answer-stays (l .loop .history) (l .loop .n) (l .loop .p) _ _ _ (x .extend .ensures) (c .enum-told .given .1) in
+    ap length (o .1) ∙ formed _ (l .loop .inv .right) .long ∙ sym (formed _ (l .before .before .before .pre .right) .long)
 
 returns : tie.Need-returns Inv-loop μ-loop
 returns c =
     let x = c .before .before .before .before in
     let l = x .before .before .before .before in
     let s = l .before .before .before in
-    let o = x .extend .ensures .stays (c .enum-told .given .1) in
+    let o = answer-stays (l .loop .history) (l .loop .n) (l .loop .p) _ _ _ (x .extend .ensures) (c .enum-told .given .1) in
     subst (StoredAs (s .args .history .now) (s .args .count) (s .args .view .now) (s .args .rest) (l .loop .p)) (sym (o .1))
-    (writing-gap (s .args .history .now) (s .args .count) (s .args .view .now) (s .args .rest) (s .pre) (l .loop .history) (l .loop .at) (l .loop .left) (l .loop .i) (l .loop .p) (l .loop .n) (l .loop .inv) (x .before .before .before .loop-test .taken) _ (x .before .before .entry-at .ensures) (o .0))
-
-add-i : tie.Need-add-i Inv-loop μ-loop
-add-i c = search needs
+    (writing-gap (s .args .history .now) (s .args .count) (s .args .view .now) (s .args .rest) (s .pre) (l .loop .history) (l .loop .at) (l .loop .left) (l .loop .p) (l .loop .n) (l .loop .inv) (x .before .before .before .loop-test .taken) _ (x .before .before .entry-at .ensures) (o .0))
 
 sub-left : tie.Need-sub-left Inv-loop μ-loop
 sub-left c = search needs
@@ -66,17 +64,17 @@ loop-again c =
     let x = c .before .before .before .before .before in
     let l = x .before .before .before .before in
     let s = l .before .before .before in
-    let o = x .extend .ensures .longer _ (c .before .x .given .1) in
-    writing-next (s .args .history .now) (s .args .count) (s .args .view .now) (s .args .rest) (s .pre) (l .loop .history) (l .loop .at) (l .loop .left) (l .loop .i) (l .loop .p) (l .loop .n) (l .loop .inv) (x .before .before .before .loop-test .taken) _ (x .before .before .entry-at .ensures) (o .0) _ _ _ (o .1)
+    let o = answer-longer (l .loop .history) (l .loop .n) (l .loop .p) _ _ _ (x .extend .ensures) _ (c .before .x .given .1) in
+    writing-next (s .args .history .now) (s .args .count) (s .args .view .now) (s .args .rest) (s .pre) (l .loop .history) (l .loop .at) (l .loop .left) (l .loop .p) (l .loop .n) (l .loop .inv) (x .before .before .before .loop-test .taken) _ (x .before .before .entry-at .ensures) _ _ o
 
 same-length-2 : tie.Need-same-length-2 Inv-loop μ-loop
-same-length-2 c = c .before .loop .inv .long ∙ sym (c .before .before .before .before .pre .long)
+same-length-2 c = formed _ (c .before .loop .inv .right) .long ∙ sym (formed _ (c .before .before .before .before .pre .right) .long)
 
 returns-2 : tie.Need-returns-2 Inv-loop μ-loop
 returns-2 c =
     let l = c .before in
     let s = l .before .before .before in
-    writing-ends (s .args .history .now) (s .args .count) (s .args .view .now) (s .args .rest) (s .pre) (l .loop .history) (l .loop .at) (l .loop .left) (l .loop .i) (l .loop .p) (l .loop .n) (l .loop .inv) (c .loop-test .left)
+    writing-ends (s .args .history .now) (s .args .count) (s .args .view .now) (s .args .rest) (s .pre) (l .loop .history) (l .loop .at) (l .loop .left) (l .loop .p) (l .loop .n) (l .loop .inv) (c .loop-test .left)
 
 pub store-spec : {M : Type 1} → statement M
 store-spec =
@@ -91,7 +89,6 @@ store-spec =
     enum-told
     same-length
     returns
-    add-i
     sub-left
     loop-less
     loop-again

@@ -1,9 +1,9 @@
 -- `logical_log::observation::write_view` meets its contract.
 -- Assumes nothing.
-use Prim.Native.Nat.{_-_}
 use mathlib.Core.Path.{ap, sym, _∙_}
 use lib.ListN.{length}
 use borrow.Author.Needs.{needs}
+use Rattle.storage.proofs.WellFormed.{formed}
 use Rattle.logical_log.proofs.Whole.{view-written, kept-length, replaced-length}
 use Rattle.logical_log.proofs.observation.write_view.Statement.{statement}
 use Rattle.logical_log.proofs.observation.write_view.Tie as tie
@@ -42,7 +42,7 @@ same-length c =
     let r = c .before .before .before .before .before .before in
     let o = r .before .before .before .before .before .before in
     ap length (c .before .before .keep-findings .ensures) ∙ kept-length _ _ _ ∙ ap length (r .replace-view .ensures) ∙ replaced-length _ _ _ _
-    ∙ o .store .ensures .long ∙ sym (o .before .before .before .before .before .pre .0 .long)
+    ∙ o .store .ensures .long ∙ sym (formed _ (o .before .before .before .before .before .pre .0 .right) .long)
 
 pub write-view-spec : {M : Type 1} → statement M
 write-view-spec =

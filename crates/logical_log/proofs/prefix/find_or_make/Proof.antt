@@ -1,6 +1,5 @@
 -- `logical_log::prefix::find_or_make` meets its contract.
 -- Assumes nothing.
-use Prim.Native.Nat.{_-_}
 use mathlib.Core.Path.{ap, sym, _∙_}
 use lib.ListN.{length}
 use borrow.Author.Needs.{needs}
@@ -29,8 +28,8 @@ append-prefix-requires : tie.Need-append-prefix-requires
 append-prefix-requires c κs =
     let b = c .before .before .before in
     let s = b .before .before .before .before .before in (
-      extend-room (s .args .history .now) (s .args .count) (s .args .p) (s .args .e) _ (b .before .before .part .ensures .is) _ (b .before .find-extension .ensures) (s .pre) (b .if1 .left),
-      s .pre .long,
+      extend-room (s .args .history .now) (s .args .count) (s .args .p) (s .args .e) _ (b .before .before .part .ensures .is) _ (b .before .find-extension .ensures) (s .pre .0) (s .pre .1) (b .if1 .left),
+      s .pre .0 .long,
       sym (slice-aggregate-append-prefix c),
     )
 
@@ -44,7 +43,7 @@ returns-2 : tie.Need-returns-2
 returns-2 c =
     let b = c .before .before .before .before .before .before in
     let s = b .before .before .before .before .before in
-    extend-made (s .args .history .now) (s .args .count) (s .args .p) (s .args .e) _ (b .before .before .part .ensures .is) _ (b .before .find-extension .ensures) (s .pre) (b .if1 .left)
+    extend-made (s .args .history .now) (s .args .count) (s .args .p) (s .args .e) _ (b .before .before .part .ensures .is) _ (b .before .find-extension .ensures) (s .pre .0) (s .pre .1) (b .if1 .left)
     _ (c .before .before .append-prefix .ensures)
 
 same-length-2 : tie.Need-same-length-2
