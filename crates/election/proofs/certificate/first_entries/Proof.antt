@@ -5,7 +5,7 @@ use Rattle.storage.specs.Tables.{prefixRow}
 use Rattle.logical_log.specs.Prefix.{sliceOf}
 use Rattle.storage.proofs.WellFormed.{formed}
 use Rattle.logical_log.proofs.TableLaws.{whole-table}
-use Prim.Native.Nat.{ℕ, _-_}
+use Prim.Native.Nat.{ℕ}
 use mathlib.Core.Path.{ap, _∙_}
 use native.Mathlib.Omega.{arith}
 use Rattle.election.proofs.certificate.first_entries.Statement.{statement}

@@ -2,7 +2,7 @@
 -- Assumes nothing.
 use mathlib.Core.List.{List}
 use Rattle.storage.specs.Tables.{NodeRow, nodeRow}
-use Prim.Native.Nat.{ℕ, _-_}
+use Prim.Native.Nat.{ℕ}
 use mathlib.Core.Path.{ap, _∙_}
 use borrow.Author.Needs.{needs}
 use Rattle.election.proofs.certificate.front_of.Statement.{statement}

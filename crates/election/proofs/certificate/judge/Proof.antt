@@ -1,7 +1,6 @@
 -- `election::certificate::judge` meets its contract: the first of the two answers that refuses.
 -- Assumes nothing.
 use Rattle.election.specs.Certify.{earlierOf}
-use Prim.Native.Nat.{_-_}
 use mathlib.Core.Path.{_∙_}
 use borrow.Author.Needs.{needs}
 use Rattle.election.proofs.certificate.judge.Statement.{statement}

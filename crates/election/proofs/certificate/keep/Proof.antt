@@ -2,7 +2,6 @@
 -- Assumes nothing.
 use Rattle.storage.proofs.WellFormed.{formed}
 use Rattle.election.proofs.Turns.{place-fits, kept-is}
-use Prim.Native.Nat.{_-_}
 use mathlib.Core.Path.{_∙_}
 use borrow.Author.Needs.{needs}
 use Rattle.election.proofs.certificate.keep.Statement.{statement}

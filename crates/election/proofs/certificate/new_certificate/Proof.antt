@@ -1,6 +1,6 @@
 -- `election::certificate::new_certificate` meets its contract: the row of its fields.
 -- Assumes nothing.
-use Prim.Native.Nat.{ℕ, _-_}
+use Prim.Native.Nat.{ℕ}
 use mathlib.Core.Path.{ap}
 use borrow.Author.Needs.{needs}
 use Rattle.election.proofs.certificate.new_certificate.Statement.{statement}

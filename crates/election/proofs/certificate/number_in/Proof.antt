@@ -3,7 +3,6 @@
 use Rattle.storage.specs.Tables.{certificateRows}
 use Rattle.storage.specs.Order.{heldOf}
 use Rattle.storage.proofs.WellFormed.{formed}
-use Prim.Native.Nat.{_-_}
 use mathlib.Core.Path.{_∙_}
 use native.Mathlib.Omega.{arith}
 use Rattle.election.proofs.certificate.number_in.Statement.{statement}

@@ -2,7 +2,6 @@
 -- Assumes nothing.
 use Rattle.storage.proofs.WellFormed.{formed}
 use Rattle.election.proofs.Turns.{refused, accepted, accepted-fits}
-use Prim.Native.Nat.{_-_}
 use borrow.Author.Needs.{needs}
 use Rattle.election.proofs.certificate.record_election.Statement.{statement}
 use Rattle.election.proofs.certificate.record_election.Tie as tie

@@ -1,7 +1,6 @@
 -- `election::certificate::room_for` meets its contract: each exit is a law of the tests.
 -- Assumes nothing.
 use Rattle.election.proofs.Turns.{room-full, room-taken, room-free}
-use Prim.Native.Nat.{_-_}
 use borrow.Author.Needs.{needs}
 use Rattle.election.proofs.certificate.room_for.Statement.{statement}
 use Rattle.election.proofs.certificate.room_for.Tie as tie

@@ -1,7 +1,6 @@
 -- `invariants::commit_safety::check_commit_safety` meets its contract: two pairs of passes are the model's verdict.
 -- Assumes nothing.
 use Rattle.invariants.proofs.Passes.{verdict-early, verdict-late}
-use Prim.Native.Nat.{_-_}
 use borrow.Author.Needs.{needs}
 use Rattle.invariants.proofs.commit_safety.check_commit_safety.Statement.{statement}
 use Rattle.invariants.proofs.commit_safety.check_commit_safety.Tie as tie

@@ -2,7 +2,6 @@
 -- Assumes nothing.
 use Rattle.invariants.specs.Rules.{rowOf}
 use Rattle.invariants.proofs.Passes.{changed-no-floor, changed-none, changed-index, changed-identity}
-use Prim.Native.Nat.{_-_}
 use Rattle.invariants.proofs.commit_safety.configuration_changed.Statement.{statement}
 use Rattle.invariants.proofs.commit_safety.configuration_changed.Tie as tie
 

@@ -2,7 +2,6 @@
 -- Assumes nothing.
 use Rattle.invariants.specs.Rules.{rowOf}
 use Rattle.invariants.proofs.Passes.{regressed-no-floor, regressed-lost, regressed-index}
-use Prim.Native.Nat.{_-_}
 use Rattle.invariants.proofs.commit_safety.configuration_regressed.Statement.{statement}
 use Rattle.invariants.proofs.commit_safety.configuration_regressed.Tie as tie
 

@@ -1,7 +1,6 @@
 -- `invariants::commit_safety::fails` meets its contract: the rule of the number.
 -- Assumes nothing.
 use borrow.Author.Tests.{eq-eqb, ne-eqb}
-use Prim.Native.Nat.{_-_}
 use borrow.Author.Needs.{needs}
 use Rattle.invariants.proofs.commit_safety.fails.Statement.{statement}
 use Rattle.invariants.proofs.commit_safety.fails.Tie as tie

@@ -5,7 +5,6 @@ use Rattle.records.specs.Places.{RowWalk, rowsAt, firstRow}
 use Rattle.records.proofs.Walks.{row-here, next-row-walk}
 use Rattle.invariants.specs.Rules.{ruleOf}
 use Rattle.invariants.proofs.Passes.{pass-next, pass-stop, pass-end}
-use Prim.Native.Nat.{_-_}
 use mathlib.Core.Path.{_≡_, refl}
 use native.Mathlib.Omega.{arith}
 use borrow.Author.Needs.{needs}

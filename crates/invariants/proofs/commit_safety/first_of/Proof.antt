@@ -1,7 +1,6 @@
 -- `invariants::commit_safety::first_of` meets its contract: each exit is a law of two passes.
 -- Assumes nothing.
 use Rattle.invariants.proofs.Passes.{first-fails, second-fails, neither-fails}
-use Prim.Native.Nat.{_-_}
 use borrow.Author.Needs.{needs}
 use Rattle.invariants.proofs.commit_safety.first_of.Statement.{statement}
 use Rattle.invariants.proofs.commit_safety.first_of.Tie as tie

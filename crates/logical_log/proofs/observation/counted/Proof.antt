@@ -1,6 +1,5 @@
 -- `logical_log::observation::counted` meets its contract.
 -- Assumes nothing.
-use Prim.Native.Nat.{_-_}
 use native.Mathlib.Omega.{arith}
 use borrow.Author.Tests.{eq-eqb, ne-eqb}
 use borrow.Author.Needs.{needs}

@@ -1,6 +1,6 @@
 -- `logical_log::observation::is_other` meets its contract.
 -- Assumes nothing.
-use Prim.Native.Nat.{ℕ, _-_, _≤_}
+use Prim.Native.Nat.{ℕ, _≤_}
 use mathlib.Core.Path.{sym, subst}
 use borrow.Author.Needs.{needs}
 use Rattle.storage.specs.Tables.{prefixRow}

@@ -1,6 +1,5 @@
 -- `logical_log::observation::keep_findings` meets its contract.
 -- Assumes nothing.
-use Prim.Native.Nat.{_-_}
 use mathlib.Core.Path.{ap, _∙_}
 use borrow.Author.Needs.{needs}
 use Rattle.model.specs.Sizes.{Bytes}

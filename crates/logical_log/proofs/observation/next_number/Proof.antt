@@ -1,6 +1,5 @@
 -- `logical_log::observation::next_number` meets its contract.
 -- Assumes nothing.
-use Prim.Native.Nat.{_-_}
 use borrow.Author.Needs.{needs}
 use Rattle.storage.specs.Tables.{prefixRow}
 use Rattle.logical_log.specs.Table.{entryValue}

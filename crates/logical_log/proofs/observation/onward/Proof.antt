@@ -1,6 +1,5 @@
 -- `logical_log::observation::onward` meets its contract.
 -- Assumes nothing.
-use Prim.Native.Nat.{_-_}
 use borrow.Author.Tests.{eq-eqb, ne-eqb}
 use Rattle.logical_log.proofs.observation.onward.Statement.{statement}
 use Rattle.logical_log.proofs.observation.onward.Tie as tie

@@ -1,6 +1,5 @@
 -- `logical_log::prefix::is_of` meets its contract.
 -- Assumes nothing.
-use Prim.Native.Nat.{_-_}
 use borrow.Author.Tests.{eq-eqb, ne-eqb}
 use borrow.Author.Needs.{needs}
 use Rattle.logical_log.proofs.prefix.is_of.Statement.{statement}

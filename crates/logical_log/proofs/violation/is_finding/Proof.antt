@@ -1,6 +1,5 @@
 -- `logical_log::violation::is_finding` meets its contract.
 -- Assumes nothing.
-use Prim.Native.Nat.{_-_}
 use borrow.Author.Needs.{needs}
 use Rattle.logical_log.proofs.ViolationLaws.{other-name, other-node, other-index, other-term}
 use Rattle.logical_log.proofs.violation.is_finding.Statement.{statement}
