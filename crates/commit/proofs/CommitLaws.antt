@@ -23,8 +23,8 @@ use Rattle.storage.proofs.RuleLaws.{pass, stop}
 use Rattle.storage.proofs.DecodeLaws.{FindingNamed}
 use Rattle.storage.proofs.Meanings.{Stands, withNoted, findings-right, noted-right}
 use Rattle.logical_log.specs.declared.prefix.Slice.{Slice}
+use Rattle.logical_log.specs.Violation.{findingsKept}
 use Rattle.logical_log.specs.Prefix.{sliceOf}
-use Rattle.logical_log.specs.Observation.{findingsKept}
 use Rattle.commit.specs.Prefix.{keptOf, rowsOf, nodeOf, seenOf, longerIn, endIn, agreeIn, flagsOf, unseenSet, keepBytes, difference, heldWith, tableWith, noteAnswer, noteLeaves, commitAnswer, commitBytes, Inserted, Observed}
 use Rattle.commit.specs.declared.prefix.Kept.{Kept}
 use Rattle.commit.specs.declared.prefix.CommitAnswer.{CommitAnswer}

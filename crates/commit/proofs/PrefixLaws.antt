@@ -23,6 +23,7 @@ use Rattle.storage.specs.Rules.{findingRight}
 use Rattle.storage.proofs.PartLaws.{part-length}
 use Rattle.storage.proofs.RowFacts.{Facts}
 use Rattle.storage.proofs.Meanings.{Stands, withNoted, long, prefixes-read, findings-read, owner-read, front-read, last-read, node-written, committed-written, prefixes-stored, findings-stored, committed-stored, findings-taken}
+use Rattle.logical_log.specs.Violation.{findingsKept}
 use Rattle.logical_log.specs.Prefix.{sliceOf}
 use Rattle.logical_log.specs.Comparison.{sameFrom}
 use Rattle.logical_log.specs.declared.prefix.Slice.{Slice}
@@ -30,7 +31,6 @@ use Rattle.logical_log.proofs.TableLaws.{rows-length, rows-at}
 use Rattle.logical_log.proofs.SliceLaws.{index-length, slice-cases}
 use Rattle.logical_log.proofs.ComparisonLaws.{same-prefix}
 use Rattle.logical_log.proofs.ViolationLaws.{Holds, note-holds, note-length}
-use Rattle.logical_log.specs.Observation.{findingsKept}
 use Rattle.commit.specs.Prefix.{rowsOf, nodeOf, longerIn, endIn, sameSlices, agreeIn, unseenSet, keepBytes, difference, heldWith, tableWith}
 use Rattle.storage.proofs.WellFormed.{Formed, formed, formed-rows}
 

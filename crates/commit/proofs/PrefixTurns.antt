@@ -12,17 +12,15 @@ use Rattle.model.proofs.Tests.{cond-cases, cond-true, cond-false}
 use Rattle.storage.specs.Words.{wordAt, wordBytes, putBytes}
 use Rattle.storage.specs.Tables.{NodeRow, nodeRow, prefixRow, nodesPart, findingsPart, prefixesPart}
 use Rattle.storage.specs.Values.{numberIndex}
+use Rattle.storage.specs.Rules.{wellFormed}
 use Rattle.storage.specs.Writes.{nodeBytes, committedSet}
 use Rattle.storage.proofs.WordLaws.{put-length}
-use Rattle.storage.proofs.PartLaws.{put-whole}
 use Rattle.logical_log.specs.Prefix.{sliceOf}
 use Rattle.logical_log.specs.Comparison.{sameFrom}
-use Rattle.logical_log.specs.Violation.{noteHeld, noteBytes}
+use Rattle.logical_log.specs.Violation.{noteHeld, noteBytes, findingsKept}
 use Rattle.logical_log.specs.declared.prefix.Slice.{Slice}
 use Rattle.logical_log.proofs.TableLaws.{whole-table, slice-within}
-use Rattle.logical_log.proofs.Whole.{kept-length}
-use Rattle.logical_log.proofs.ViolationLaws.{note-length}
-use Rattle.logical_log.specs.Observation.{findingsKept}
+use Rattle.logical_log.proofs.ViolationLaws.{note-length, findings-long, kept-length}
 use Rattle.commit.specs.Prefix.{rowsOf, keptOf, nodeOf, seenOf, longerIn, endIn, sameSlices, agreeIn, flagsOf, unseenSet, keepBytes, difference, heldWith, tableWith, noteAnswer, noteLeaves, insertAnswer, insertLeaves, keptAnswer, keptLeaves, seenAnswer, seenLeaves, commitAnswer, commitBytes, Noted, Inserted, Observed}
 use Rattle.commit.specs.declared.prefix.Kept.{Kept}
 use Rattle.commit.specs.declared.prefix.CommitAnswer.{CommitAnswer}
@@ -31,6 +29,17 @@ use Rattle.storage.proofs.WellFormed.{Formed}
 -- a part of a stored prefix is stored
 stored-within : (h : Bytes) (p i q : ℕ) → Formed h → p ≤ wordAt h 0 2 → sliceOf (rowsOf h) p i ≡ Slice.Prefix q → q ≤ wordAt h 0 2
 stored-within h p i q f l e = slice-within (prefixesPart h) (wordAt h 0 2) p i q (whole-table h f) l e
+
+-- the committed prefix, where one is kept, is stored
+pub kept-within : (h : Bytes) → Formed h → (k : Kept) → k ≡ keptOf (wordAt h 4 2) → (c : ℕ) → k ≡ Kept.Prefix c → c ≤ wordAt h 0 2
+kept-within h f k ek c g = within (wordAt h 4 2) c (f .committed) (sym ek ∙ g)
+  where
+    within : (x y : ℕ) → x ≤ wordAt h 0 2 → keptOf x ≡ Kept.Prefix y → y ≤ wordAt h 0 2
+    within zero y l q = absurd (let v : _≡_ {A = ℕ} 0 1 = cc in omega arith)
+    within (suc x) y l q =
+        let d : Kept.Prefix (suc x) ≡ Kept.Prefix y = sym (cond-false (eqb (suc x) 0) Kept.Nothing (Kept.Prefix (suc x)) (ne-eqb (suc x) 0 (λ o. omega arith))) ∙ q in
+        let same : suc x ≡ y = cc in
+        omega arith
 
 -- ---- seen
 
@@ -132,21 +141,18 @@ insert-leaves-length h n c p =
 
 -- ---- a difference noted
 
-module _ (h : Bytes) (n i : ℕ) (q : Bytes) (eq : q ≡ findingsPart h) (size : length q ≡ 1024) (z : Bytes) (room : length z ≡ 1024) (t : Bytes) (et : t ≡ putBytes z 0 q)
-    (held : ℕ) (eh : held ≡ wordAt h 7 1) (m : ℕ) (u : Bytes) (em : (m ≡ noteHeld t held (difference n i)) × (u ≡ noteBytes t held (difference n i))) where
-  table-is : t ≡ findingsPart h
-  table-is = et ∙ put-whole z q (size ∙ sym room) ∙ eq
-
+module _ (h : Bytes) (n i : ℕ) (held : ℕ) (t : Bytes) (et : (held ≡ wordAt h 7 1) × (t ≡ findingsPart h))
+    (m : ℕ) (u : Bytes) (em : (m ≡ noteHeld t held (difference n i)) × (u ≡ noteBytes t held (difference n i))) where
   held-is : m ≡ heldWith h n i
   unfolding heldWith
-  held-is = em .0 ∙ (λ y. noteHeld (table-is y) (eh y) (difference n i))
+  held-is = em .0 ∙ (λ y. noteHeld (et .1 y) (et .0 y) (difference n i))
 
   noted-is : u ≡ tableWith h n i
   unfolding tableWith
-  noted-is = em .1 ∙ (λ y. noteBytes (table-is y) (eh y) (difference n i))
+  noted-is = em .1 ∙ (λ y. noteBytes (et .1 y) (et .0 y) (difference n i))
 
-  pub note-room : length u ≡ 1024
-  note-room = ap length (em .1) ∙ note-length t held (difference n i) ∙ ap length et ∙ put-length z 0 q ∙ room
+  pub note-room : wellFormed h ≡ true → length u ≡ 1024
+  note-room right = ap length (em .1) ∙ note-length t held (difference n i) ∙ ap length (et .1) ∙ findings-long h right
 
   pub note-full : 128 < m → Noted h n i CommitAnswer.FindingsFull h
   unfolding noteAnswer noteLeaves
@@ -241,13 +247,3 @@ module _ (h : Bytes) (n i : ℕ) (s : Slice) (es : s ≡ seenOf h n i) where
             answers = w .answers ∙ sym (answer-is ∙ ap (keptAnswer h n p) g);
             leaves = w .leaves ∙ sym (bytes-are ∙ ap (keptLeaves h n p) g);
           }
-
-      pub committed-within : Formed h → (c : ℕ) → k ≡ Kept.Prefix c → c ≤ wordAt h 0 2
-      committed-within f c g = within (wordAt h 4 2) c (f .committed) (sym ek ∙ g)
-        where
-          within : (x y : ℕ) → x ≤ wordAt h 0 2 → keptOf x ≡ Kept.Prefix y → y ≤ wordAt h 0 2
-          within zero y l q = absurd (let v : _≡_ {A = ℕ} 0 1 = cc in omega arith)
-          within (suc x) y l q =
-              let d : Kept.Prefix (suc x) ≡ Kept.Prefix y = sym (cond-false (eqb (suc x) 0) Kept.Nothing (Kept.Prefix (suc x)) (ne-eqb (suc x) 0 (λ o. omega arith))) ∙ q in
-              let same : suc x ≡ y = cc in
-              omega arith

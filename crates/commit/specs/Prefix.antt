@@ -12,10 +12,9 @@ use Rattle.storage.specs.Words.{wordAt, putBytes}
 use Rattle.storage.specs.Values.{indexOf}
 use Rattle.storage.specs.Tables.{PrefixRow, NodeRow, nodeRow, prefixRow, nodesPart, findingsPart, prefixesPart}
 use Rattle.storage.specs.Writes.{nodeBytes, committedSet}
-use Rattle.logical_log.specs.Observation.{findingsKept}
 use Rattle.logical_log.specs.Prefix.{sliceOf}
 use Rattle.logical_log.specs.Comparison.{sameFrom}
-use Rattle.logical_log.specs.Violation.{noteHeld, noteBytes}
+use Rattle.logical_log.specs.Violation.{noteHeld, noteBytes, findingsKept}
 use Rattle.logical_log.specs.declared.prefix.Slice.{Slice}
 use Rattle.commit.specs.declared.prefix.Kept.{Kept}
 use Rattle.commit.specs.declared.prefix.CommitAnswer.{CommitAnswer}

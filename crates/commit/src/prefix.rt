@@ -8,18 +8,16 @@ ghost use Rattle.storage.specs.Words.{wordAt};
 ghost use Rattle.storage.specs.Rules.{wellFormed};
 ghost use Rattle.commit.specs.Prefix.{keptOf, seenOf, unseenSet, endIn, longerIn, agreeIn, flagsOf, keepBytes, Noted, Inserted, Observed};
 use logical_log::comparison::same_prefix;
-use logical_log::observation::keep_findings;
 use logical_log::prefix::Slice;
 use logical_log::prefix::slice_through;
+use logical_log::violation::copy_findings;
+use logical_log::violation::keep_findings;
 use logical_log::violation::note;
 use storage::findings::Found;
 use storage::head::committed_number;
-use storage::head::finding_count;
 use storage::head::owner_number;
 use storage::head::prefix_count;
 use storage::head::set_committed;
-use storage::layout::FINDINGS_LENGTH;
-use storage::layout::FINDINGS_START;
 use storage::layout::NODES_LENGTH;
 use storage::layout::NODES_START;
 use storage::layout::PREFIXES_LENGTH;
@@ -29,7 +27,6 @@ use storage::nodes::Node;
 use storage::nodes::node_at;
 use storage::nodes::set_node;
 use storage::prefixes::index_of;
-use storage::words::put_bytes;
 use units::FINDING_LIMIT;
 use units::LogIndex;
 use units::NodeId;
@@ -152,12 +149,7 @@ fn note_difference(history: &mut [u8], node: NodeId, through: LogIndex) -> Commi
     ensures { λ r. ⌜ Noted (now (history .entry)) (node .0) (through .0) r (now (history .exit)) ⌝ }
 {
     let mut findings = [0u8; 1024];
-    put_bytes(
-        &mut findings,
-        0,
-        part(&history[..], FINDINGS_START, FINDINGS_LENGTH),
-    );
-    let held = finding_count(&history[..]);
+    let held = copy_findings(&history[..], &mut findings);
     let n = note(
         &mut findings,
         held,

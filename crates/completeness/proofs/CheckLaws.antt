@@ -8,11 +8,10 @@ use lib.ListN.{length}
 use borrow.Author.Tests.{lt-ltb, le-ltb}
 use Rattle.model.specs.Sizes.{Bytes}
 use Rattle.model.proofs.Tests.{cond-true, cond-false}
-use Rattle.storage.specs.Words.{wordAt, wordBytes, putBytes}
+use Rattle.storage.specs.Words.{wordAt}
 use Rattle.storage.specs.Tables.{findingsPart}
-use Rattle.storage.proofs.WordLaws.{put-length}
-use Rattle.storage.proofs.PartLaws.{put-whole}
-use Rattle.logical_log.specs.Violation.{heldAll, bytesAll}
+use Rattle.logical_log.specs.Violation.{heldAll, bytesAll, findingsKept}
+use Rattle.logical_log.proofs.ViolationLaws.{kept-length}
 use Rattle.completeness.specs.declared.leader_completeness.Checked.{Checked}
 use Rattle.storage.specs.Values.{committedEnd}
 use Rattle.completeness.specs.Judgement.{lackingsIn, certificatesOf, JudgedAll}
@@ -23,31 +22,24 @@ use Rattle.completeness.proofs.MarkLaws.{marks-length}
 -- ---- written
 
 module _ (h t : Bytes) (held end : ℕ) where
-  pub written-as : (a : Bytes) → a ≡ marksMoved h end 0 (wordAt h 6 1) → (b : Bytes) → b ≡ putBytes a 2121 t
-      → (c : Bytes) → c ≡ putBytes b 7 (wordBytes 1 held) → c ≡ checkWritten h t held end
+  pub written-as : (a : Bytes) → a ≡ marksMoved h end 0 (wordAt h 6 1) → (b : Bytes) → b ≡ findingsKept a t held → b ≡ checkWritten h t held end
   unfolding checkWritten
-  written-as a ea b eb c ec = ec ∙ ap (λ (x : Bytes). putBytes x 7 (wordBytes 1 held)) (eb ∙ ap (λ (x : Bytes). putBytes x 2121 t) ea)
+  written-as a ea b eb = eb ∙ ap (λ (x : Bytes). findingsKept x t held) ea
 
   pub written-length : length (checkWritten h t held end) ≡ length h
   unfolding checkWritten
-  written-length =
-      put-length (putBytes (marksMoved h end 0 (wordAt h 6 1)) 2121 t) 7 (wordBytes 1 held)
-      ∙ put-length (marksMoved h end 0 (wordAt h 6 1)) 2121 t
-      ∙ marks-length (wordAt h 6 1) h end 0
+  written-length = kept-length (marksMoved h end 0 (wordAt h 6 1)) t held ∙ marks-length (wordAt h 6 1) h end 0
 
 -- ---- judged on a copy of the findings
 
-pub copied : (h z p u : Bytes) → length z ≡ 1024 → p ≡ findingsPart h → length p ≡ 1024 → u ≡ putBytes z 0 p → u ≡ findingsPart h
-copied h z p u lz ep lp e = e ∙ put-whole z p (lp ∙ sym lz) ∙ ep
-
-module _ (h u : Bytes) (n : ℕ) (b : Bool) (m : ℕ) (t : Bytes) (eu : u ≡ findingsPart h) (en : n ≡ wordAt h 7 1) (j : JudgedAll h u n b m t) where
+module _ (h u : Bytes) (n : ℕ) (b : Bool) (m : ℕ) (t : Bytes) (eu : (n ≡ wordAt h 7 1) × (u ≡ findingsPart h)) (j : JudgedAll h u n b m t) where
   held-is : m ≡ checkHeld h
   unfolding checkHeld
-  held-is = j .holds ∙ (λ i. heldAll (eu i) (en i) (lackingsIn h (certificatesOf h)))
+  held-is = j .holds ∙ (λ i. heldAll (eu .1 i) (eu .0 i) (lackingsIn h (certificatesOf h)))
 
   table-is : t ≡ checkTable h
   unfolding checkTable
-  table-is = j .table ∙ (λ i. bytesAll (eu i) (en i) (lackingsIn h (certificatesOf h)))
+  table-is = j .table ∙ (λ i. bytesAll (eu .1 i) (eu .0 i) (lackingsIn h (certificatesOf h)))
 
   pub checked-refused : 128 < m → CheckedAs h Checked.FindingsFull h
   unfolding checkAnswer checkBytes

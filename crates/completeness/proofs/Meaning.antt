@@ -26,6 +26,7 @@ use Rattle.storage.proofs.ListLaws.{tabulate-length}
 use Rattle.storage.proofs.PartLaws.{part-length}
 use Rattle.storage.proofs.Meanings.{Stands, withElections, withNoted, certificates-stored, findings-stored, findings-taken, findings-right, noted-right, end-is}
 use Rattle.storage.proofs.Answered.{Means, accepts, refuses}
+use Rattle.logical_log.specs.Violation.{findingsKept}
 use Rattle.logical_log.proofs.ViolationLaws.{Holds, all-hold, all-length}
 use Rattle.completeness.specs.declared.leader_completeness.Checked.{Checked}
 use Rattle.storage.specs.Values.{committedEnd}
@@ -101,7 +102,7 @@ module _ (h : Bytes) (x : History) (s : Stands h x) (f : TermsFit x) where
     table-kept = all-length (lackingsIn h (certificatesOf h)) (findingsPart h) (wordAt h 7 1) ∙ table-long
 
     written : Stands (checkBytes h) (checkEffect x)
-    unfolding checkBytes checkWritten checkEffect
+    unfolding checkBytes checkWritten findingsKept checkEffect
     written =
         subst (λ (u : Bytes). Stands u (checkEffect x)) (sym (cond-false (ltb 128 (checkHeld h)) h _ (le-ltb 128 _ few)))
         (subst (λ (fs : List Finding). Stands (checkWritten h (checkTable h) (checkHeld h) (committedEnd h)) (withNoted (withElections x (map (moved (x .committed)) (x .certificates))) fs)) e

@@ -8,9 +8,9 @@ use lib.ListN.{length}
 use Rattle.model.specs.Sizes.{Bytes}
 use Rattle.model.specs.Refusal.{findingsFull}
 use Rattle.model.specs.Answer.{Answer, accepted, refused}
-use Rattle.storage.specs.Words.{wordAt, wordBytes, putBytes}
+use Rattle.storage.specs.Words.{wordAt}
 use Rattle.storage.specs.Tables.{findingsPart}
-use Rattle.logical_log.specs.Violation.{heldAll, bytesAll}
+use Rattle.logical_log.specs.Violation.{heldAll, bytesAll, findingsKept}
 use Rattle.storage.specs.Values.{committedEnd}
 use Rattle.completeness.specs.Judgement.{lackingsIn, flagsIn, certificatesOf}
 use Rattle.completeness.specs.Marks.{marksMoved}
@@ -37,9 +37,8 @@ checkTable h = bytesAll (findingsPart h) (wordAt h 7 1) (lackingsIn h (certifica
 
 -- the marks, then the findings and how many there are
 unfoldable pub checkWritten : Bytes → Bytes → ℕ → ℕ → Bytes
-unfolding wordAt putBytes wordBytes marksMoved
-checkWritten h t held end =
-    putBytes (putBytes (marksMoved h end 0 (wordAt h 6 1)) 2121 t) 7 (wordBytes 1 held)
+unfolding wordAt marksMoved findingsKept
+checkWritten h t held end = findingsKept (marksMoved h end 0 (wordAt h 6 1)) t held
 
 -- what writing asks
 pub record Writing (h t : Bytes) : Type 0 where

@@ -5,13 +5,9 @@ ghost use Rattle.storage.specs.Rules.{wellFormed};
 ghost use Rattle.completeness.specs.Check.{valueOf, Writing, checkWritten, CheckedAs};
 use crate::judgement::judge_all;
 use crate::marks::move_marks;
-use storage::head::finding_count;
-use storage::head::set_finding_count;
-use storage::layout::FINDINGS_LENGTH;
-use storage::layout::FINDINGS_START;
-use storage::layout::part;
+use logical_log::violation::copy_findings;
+use logical_log::violation::keep_findings;
 use storage::prefixes::committed_end;
-use storage::words::put_bytes;
 use units::FINDING_LIMIT;
 use units::LogIndex;
 
@@ -29,14 +25,13 @@ fn value(relevant: bool) -> usize
     if relevant { 4 } else { 0 }
 }
 
-// The findings, how many there are, and the marks.
+// The marks, then the findings.
 fn write(history: &mut [u8], findings: &[u8], held: usize, end: LogIndex)
     requires { ⌜ Writing (now history) (now findings) ⌝ }
     ensures { λ r. ⌜ now (history .exit) ≡ checkWritten (now (history .entry)) (now (findings .entry)) held (end .0) ⌝ }
 {
     move_marks(&mut history[..], end);
-    put_bytes(&mut history[..], FINDINGS_START, findings);
-    set_finding_count(&mut history[..], held);
+    keep_findings(&mut history[..], findings, held);
 }
 
 // The check: judged on a copy of the findings, then written.
@@ -45,12 +40,7 @@ pub fn record_leader_completeness(history: &mut [u8]) -> Checked
     ensures { λ r. ⌜ CheckedAs (now (history .entry)) r (now (history .exit)) ⌝ }
 {
     let mut findings = [0u8; 1024];
-    put_bytes(
-        &mut findings,
-        0,
-        part(&history[..], FINDINGS_START, FINDINGS_LENGTH),
-    );
-    let held = finding_count(&history[..]);
+    let held = copy_findings(&history[..], &mut findings);
     let judged = judge_all(&history[..], &mut findings, held);
     if FINDING_LIMIT < judged.held {
         return Checked::FindingsFull;

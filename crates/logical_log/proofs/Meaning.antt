@@ -33,13 +33,13 @@ use Rattle.storage.proofs.RowFacts.{resolve-count}
 use Rattle.storage.proofs.WellFormed.{rows-count, formed}
 use Rattle.storage.proofs.Meanings.{Stands, withPrefixes, withFront, withNoted, prefixes-is, findings-stored, findings-right, noted-right, kept, unseen-read, node-written, findings-taken}
 use Rattle.storage.proofs.Answered.{Means, accepts, refuses}
-use Rattle.logical_log.specs.Observation.{nextNumber, counted, missingFrom, noteOf, notesFrom, other, writtenBytes, writtenCount, writtenNumber, viewReplaced, findingsKept, viewWritten, missingIn, notesIn, heldIn, tableIn, observed, observedBytes}
-use Rattle.logical_log.specs.Violation.{heldAll, bytesAll}
+use Rattle.logical_log.specs.Observation.{nextNumber, counted, missingFrom, noteOf, notesFrom, other, writtenBytes, writtenCount, writtenNumber, viewReplaced, viewWritten, missingIn, notesIn, heldIn, tableIn, observed, observedBytes}
+use Rattle.logical_log.specs.Violation.{heldAll, bytesAll, findingsKept}
 use Rattle.logical_log.specs.declared.observation.Observed.{Observed}
 use Rattle.logical_log.proofs.Extend.{Fits, extendAll, extends-all}
 use Rattle.logical_log.proofs.Judge.{missing-made, notes-are}
-use Rattle.logical_log.proofs.ViolationLaws.{Holds, all-hold}
-use Rattle.logical_log.proofs.Whole.{findings-long, written-count, table-length}
+use Rattle.logical_log.proofs.ViolationLaws.{Holds, all-hold, findings-long}
+use Rattle.logical_log.proofs.Whole.{written-count, table-length}
 use Rattle.logical_log.proofs.Stored.{Sound, front-sound, rows-good, rows-by-place, Whole, front-stands}
 
 -- ---- statement

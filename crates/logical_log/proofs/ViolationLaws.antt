@@ -14,14 +14,17 @@ use Rattle.model.specs.Entry.{with, withAll}
 use Rattle.model.specs.History.{Finding, sameFinding, noted}
 use Rattle.model.proofs.Tests.{tf, either, cond-cases, cond-true, cond-false, and-left, and-right, and-both}
 use Rattle.model.proofs.Members.{with-there, with-fresh, member}
-use Rattle.storage.specs.Words.{putBytes}
-use Rattle.storage.specs.Tables.{findingRow, findingRows}
+use Rattle.storage.specs.Words.{putBytes, wordBytes}
+use Rattle.storage.specs.Tables.{findingRow, findingRows, findingsPart}
+use Rattle.storage.specs.Rules.{wellFormed}
 use Rattle.storage.specs.Writes.{findingBytes, FindingFits}
 use Rattle.storage.proofs.ListLaws.{tabulate-length, tabulate-at}
 use Rattle.storage.proofs.WordLaws.{put-length}
+use Rattle.storage.proofs.PartLaws.{part-length, put-whole}
+use Rattle.storage.proofs.WellFormed.{formed}
 use Rattle.storage.proofs.RowLaws.{rows-append, finding-own, finding-length, finding-back}
 use Rattle.logical_log.specs.Prefix.{searchFrom}
-use Rattle.logical_log.specs.Violation.{sameNumbers, notedAt, noteHeld, noteBytes, heldAll, bytesAll}
+use Rattle.logical_log.specs.Violation.{sameNumbers, notedAt, noteHeld, noteBytes, heldAll, bytesAll, findingsKept}
 use Rattle.logical_log.proofs.PrefixLaws.{Hit, Miss, searched}
 
 -- ---- a row held against a finding, number by number
@@ -235,3 +238,16 @@ module _ (t : Bytes) (n : ℕ) (f : Finding) where
         w ∙ sym (cond-false (leb 128 n) t _ (lt-leb 128 n (omega arith))
             ∙ cond-true (eqb (notedAt t n f) 0) (putBytes t (n * 8) (findingBytes f)) t nowhere),
       )
+
+-- ---- the history's findings, copied and written back
+
+pub findings-long : (h : Bytes) → wellFormed h ≡ true → length (findingsPart h) ≡ 1024
+findings-long h right = part-length h 2121 1024 (omega (arith, formed h right .long))
+
+-- a copy of the findings is the findings
+pub copied : (h t t′ : Bytes) → length t ≡ 1024 → (q : Bytes) → q ≡ findingsPart h → length q ≡ 1024 → t′ ≡ putBytes t 0 q → t′ ≡ findingsPart h
+copied h t t′ l q eq lq e = e ∙ put-whole t q (lq ∙ sym l) ∙ eq
+
+pub kept-length : (h : Bytes) (t : Bytes) (n : ℕ) → length (findingsKept h t n) ≡ length h
+unfolding findingsKept
+kept-length h t n = put-length (putBytes h 2121 t) 7 (wordBytes 1 n) ∙ put-length h 2121 t

@@ -13,29 +13,20 @@ use Rattle.model.specs.Entry.{Entry}
 use Rattle.model.specs.Record.{front}
 use Rattle.model.proofs.Tests.{cond-true, cond-false}
 use Rattle.records.specs.Places.{firstEntry, entriesAt}
-use Rattle.storage.specs.Words.{wordAt, putBytes, wordBytes}
+use Rattle.storage.specs.Words.{wordAt}
 use Rattle.storage.specs.Tables.{prefixRow, prefixesPart, findingsPart}
 use Rattle.storage.specs.Rules.{wellFormed}
 use Rattle.storage.proofs.WordLaws.{put-length}
-use Rattle.storage.proofs.PartLaws.{part-length, put-whole}
-use Rattle.storage.proofs.WellFormed.{formed}
 use Rattle.logical_log.specs.Prefix.{searchFrom, find}
-use Rattle.logical_log.specs.Violation.{heldAll, bytesAll}
-use Rattle.logical_log.specs.Observation.{nextNumber, counted, missingFrom, notesFrom, JudgedAs, extensionIn, extendedBytes, extendedCount, extendedNumber, writtenBytes, writtenCount, frontAt, lastAt, Stand, Rest, Storing, StoredAs, viewReplaced, findingsKept, viewWritten, restWritten, missingIn, notesIn, heldIn, tableIn, observed, observedBytes, Observing, ViewJudged}
+use Rattle.logical_log.specs.Violation.{heldAll, bytesAll, findingsKept}
+use Rattle.logical_log.specs.Observation.{nextNumber, counted, missingFrom, notesFrom, JudgedAs, extensionIn, extendedBytes, extendedCount, extendedNumber, writtenBytes, writtenCount, frontAt, lastAt, Stand, Rest, Storing, StoredAs, viewReplaced, viewWritten, restWritten, missingIn, notesIn, heldIn, tableIn, observed, observedBytes, Observing, ViewJudged}
 use Rattle.logical_log.proofs.Judge.{lost}
 use Rattle.logical_log.proofs.Written.{number-found, number-made, count-found, count-made, bytes-found, bytes-length-one}
-use Rattle.logical_log.proofs.ViolationLaws.{all-length}
+use Rattle.logical_log.proofs.ViolationLaws.{all-length, findings-long, kept-length}
 use Rattle.logical_log.specs.declared.observation.Observed.{Observed}
 use Rattle.logical_log.specs.declared.observation.Place.{Place}
 
 -- ---- judging
-
-pub findings-long : (h : Bytes) → wellFormed h ≡ true → length (findingsPart h) ≡ 1024
-findings-long h right = part-length h 2121 1024 (omega (arith, formed h right .long))
-
--- a copy of the findings is the findings
-pub copied : (h t₀ t₁ : Bytes) → wellFormed h ≡ true → length t₀ ≡ 1024 → (q : Bytes) → q ≡ findingsPart h → t₁ ≡ putBytes t₀ 0 q → t₁ ≡ findingsPart h
-copied h t₀ t₁ right l q eq e = e ∙ ap (putBytes t₀ 0) eq ∙ put-whole t₀ (findingsPart h) (findings-long h right ∙ sym l)
 
 pub view-judged : (h s : Bytes) (m node : ℕ) (q t₁ : Bytes) (count held missing held′ : ℕ) (r : Place) (t′ : Bytes)
     → count ≡ wordAt h 0 2 → held ≡ wordAt h 7 1 → q ≡ prefixesPart h → t₁ ≡ findingsPart h
@@ -123,10 +114,6 @@ unfolding restWritten viewWritten
 rest-written h s m node missing r t held w =
     let a = w .same h refl in
     sym (λ i. findingsKept (viewReplaced (a .bytes i) node (a .number i) (w .last i)) t held)
-
-pub kept-length : (h : Bytes) (t : Bytes) (n : ℕ) → length (findingsKept h t n) ≡ length h
-unfolding findingsKept
-kept-length h t n = put-length (putBytes h 2121 t) 7 (wordBytes 1 n) ∙ put-length h 2121 t
 
 pub replaced-length : (h : Bytes) (k f l : ℕ) → length (viewReplaced h k f l) ≡ length h
 unfolding viewReplaced

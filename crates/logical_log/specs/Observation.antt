@@ -11,7 +11,7 @@ use Rattle.model.specs.History.{Finding}
 use Rattle.model.specs.Sizes.{Bytes}
 use Rattle.model.specs.Record.{frontFrom, front, lastFrom, lastIndex}
 use Rattle.records.specs.Places.{Walk, firstEntry, entriesAt}
-use Rattle.storage.specs.Words.{putBytes, wordBytes, wordAt}
+use Rattle.storage.specs.Words.{putBytes, wordAt}
 use Rattle.storage.specs.Tables.{PrefixRow, prefixRow, prefixesPart, nodeRow, nodesPart, findingsPart}
 use Rattle.storage.specs.Writes.{prefixAppended, nodeBytes}
 use Rattle.storage.specs.Values.{numberIndex}
@@ -24,7 +24,7 @@ use Rattle.records.specs.declared.walk.ShownEntry.{ShownEntry}
 use Rattle.logical_log.specs.Table.{entryValue}
 use Rattle.logical_log.specs.Prefix.{rowOf, find, first}
 use Rattle.logical_log.specs.Comparison.{sameFrom}
-use Rattle.logical_log.specs.Violation.{heldAll, bytesAll}
+use Rattle.logical_log.specs.Violation.{heldAll, bytesAll, findingsKept}
 
 -- ---- judged: nothing is written
 
@@ -204,10 +204,6 @@ pub record StoredAs (h : Bytes) (n : ℕ) (s : Bytes) (r : Place) (number : ℕ)
 unfoldable pub viewReplaced : Bytes → ℕ → ℕ → ℕ → Bytes
 viewReplaced h k front last =
     putBytes h (9 + k * 6) (nodeBytes (record { front = front; last = last; unseen = nodeRow (nodesPart h) k .unseen }))
-
--- the findings' table written back, with its count
-unfoldable pub findingsKept : Bytes → Bytes → ℕ → Bytes
-findingsKept h t n = putBytes (putBytes h 2121 t) 7 (wordBytes 1 n)
 
 -- ---- a view as a whole
 

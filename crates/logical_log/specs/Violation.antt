@@ -1,5 +1,5 @@
--- Noting a finding once, in a table of findings that is judged before the history is written. One more than the limit
--- means that there are too many: from then on nothing is noted.
+-- Noting a finding once, in a table of findings that is judged before the history is written, and is then written back. One more
+-- than the limit means that there are too many: from then on nothing is noted.
 -- Assumes nothing.
 use Prim.Native.Nat.{ℕ, _+_, _*_}
 use mathlib.Core.Bool.{Bool, cond, _&&_}
@@ -7,7 +7,7 @@ use mathlib.Core.List.{List, [], _∷_}
 use lib.Dec.{leb, ltb, eqb}
 use Rattle.model.specs.Sizes.{Bytes}
 use Rattle.model.specs.History.{Finding}
-use Rattle.storage.specs.Words.{putBytes}
+use Rattle.storage.specs.Words.{putBytes, wordBytes}
 use Rattle.storage.specs.Tables.{findingRow}
 use Rattle.storage.specs.Writes.{findingBytes}
 use Rattle.logical_log.specs.Prefix.{searchFrom}
@@ -41,3 +41,7 @@ unfoldable pub bytesAll : Bytes → ℕ → List Finding → Bytes
 unfolding noteHeld noteBytes
 bytesAll t n [] = t
 bytesAll t n (f ∷ fs) = bytesAll (noteBytes t n f) (noteHeld t n f) fs
+
+-- a table written back as the history's, with how many it holds
+unfoldable pub findingsKept : Bytes → Bytes → ℕ → Bytes
+findingsKept h t n = putBytes (putBytes h 2121 t) 7 (wordBytes 1 n)

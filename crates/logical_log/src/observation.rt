@@ -6,23 +6,21 @@ ghost use Rattle.records.specs.Places.{Walk, firstEntry};
 ghost use Rattle.storage.specs.Tables.{prefixRow};
 ghost use Rattle.logical_log.specs.Table.{Table, entryValue};
 ghost use Rattle.logical_log.specs.Violation.{heldAll, bytesAll};
-ghost use Rattle.logical_log.specs.Observation.{nextNumber, other, counted as countedMissing, noteOf, JudgedAs, onward as onwardFrom, Storing, StoredAs, viewReplaced, findingsKept, restWritten, Observing, ViewJudged, observed, observedBytes};
+ghost use Rattle.logical_log.specs.Observation.{nextNumber, other, counted as countedMissing, noteOf, JudgedAs, onward as onwardFrom, Storing, StoredAs, viewReplaced, restWritten, Observing, ViewJudged, observed, observedBytes};
 use crate::comparison::same_prefix;
 use crate::prefix::Extension;
 use crate::prefix::extend;
 use crate::prefix::find_extension;
 use crate::prefix::first_of;
+use crate::violation::copy_findings;
+use crate::violation::keep_findings;
 use crate::violation::note;
 use records::walk::FIRST_ENTRY;
 use records::walk::ShownEntry;
 use records::walk::entry_at;
 use records::walk::last_index;
 use storage::findings::Found;
-use storage::head::finding_count;
 use storage::head::prefix_count;
-use storage::head::set_finding_count;
-use storage::layout::FINDINGS_LENGTH;
-use storage::layout::FINDINGS_START;
 use storage::layout::NODES_LENGTH;
 use storage::layout::NODES_START;
 use storage::layout::PREFIXES_LENGTH;
@@ -31,7 +29,6 @@ use storage::layout::part;
 use storage::nodes::Node;
 use storage::nodes::node_at;
 use storage::nodes::set_node;
-use storage::words::put_bytes;
 use units::FINDING_LIMIT;
 use units::LogIndex;
 use units::NodeId;
@@ -225,15 +222,6 @@ fn replace_view(history: &mut [u8], node: NodeId, front: usize, last: LogIndex)
     set_node(&mut history[..], k, row);
 }
 
-// The findings that were gathered become the history's.
-pub fn keep_findings(history: &mut [u8], findings: &[u8], held: usize)
-    requires { ⌜ (length (now history) ≡ 24137) × (length (now findings) ≡ 1024) ⌝ }
-    ensures { λ r. ⌜ now (history .exit) ≡ findingsKept (now (history .entry)) (now (findings .entry)) held ⌝ }
-{
-    put_bytes(&mut history[..], FINDINGS_START, findings);
-    set_finding_count(&mut history[..], held);
-}
-
 // An accepted view is written: its prefixes from a place on, the node's row, the findings.
 fn write_view(
     history: &mut [u8],
@@ -265,12 +253,7 @@ fn judge_view(
     ensures { λ r. ⌜ ViewJudged (now (history .entry)) (now (view .entry)) entries (node .0) (r .missing) (r .held) (r .rest) (now (findings .exit)) ⌝ }
 {
     let count = prefix_count(history);
-    let held = finding_count(history);
-    put_bytes(
-        &mut findings[..],
-        0,
-        part(history, FINDINGS_START, FINDINGS_LENGTH),
-    );
+    let held = copy_findings(history, &mut findings[..]);
     judge(
         part(history, PREFIXES_START, PREFIXES_LENGTH),
         count,

@@ -1,14 +1,21 @@
-// Findings are noted once (types/violation.rs). They are gathered in a table of their own while a record is judged, so that
-// nothing of the history is written before it is accepted.
+// Findings are noted once (types/violation.rs). They are gathered in a copy of the history's table while a record is judged, so
+// that nothing of the history is written before it is accepted; then the copy is written back.
 ghost use mathlib.Core.Path.{_≡_};
 ghost use Prim.Native.Nat.{_≤_, _<_};
 ghost use lib.ListN.{length};
-ghost use Rattle.storage.specs.Tables.{findingRow};
+ghost use Rattle.storage.specs.Words.{wordAt};
+ghost use Rattle.storage.specs.Tables.{findingRow, findingsPart};
 ghost use Rattle.storage.specs.Values.{findingValue};
-ghost use Rattle.logical_log.specs.Violation.{sameNumbers, notedAt, noteHeld, noteBytes};
+ghost use Rattle.logical_log.specs.Violation.{sameNumbers, notedAt, noteHeld, noteBytes, findingsKept};
 use storage::findings::Found;
 use storage::findings::finding_at;
 use storage::findings::put_finding;
+use storage::head::finding_count;
+use storage::head::set_finding_count;
+use storage::layout::FINDINGS_LENGTH;
+use storage::layout::FINDINGS_START;
+use storage::layout::part;
+use storage::words::put_bytes;
 use units::FINDING_LIMIT;
 
 // Row k is the finding.
@@ -60,4 +67,26 @@ pub fn note(findings: &mut [u8], n: usize, f: Found) -> usize
     }
     put_finding(&mut findings[..], n, f);
     n + 1
+}
+
+// A copy of the history's findings, and how many it holds.
+pub fn copy_findings(history: &[u8], findings: &mut [u8]) -> usize
+    requires { ⌜ (length (now history) ≡ 24137) × (length (now findings) ≡ 1024) ⌝ }
+    ensures { λ r. ⌜ (r ≡ wordAt (now (history .entry)) 7 1) × (now (findings .exit) ≡ findingsPart (now (history .entry))) ⌝ }
+{
+    put_bytes(
+        &mut findings[..],
+        0,
+        part(history, FINDINGS_START, FINDINGS_LENGTH),
+    );
+    finding_count(history)
+}
+
+// The findings that were gathered become the history's.
+pub fn keep_findings(history: &mut [u8], findings: &[u8], held: usize)
+    requires { ⌜ (length (now history) ≡ 24137) × (length (now findings) ≡ 1024) ⌝ }
+    ensures { λ r. ⌜ now (history .exit) ≡ findingsKept (now (history .entry)) (now (findings .entry)) held ⌝ }
+{
+    put_bytes(&mut history[..], FINDINGS_START, findings);
+    set_finding_count(&mut history[..], held);
 }

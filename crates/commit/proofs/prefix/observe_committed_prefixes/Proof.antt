@@ -1,6 +1,6 @@
 -- `commit::prefix::observe_committed_prefixes` meets its contract.
 -- Assumes nothing.
-use Rattle.commit.proofs.PrefixTurns.{unseen-length, keep-length, insert-leaves-length, seen-within, committed-within, observe-unseen, observe-zero, observe-first, observe-later}
+use Rattle.commit.proofs.PrefixTurns.{unseen-length, keep-length, insert-leaves-length, seen-within, kept-within, observe-unseen, observe-zero, observe-first, observe-later}
 use Rattle.storage.proofs.WellFormed.{formed}
 use lib.ListN.{length}
 use borrow.Author.Needs.{needs}
@@ -72,7 +72,7 @@ insert-committed-prefix-requires : tie.Need-insert-committed-prefix-requires
 insert-committed-prefix-requires c κs =
     let s = c .before .before .before .before .before .before .before .before .before .before .before .before .before in
     let f = formed _ (s .pre .0) in
-    (s .pre .0, s .pre .1, committed-within (s .args .history .now) (s .args .node .0) (s .args .index .0) _ (c .before .before .before .before .before .before .before .before .before .before .seen-prefix .ensures) _ (c .before .before .before .before .before .before .before .before .seen .given .1) (c .before .before .before .before .before .before .if1 .left) _ (c .before .before .before .before .committed-prefix .ensures) f _ (c .before .before .committed .given .1), seen-within (s .args .history .now) (s .args .node .0) (s .args .index .0) _ f (s .pre .1) (sym (c .before .before .before .before .before .before .before .before .before .before .seen-prefix .ensures) ∙ c .before .before .before .before .before .before .before .before .seen .given .1))
+    (s .pre .0, s .pre .1, kept-within (s .args .history .now) f _ (c .before .before .before .before .committed-prefix .ensures) _ (c .before .before .committed .given .1), seen-within (s .args .history .now) (s .args .node .0) (s .args .index .0) _ f (s .pre .1) (sym (c .before .before .before .before .before .before .before .before .before .before .seen-prefix .ensures) ∙ c .before .before .before .before .before .before .before .before .seen .given .1))
 
 same-length-4 : tie.Need-same-length-4
 same-length-4 c = ap length (c .before .before .insert-committed-prefix .ensures .leaves) ∙ insert-leaves-length _ _ _ _

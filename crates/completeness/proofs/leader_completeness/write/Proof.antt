@@ -2,9 +2,7 @@
 -- Assumes nothing.
 use Rattle.completeness.proofs.CheckLaws.{written-as, written-length}
 use Rattle.completeness.proofs.MarkLaws.{marks-length}
-use Rattle.storage.proofs.WordLaws.{put-length}
 use mathlib.Core.Path.{ap, _∙_}
-use native.Mathlib.Omega.{arith}
 use lib.ListN.{length}
 use borrow.Author.Needs.{needs}
 use Rattle.completeness.proofs.leader_completeness.write.Statement.{statement}
@@ -13,37 +11,25 @@ use Rattle.completeness.proofs.leader_completeness.write.Tie as tie
 move-marks-requires : tie.Need-move-marks-requires
 move-marks-requires c κs = search needs
 
-put-bytes-requires : tie.Need-put-bytes-requires
-put-bytes-requires c κs =
-    let s = c .before .before .before .before .before .before .before .pre in
-    let a = s .history in
-    let b = s .table in
-    let d = ap length (c .before .before .before .move-marks .ensures) ∙ marks-length _ _ _ _ in
-    omega arith
-
-set-finding-count-requires : tie.Need-set-finding-count-requires
-set-finding-count-requires c κs =
-    let a = c .before .before .before .before .before .before .before .before .before .before .before .pre .history in
-    let d = ap length (c .before .before .before .before .before .before .before .move-marks .ensures) ∙ marks-length _ _ _ _ in
-    let e = ap length (c .before .before .before .put-bytes .ensures) ∙ put-length _ _ _ in
-    omega arith
+keep-findings-requires : tie.Need-keep-findings-requires
+keep-findings-requires c κs =
+    let m = c .before .before .before in
+    let s = m .before .before .before .before .pre in
+    (ap length (m .move-marks .ensures) ∙ marks-length _ _ _ _ ∙ s .history, s .table)
 
 same-length : tie.Need-same-length
 same-length c =
-    let s = c .before .before .before .before .before .before .before .before .before .before .before .before .before .before .args in
-    ap length (written-as (s .history .now) (s .findings .now) (s .held) (s .end .0) _ (c .before .before .before .before .before .before .before .before .before .before .move-marks .ensures) _ (c .before .before .before .before .before .before .put-bytes .ensures) _ (c .before .before .set-finding-count .ensures)) ∙ written-length _ _ _ _
+    let k = c .before .before in
+    let m = k .before .before .before .before in
+    let s = m .before .before .before .before .args in
+    ap length (written-as (s .history .now) (s .findings .now) (s .held) (s .end .0) _ (m .move-marks .ensures) _ (k .keep-findings .ensures)) ∙ written-length _ _ _ _
 
 returns : tie.Need-returns
 returns c =
-    let s = c .before .before .before .before .before .before .before .before .before .before .before .before .before .before .args in
-    written-as (s .history .now) (s .findings .now) (s .held) (s .end .0) _ (c .before .before .before .before .before .before .before .before .before .before .move-marks .ensures) _ (c .before .before .before .before .before .before .put-bytes .ensures) _ (c .before .before .set-finding-count .ensures)
+    let k = c .before .before in
+    let m = k .before .before .before .before in
+    let s = m .before .before .before .before .args in
+    written-as (s .history .now) (s .findings .now) (s .held) (s .end .0) _ (m .move-marks .ensures) _ (k .keep-findings .ensures)
 
 pub write-spec : {M : Type 1} → statement M
-write-spec =
-    tie.close
-    (tie.spec
-    move-marks-requires
-    put-bytes-requires
-    set-finding-count-requires
-    same-length
-    returns)
+write-spec = tie.close (tie.spec move-marks-requires keep-findings-requires same-length returns)

@@ -4,7 +4,8 @@ use mathlib.Core.Path.{ap, sym, _∙_}
 use lib.ListN.{length}
 use borrow.Author.Needs.{needs}
 use Rattle.storage.proofs.WellFormed.{formed}
-use Rattle.logical_log.proofs.Whole.{view-written, kept-length, replaced-length}
+use Rattle.logical_log.proofs.Whole.{view-written, replaced-length}
+use Rattle.logical_log.proofs.ViolationLaws.{kept-length}
 use Rattle.logical_log.proofs.observation.write_view.Statement.{statement}
 use Rattle.logical_log.proofs.observation.write_view.Tie as tie
 

@@ -1,12 +1,12 @@
--- `logical_log::observation::keep_findings` meets its contract.
+-- `logical_log::violation::keep_findings` meets its contract.
 -- Assumes nothing.
 use mathlib.Core.Path.{ap, _∙_}
 use borrow.Author.Needs.{needs}
 use Rattle.model.specs.Sizes.{Bytes}
 use Rattle.storage.specs.Words.{putBytes, wordBytes}
-use Rattle.logical_log.specs.Observation.{findingsKept}
-use Rattle.logical_log.proofs.observation.keep_findings.Statement.{statement}
-use Rattle.logical_log.proofs.observation.keep_findings.Tie as tie
+use Rattle.logical_log.specs.Violation.{findingsKept}
+use Rattle.logical_log.proofs.violation.keep_findings.Statement.{statement}
+use Rattle.logical_log.proofs.violation.keep_findings.Tie as tie
 
 put-bytes-requires : tie.Need-put-bytes-requires
 put-bytes-requires c κs = search needs
