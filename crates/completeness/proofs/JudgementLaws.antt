@@ -19,8 +19,9 @@ use Rattle.logical_log.proofs.ViolationLaws.{all-length}
 use Rattle.storage.proofs.WellFormed.{Formed}
 use Rattle.logical_log.proofs.Turns.{held-append, bytes-append, held-few}
 use Rattle.completeness.specs.Relevance.{relevantIn}
-use Rattle.commit.specs.Prefix.{agreeIn}
-use Rattle.completeness.specs.Judgement.{lacksThrough, lackingOf, lackingAt, lackingIn, flagIn, NotedAs, JudgedAs, lackingsIn, flagsIn, certificatesOf, JudgedAll}
+use Rattle.commit.specs.Prefix.{keptOf, agreeIn}
+use Rattle.commit.specs.declared.prefix.Kept.{Kept}
+use Rattle.completeness.specs.Judgement.{lacksKept, lacksThrough, lackingOf, lackingAt, lackingIn, flagIn, NotedAs, JudgedAs, lackingsIn, flagsIn, certificatesOf, JudgedAll}
 
 -- a certificate as it is read, and its log, which is stored
 pub row-here : (h p : Bytes) (k : ℕ) (c : CertificateRow) → p ≡ certificatesPart h → c ≡ certificateRow p k → c ≡ certificateRow (certificatesPart h) k
@@ -37,9 +38,16 @@ module _ (h : Bytes) (c : CertificateRow) (i : ℕ) where
   unfolding lacksThrough
   lacks-absent e = sym (cond-true (eqb (c .present) 0) true _ (eq-eqb (c .present) 0 e))
 
-  pub lacks-there : (c .present ≡ 0 → ⊥) → (n : ℕ) → n ≡ wordAt h 4 2 → (b : Bool) → b ≡ agreeIn h (c .log) n i → not b ≡ lacksThrough h c i
-  unfolding lacksThrough
-  lacks-there z n en b e = ap not (e ∙ ap (λ (k : ℕ). agreeIn h (c .log) k i) en) ∙ sym (cond-false (eqb (c .present) 0) true _ (ne-eqb (c .present) 0 z))
+  module _ (there : c .present ≡ 0 → ⊥) (k : Kept) (ek : k ≡ keptOf (wordAt h 4 2)) where
+    kept-is : lacksKept h (c .log) i k ≡ lacksThrough h c i
+    unfolding lacksThrough
+    kept-is = ap (lacksKept h (c .log) i) ek ∙ sym (cond-false (eqb (c .present) 0) true _ (ne-eqb (c .present) 0 there))
+
+    pub lacks-nothing : k ≡ Kept.Nothing → false ≡ lacksThrough h c i
+    lacks-nothing g = sym (ap (lacksKept h (c .log) i) g) ∙ kept-is
+
+    pub lacks-there : (p : ℕ) → k ≡ Kept.Prefix p → (b : Bool) → b ≡ agreeIn h (c .log) p i → not b ≡ lacksThrough h c i
+    lacks-there p g b e = ap not e ∙ sym (ap (lacksKept h (c .log) i) g) ∙ kept-is
 
 -- ---- one certificate
 

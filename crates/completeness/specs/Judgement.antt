@@ -11,16 +11,22 @@ use Rattle.model.specs.History.{Finding}
 use Rattle.storage.specs.Words.{wordAt}
 use Rattle.storage.specs.Tables.{CertificateRow, certificateRows, certificatesPart}
 use Rattle.storage.specs.Rules.{wellFormed}
-use Rattle.commit.specs.Prefix.{agreeIn}
+use Rattle.commit.specs.Prefix.{keptOf, agreeIn}
+use Rattle.commit.specs.declared.prefix.Kept.{Kept}
 use Rattle.logical_log.specs.Violation.{heldAll, bytesAll}
 use Rattle.completeness.specs.Relevance.{relevantIn}
 
 -- ---- one certificate
 
--- "a log that is absent, shorter or different" through index i
+-- a log that is shorter than the committed prefix through index i, or different; where none is kept nothing is lacking
+abbrev pub lacksKept : Bytes → ℕ → ℕ → Kept → Bool
+lacksKept h log i (Kept.Prefix p) = not (agreeIn h log p i)
+lacksKept h log i Kept.Nothing = false
+
+-- "a log that is absent, shorter or different"
 unfoldable pub lacksThrough : Bytes → CertificateRow → ℕ → Bool
 unfolding agreeIn wordAt
-lacksThrough h c i = cond (eqb (c .present) 0) true (not (agreeIn h (c .log) (wordAt h 4 2) i))
+lacksThrough h c i = cond (eqb (c .present) 0) true (lacksKept h (c .log) i (keptOf (wordAt h 4 2)))
 
 -- LG-05 (leader, index, term)
 abbrev pub lackingOf : CertificateRow → ℕ → Finding

@@ -8,13 +8,14 @@ ghost use Rattle.storage.specs.Rules.{wellFormed};
 ghost use Rattle.storage.specs.Values.{certificateValue};
 ghost use Rattle.completeness.specs.Judgement.{lacksThrough, Noting, NotedAs, Judging, JudgedAs, JudgedAll};
 use crate::relevance::relevant_index;
+use commit::prefix::Kept;
 use commit::prefix::agree_through;
+use commit::prefix::committed_prefix;
 use logical_log::violation::note;
 use storage::certificates::Certificate;
 use storage::certificates::certificate_at;
 use storage::findings::Found;
 use storage::head::certificate_count;
-use storage::head::committed_number;
 use storage::layout::CERTIFICATES_LENGTH;
 use storage::layout::CERTIFICATES_START;
 use storage::layout::part;
@@ -26,7 +27,8 @@ pub struct Judged {
     pub held: usize,
 }
 
-// The certificate's log is absent, or shorter than the committed prefix through the index, or different.
+// The certificate's log is absent, or shorter than the committed prefix through the index, or different. Where none is kept, nothing
+// is lacking but an absent log.
 fn lacks_through(history: &[u8], c: Certificate, through: LogIndex) -> bool
     requires { ⌜ (wellFormed (now history) ≡ true) × (c .log ≤ wordAt (now history) 0 2) ⌝ }
     ensures { λ r. ⌜ r ≡ lacksThrough (now (history .entry)) (certificateValue c) (through .0) ⌝ }
@@ -34,8 +36,10 @@ fn lacks_through(history: &[u8], c: Certificate, through: LogIndex) -> bool
     if c.present == 0 {
         return true;
     }
+    let Kept::Prefix(committed) = committed_prefix(history) else {
+        return false;
+    };
     let log = c.log;
-    let committed = committed_number(history);
     !agree_through(history, log, committed, through)
 }
 
