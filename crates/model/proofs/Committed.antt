@@ -22,7 +22,7 @@ use Rattle.model.specs.Check.{checkEffect}
 use Rattle.model.specs.Answer.{effect}
 use Rattle.model.specs.Ledger.{Ledger, entered}
 use Rattle.model.specs.Run.{historyOf, ledgerOf, Event, eventsOf}
-use Rattle.model.proofs.Tests.{either, cond-true, cond-false, and-right, and-both, and-false, same-yes, yes-same}
+use Rattle.model.proofs.Tests.{either, cond-true, cond-false, and-left, and-right, and-both, and-false, same-yes, yes-same}
 use Rattle.model.proofs.Run.{by-events}
 use Rattle.model.proofs.Stored.{broughtBy}
 use Rattle.model.proofs.Matching.{NoFinding, Without, none-printed, without-after, without-nil, mismatches-name, lackings-name}
@@ -116,10 +116,19 @@ differences-none n c p = (
 abbrev kept : Prefix → Prefix → Prefix
 kept c p = cond (replaces c p) p c
 
-kept-longer : (c p : Prefix) → agree c p ≡ true → length c < length p → (kept c p ≡ p) × (take (length c) p ≡ c)
+-- a mismatch is not kept: what replaces the committed prefix agrees with it, and is longer
+pub replaced-agrees : (c p : Prefix) → replaces c p ≡ true → (agree c p ≡ true) × (length c < length p)
 unfolding replaces
+replaced-agrees c p e = (and-left (agree c p) _ e, ltb-true (length c) (length p) (and-right (agree c p) _ e))
+
+-- and what agrees and is longer replaces it. What follows rests on these two laws, not on how the test is defined
+pub agreeing-replaces : (c p : Prefix) → agree c p ≡ true → length c < length p → replaces c p ≡ true
+unfolding replaces
+agreeing-replaces c p a h = and-both (agree c p) _ a (lt-ltb (length c) (length p) h)
+
+kept-longer : (c p : Prefix) → agree c p ≡ true → length c < length p → (kept c p ≡ p) × (take (length c) p ≡ c)
 kept-longer c p a h = (
-  cond-true _ p c (and-both (agree c p) _ a (lt-ltb (length c) (length p) h)),
+  cond-true (replaces c p) p c (agreeing-replaces c p a h),
   let m : min (length c) (length p) ≡ length c = omega arith in
       let e : take (length c) c ≡ take (length c) p =
       subst (λ (k : ℕ). take k c ≡ take k p) m (agree-yes c p a) in
@@ -127,19 +136,13 @@ kept-longer c p a h = (
 )
 
 kept-shorter : (c p : Prefix) → agree c p ≡ true → length p ≤ length c → (kept c p ≡ c) × (take (length p) c ≡ p)
-unfolding replaces
 kept-shorter c p a h = (
-  keeps (either (agree c p && ltb (length c) (length p))),
+  ⊎-elim (λ t. absurd (let q = replaced-agrees c p t .1 in omega arith)) (λ f. cond-false (replaces c p) p c f) (either (replaces c p)),
   let m : min (length c) (length p) ≡ length p = omega arith in
       let e : take (length p) c ≡ take (length p) p =
       subst (λ (k : ℕ). take k c ≡ take k p) m (agree-yes c p a) in
       e ∙ take-length p,
 )
-  where
-    keeps : (agree c p && ltb (length c) (length p) ≡ true) ⊎ (agree c p && ltb (length c) (length p) ≡ false)
-        → cond (agree c p && ltb (length c) (length p)) p c ≡ c
-    keeps (inl t) = absurd (let q = ltb-true (length c) (length p) (and-right (agree c p) _ t) in omega arith)
-    keeps (inr f) = cond-false _ p c f
 
 -- one of the two is kept
 kept-cases : (c p : Prefix) → (kept c p ≡ p) ⊎ (kept c p ≡ c)

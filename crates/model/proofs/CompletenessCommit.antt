@@ -6,7 +6,7 @@ use native.Mathlib.Omega.{arith}
 use mathlib.Core.Path.{_≡_, refl, sym, _∙_, ap}
 use mathlib.Core.Bool.{Bool, true, false, cond, _&&_}
 use mathlib.Core.Logic.{⊎-elim}
-use mathlib.Core.List.{List, [], List·Memᴰ, List·Memᴰ·not-nil, List·Memᴰ·eq-of-singleton}
+use mathlib.Core.List.{List, []}
 use mathlib.Core.Option.{Option}
 use lib.Dec.{leb, ltb}
 use lib.ListN.{length, getD, take, length-take}
@@ -19,35 +19,35 @@ use Rattle.model.specs.Commit.{through, seen, replaces, differences, com
 use Rattle.model.specs.Answer.{effect}
 use Rattle.model.specs.Ledger.{Elected, Ledger, entered, extended}
 use Rattle.model.proofs.Tests.{tf, either, cond-cases, cond-true, cond-false, and-left, and-right, and-both, test-ext, begins-yes, agree-short}
-use Rattle.model.proofs.CompletenessInvariant.{BlamedAt, Justified, Sound, Complete, MarksWithin, Invariant, NoLG05, named-noted, sound-noted, sound-others}
+use Rattle.model.proofs.Matching.{differences-name}
+use Rattle.model.proofs.Committed.{replaced-agrees, agreeing-replaces}
+use Rattle.model.proofs.CompletenessInvariant.{BlamedAt, Justified, Sound, Complete, MarksWithin, Invariant, named-noted, sound-noted, sound-others}
 
 -- ---- the same committed entries
 
 -- the history's test and the ledger's, of a prefix q of at most i entries
 module _ (c q : Prefix) (i n : ℕ) (short : length q ≤ i) (reached : leb i n ≡ true) where
   forth : replaces c q ≡ true → ltb 0 i && leb i n && ltb (length c) (length q) && begins q c ≡ true
-  unfolding replaces
   forth e =
-      let l : length c < length q = ltb-true _ _ (and-right (agree c q) _ e) in
+      let r = replaced-agrees c q e in
+      let l : length c < length q = r .1 in
       let a : agree c q ≡ begins q c = agree-short c q (omega arith) in
       and-both _ _
       (and-both _ _ (and-both _ _ (lt-ltb 0 i (omega arith)) reached) (lt-ltb _ _ l))
-      (sym a ∙ and-left _ _ e)
+      (sym a ∙ r .0)
 
   back : ltb 0 i && leb i n && ltb (length c) (length q) && begins q c ≡ true → replaces c q ≡ true
-  unfolding replaces
   back e =
       let t : ltb (length c) (length q) ≡ true = and-right (ltb 0 i && leb i n) _ (and-left _ _ e) in
       let l : length c < length q = ltb-true _ _ t in
       let a : agree c q ≡ begins q c = agree-short c q (omega arith) in
-      and-both _ _ (a ∙ and-right (ltb 0 i && leb i n && ltb (length c) (length q)) _ e) t
+      agreeing-replaces c q (a ∙ and-right (ltb 0 i && leb i n && ltb (length c) (length q)) _ e) l
 
 -- nothing seen replaces nothing
 none-seen : (c : Prefix) → cond (replaces c []) [] c ≡ c
-unfolding replaces
 none-seen c =
     cond-cases (λ (z : Prefix). z ≡ c) _ _ _
-    (λ t. absurd (let l : length c < 0 = ltb-true _ _ (and-right (agree c []) _ t) in omega arith)) (λ _. refl)
+    (λ t. absurd (let l : length c < 0 = replaced-agrees c [] t .1 in omega arith)) (λ _. refl)
 
 not-reached : (p : Prefix) (i : ℕ) (c : Prefix) → leb i (length p) ≡ false → extended p i c ≡ c
 unfolding extended
@@ -82,11 +82,11 @@ pub record Extends (p q : Prefix) : Type 0 where
 
 -- this is where a mismatch must not be kept
 replaced-extends : (c q : Prefix) → replaces c q ≡ true → Extends c q
-unfolding replaces
 replaced-extends c q e =
-    let l : length c < length q = ltb-true _ _ (and-right (agree c q) _ e) in
+    let r = replaced-agrees c q e in
+    let l : length c < length q = r .1 in
     let b : take (length c) q ≡ c =
-    begins-yes q c (sym (agree-short c q (omega arith)) ∙ and-left _ _ e) in
+    begins-yes q c (sym (agree-short c q (omega arith)) ∙ r .0) in
     record {
       longer = omega arith;
       first = λ i s. sym (take-take i (length c) q s) ∙ ap (take i) b;
@@ -127,23 +127,13 @@ module _ (p q : Prefix) (x : Extends p q) where
 
 -- ---- what it finds
 
-pub differences-lg04 : (n : ℕ) (c p : Prefix) (f : Finding) → List·Memᴰ f (differences n c p) → f .name ≡ 4
-unfolding differences
-differences-lg04 n c p f =
-    cond-cases (λ (z : List Finding). List·Memᴰ f z → f .name ≡ 4) (agree c p) _ _
-    (λ _ m. absurd (List·Memᴰ·not-nil m))
-    (λ _ m. ap (λ (x : Finding). x .name) (List·Memᴰ·eq-of-singleton m))
-
-no-lg05 : (n : ℕ) (c p : Prefix) → NoLG05 (differences n c p)
-no-lg05 n c p f m e = let d : f .name ≡ 4 = differences-lg04 n c p f m in omega arith
-
 sound-commit : (h : History) (g : Ledger) (n i : ℕ) → Invariant h g
     → Sound (commitFindings h n i) (h .committed) (g .terms) (g .elections)
 unfolding commitFindings
 sound-commit h g n i v =
     sound-noted (h .findings) (differences n (h .committed) (seen h n i)) (h .committed) (g .terms) (g .elections) (v .sound)
     (sound-others (differences n (h .committed) (seen h n i)) (h .committed) (g .terms) (g .elections)
-    (no-lg05 n (h .committed) (seen h n i)))
+    (differences-name 5 n (h .committed) (seen h n i) (λ e. omega arith)))
 
 complete-commit : (h : History) (g : Ledger) (n i : ℕ) → Invariant h g
     → Complete (commitFindings h n i) (h .committed) (h .terms) (h .certificates)

@@ -15,6 +15,7 @@ use Rattle.model.specs.Check.{lacks}
 use Rattle.model.specs.Leaders.{Leader}
 use Rattle.model.specs.Ledger.{Elected, Ledger, empty, earlier, without}
 use Rattle.model.proofs.Members.{all-old, all-new, all-cases}
+use Rattle.model.proofs.Matching.{Without}
 use Rattle.model.proofs.Leaders.{Named, pairOf}
 
 -- ---- the two sides' words for one thing
@@ -142,11 +143,8 @@ pub sound-noted : (fs gs : List Finding) (p : Prefix) (ts : ℕ → Option ℕ) 
 unfolding noted
 sound-noted fs gs p ts es s t f m e = ⊎-elim (λ k. s f k e) (λ k. t f k e) (all-cases sameFinding fs gs f m)
 
--- none of them is an LG-05
-abbrev pub NoLG05 : List Finding → Type 0
-NoLG05 gs = (f : Finding) → List·Memᴰ f gs → f .name ≡ 5 → ⊥
-
-pub sound-others : (gs : List Finding) (p : Prefix) (ts : ℕ → Option ℕ) (es : List Elected) → NoLG05 gs → Sound gs p ts es
+-- where none of them is an LG-05
+pub sound-others : (gs : List Finding) (p : Prefix) (ts : ℕ → Option ℕ) (es : List Elected) → Without 5 gs → Sound gs p ts es
 sound-others gs p ts es n f m e = absurd (n f m e)
 
 -- ---- other marks

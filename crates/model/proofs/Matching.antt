@@ -82,6 +82,21 @@ pub printed : (h : History) (f : Finding) → List·Memᴰ f (findingList h) ↔
 unfolding findingList
 printed h f = ordered-mem (h .findings) f
 
+-- ---- the walk goes on: each prefix of the view is judged, and no other. What follows rests on this law, not on how the walk is defined
+
+mismatches-mem : (ps : List Prefix) (n : ℕ) (qs : List Prefix) (f : Finding)
+    → List·Memᴰ f (mismatches ps n qs) ↔ ((q : Prefix) × List·Memᴰ q qs × List·Memᴰ f (mismatch ps n q))
+unfolding mismatches
+mismatches-mem ps n [] f = (λ m. absurd (List·Memᴰ·not-nil m), λ x. absurd (List·Memᴰ·not-nil (x .1)))
+mismatches-mem ps n (y ∷ qs) f = (
+  λ m. ⊎-elim (λ k. (y, List·Memᴰ·head refl, k))
+      (λ k. let r = mismatches-mem ps n qs f .0 k in (r .0, List·Memᴰ·tail (r .1), r .2))
+      (List·Memᴰ·append-cases (mismatch ps n y) m),
+  λ x. ⊎-elim (λ e. Memᴰ·append-left (mismatches ps n qs) (subst (λ (q : Prefix). List·Memᴰ f (mismatch ps n q)) e (x .2)))
+      (λ k. Memᴰ·append-right (mismatch ps n y) (mismatches-mem ps n qs f .1 (x .0, k, x .2)))
+      (List·Memᴰ·cases-cons (x .1)),
+)
+
 -- ---- which names a record brings
 
 -- no finding of the list has this name
@@ -137,11 +152,10 @@ unlike-name name n q (some p) u =
     without-else name (record { name = 3; node = n; index = length q; term = lastTerm q }) (same p q) u
 
 pub mismatches-name : (name n : ℕ) (ps qs : List Prefix) → (3 ≡ name → ⊥) → Without name (mismatches ps n qs)
-unfolding mismatches mismatch
-mismatches-name name n ps [] u = without-nil name
-mismatches-name name n ps (q ∷ qs) u =
-    without-append name (mismatch ps n q) (mismatches ps n qs)
-    (unlike-name name n q (remembered ps (length q) (lastTerm q)) u) (mismatches-name name n ps qs u)
+unfolding mismatch
+mismatches-name name n ps qs u f m =
+    let r = mismatches-mem ps n qs f .0 m in
+    unlike-name name n (r .0) (remembered ps (length (r .0)) (lastTerm (r .0))) u f (r .2)
 
 -- ---- the remembered prefix
 
@@ -198,19 +212,14 @@ unlike-first n q (some x) =
     back f = subst (λ (l : List Finding). Without 3 l) (sym (cond-true (same x q) [] (lg3 ∷ []) (yes-same x q (f x refl)))) (without-nil 3)
 
 mismatches-first : (n : ℕ) (ps qs : List Prefix) → Without 3 (mismatches ps n qs) ↔ ((q : Prefix) → List·Memᴰ q qs → FirstIs ps q)
-unfolding mismatches mismatch
-mismatches-first n ps [] = (λ _ q m. absurd (List·Memᴰ·not-nil m), λ _. without-nil 3)
-mismatches-first n ps (x ∷ qs) = (
-  λ w q m.
-      ⊎-elim (λ e. subst (FirstIs ps) (sym e) (here .0 (λ f k. w f (Memᴰ·append-left (mismatches ps n qs) k))))
-      (λ k. mismatches-first n ps qs .0 (λ f j. w f (Memᴰ·append-right (mismatch ps n x) j)) q k)
-      (List·Memᴰ·cases-cons m),
-  λ f. without-append 3 (mismatch ps n x) (mismatches ps n qs) (here .1 (f x (List·Memᴰ·head refl)))
-      (mismatches-first n ps qs .1 (λ q m. f q (List·Memᴰ·tail m))),
+unfolding mismatch
+mismatches-first n ps qs = (
+  λ w q m. here q .0 (λ f k. w f (mismatches-mem ps n qs f .1 (q, m, k))),
+  λ first f m. let r = mismatches-mem ps n qs f .0 m in here (r .0) .1 (first (r .0) (r .1)) f (r .2),
 )
   where
-    here : Without 3 (unlike n x (remembered ps (length x) (lastTerm x))) ↔ FirstIs ps x
-    here = unlike-first n x (remembered ps (length x) (lastTerm x))
+    here : (q : Prefix) → Without 3 (unlike n q (remembered ps (length q) (lastTerm q))) ↔ FirstIs ps q
+    here q = unlike-first n q (remembered ps (length q) (lastTerm q))
 
 -- ---- stored prefixes of one index and term are one prefix
 
@@ -314,19 +323,6 @@ pub log-matching : LogMatching
 log-matching ss = (
   λ n. unique-matching ss .0 (inv ss .0 (none-printed 3 (historyOf ss) .0 n)),
   λ f. none-printed 3 (historyOf ss) .1 (inv ss .1 (unique-matching ss .1 f)),
-)
-
-mismatches-mem : (ps : List Prefix) (n : ℕ) (qs : List Prefix) (f : Finding)
-    → List·Memᴰ f (mismatches ps n qs) ↔ ((q : Prefix) × List·Memᴰ q qs × List·Memᴰ f (mismatch ps n q))
-unfolding mismatches
-mismatches-mem ps n [] f = (λ m. absurd (List·Memᴰ·not-nil m), λ x. absurd (List·Memᴰ·not-nil (x .1)))
-mismatches-mem ps n (y ∷ qs) f = (
-  λ m. ⊎-elim (λ k. (y, List·Memᴰ·head refl, k))
-      (λ k. let r = mismatches-mem ps n qs f .0 k in (r .0, List·Memᴰ·tail (r .1), r .2))
-      (List·Memᴰ·append-cases (mismatch ps n y) m),
-  λ x. ⊎-elim (λ e. Memᴰ·append-left (mismatches ps n qs) (subst (λ (q : Prefix). List·Memᴰ f (mismatch ps n q)) e (x .2)))
-      (λ k. Memᴰ·append-right (mismatch ps n y) (mismatches-mem ps n qs f .1 (x .0, k, x .2)))
-      (List·Memᴰ·cases-cons (x .1)),
 )
 
 pub each-entry-judged : EachEntryJudged
