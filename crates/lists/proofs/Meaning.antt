@@ -3,7 +3,9 @@
 -- Assumes nothing.
 use Prim.Native.Nat.{ℕ}
 use mathlib.Core.Path.{_≡_, sym, _∙_, ap}
+use mathlib.Core.Bool.{cond}
 use mathlib.Core.List.{List}
+use lib.Dec.{eqb}
 use Rattle.model.specs.Sizes.{Bytes}
 use Rattle.model.specs.History.{Finding, History}
 use Rattle.model.specs.Lists.{ordered, findingList, leadersOf, leaderList, marksFrom, unseenList, unknownFrom, unknownList, committedOwner}
@@ -31,7 +33,9 @@ use Rattle.lists.proofs.Printed.{marks-picked, known-read, indexes-pick
 
 pub owner-told : (h : Bytes) (x : History) → Stands h x → ownerIn h ≡ committedOwner x
 unfolding ownerIn
-owner-told h x s = sym (owner-read h) ∙ ap committedOwner (s .decodes)
+owner-told h x s =
+    let o : wordAt h 8 1 ≡ x .owner = sym (owner-read h) ∙ ap (λ (y : History). y .owner) (s .decodes) in
+    λ i. cond (eqb (end-is h x s i) 0) 0 (o i)
 
 -- ---- unseen marks
 

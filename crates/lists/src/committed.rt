@@ -18,5 +18,8 @@ pub fn committed_owner(history: &[u8]) -> usize
     requires { ⌜ wellFormed (now history) ≡ true ⌝ }
     ensures { λ r. ⌜ r ≡ ownerIn (now (history .entry)) ⌝ }
 {
+    if committed_end(history).0 == 0 {
+        return 0;
+    }
     owner_number(history)
 }

@@ -79,4 +79,4 @@ abbrev pub committedLength : History → ℕ
 committedLength h = length (h .committed)
 
 abbrev pub committedOwner : History → ℕ
-committedOwner h = h .owner
+committedOwner h = cond (eqb (length (h .committed)) 0) 0 (h .owner)
