@@ -5,7 +5,7 @@ use native.Mathlib.Nat.{le-antisymm}
 use mathlib.Core.Path.{_≡_, refl, sym, _∙_, ap, subst}
 use mathlib.Core.Bool.{true, false, cond}
 use mathlib.Core.Logic.{_⊎_, inl, inr, ⊎-elim}
-use mathlib.Core.List.{List, [], _∷_, _++_, append-nil, append-assoc, List·Memᴰ, List·Memᴰ·head, List·Memᴰ·tail, List·Memᴰ·not-nil, List·Memᴰ·cases-cons, Memᴰ·cast, Memᴰ·append-left, Memᴰ·append-right, List·Memᴰ·append-cases, List·Memᴰ·eq-of-singleton}
+use mathlib.Core.List.{List, [], _∷_, _++_, List·Memᴰ, List·Memᴰ·head, List·Memᴰ·tail, List·Memᴰ·not-nil, List·Memᴰ·cases-cons, Memᴰ·cast, Memᴰ·append-left, Memᴰ·append-right, List·Memᴰ·append-cases, List·Memᴰ·eq-of-singleton}
 use lib.ListN.{length}
 use Rattle.model.specs.Entry.{holds, isIn, with, withAll}
 use Rattle.model.proofs.Tests.{tf, either, holds-yes, yes-holds, holds-no, or-cases, or-left, or-right, cond-cases}
@@ -104,35 +104,6 @@ module _ {A : Type 0} (d : Discrete A) where
   unfolding withAll
   all-distinct xs [] u = u
   all-distinct xs (z ∷ zs) u = all-distinct (with d xs z) zs (with-distinct xs z u)
-
-  -- the list itself comes first
-  pub all-first : (xs ys : List A) → (zs : List A) × (withAll d xs ys ≡ xs ++ zs)
-  unfolding withAll
-  all-first xs [] = ([], sym (append-nil xs))
-  all-first xs (y ∷ ys) = go (all-first (with d xs y) ys) (member y xs)
-    where
-      go : ((zs : List A) × (withAll d (with d xs y) ys ≡ with d xs y ++ zs))
-          → List·Memᴰ y xs ⊎ (List·Memᴰ y xs → ⊥)
-          → (zs : List A) × (withAll d (with d xs y) ys ≡ xs ++ zs)
-      go r (inl m) = (r .0, r .1 ∙ ap (λ (l : List A). l ++ r .0) (with-there xs y m))
-      go r (inr n) = (
-        (y ∷ []) ++ r .0,
-        r .1 ∙ ap (λ (l : List A). l ++ r .0) (with-fresh xs y n) ∙ append-assoc xs (y ∷ []) (r .0),
-      )
-
-  -- what is there already changes nothing
-  pub all-there : (xs ys : List A) → ((y : A) → List·Memᴰ y ys → List·Memᴰ y xs) → withAll d xs ys ≡ xs
-  unfolding withAll
-  all-there xs [] f = refl
-  all-there xs (y ∷ ys) f =
-      ap (λ (l : List A). withAll d l ys) (with-there xs y (f y (List·Memᴰ·head refl)))
-      ∙ all-there xs ys (λ z m. f z (List·Memᴰ·tail m))
-
-  -- in two steps as in one
-  pub all-append : (xs ys zs : List A) → withAll d xs (ys ++ zs) ≡ withAll d (withAll d xs ys) zs
-  unfolding withAll
-  all-append xs [] zs = refl
-  all-append xs (y ∷ ys) zs = all-append (with d xs y) ys zs
 
   -- ---- counting
 

@@ -17,7 +17,7 @@ use Rattle.model.proofs.Tests.{tf}
 
 -- ---- statements
 
--- Refused means untouched: a refused record leaves the history as it was, and the ledger.
+-- Refused means untouched: a refused record leaves the history as it was.
 abbrev pub RefusedMeansUntouched : Type 0
 RefusedMeansUntouched = (h : History) (s : Bytes) (r : Refusal) → answer h s ≡ refused r → after h s ≡ h
 

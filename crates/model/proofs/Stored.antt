@@ -10,22 +10,22 @@ use mathlib.Core.Logic.{_⊎_, inl, inr, ⊎-elim, _↔_}
 use mathlib.Core.List.{List, [], _∷_, _++_, append-nil, append-assoc, List·Memᴰ, List·Memᴰ·head, List·Memᴰ·tail, List·Memᴰ·not-nil, List·Memᴰ·cases-cons, Memᴰ·cast, Memᴰ·append-left, Memᴰ·append-right, List·Memᴰ·append-cases, List·Memᴰ·eq-of-singleton}
 use mathlib.Core.Option.{Option, none, some}
 use lib.Dec.{leb, ltb}
-use lib.ListN.{length, take}
-use borrow.Author.Tests.{ltb-true, ltb-false, lt-ltb}
+use lib.ListN.{length, take, length-map}
+use borrow.Author.Tests.{ltb-true, ltb-false, lt-ltb, leb-false}
 use Rattle.model.specs.Sizes.{Bytes}
 use Rattle.model.specs.Entry.{Prefix, prefixes}
 use Rattle.model.specs.Refusal.{Refusal, number, prefixesFull, findingsFull, oldExceedsNew, lengthExceedsFront, certificatesFull, numberTaken}
 use Rattle.model.specs.Record.{Shown, Record, view, commit, terms, election, check, rows, front}
-use Rattle.model.specs.History.{Finding, History, frontOf, sameFinding, noted}
+use Rattle.model.specs.History.{Finding, Certificate, History, frontOf, sameFinding, noted}
 use Rattle.model.specs.View.{begun, begunBy, stored, mismatches, viewFindings, viewRefusal, viewEffect}
 use Rattle.model.specs.Commit.{seen, differences, commitFindings, commitRefusal, commitEffect}
-use Rattle.model.specs.Terms.{termsEffect}
-use Rattle.model.specs.Election.{held, taken, electionRefusal, electionEffect}
-use Rattle.model.specs.Check.{lackings, checkFindings, checkRefusal, checkEffect}
+use Rattle.model.specs.Terms.{firstChanged, lowered, termsEffect}
+use Rattle.model.specs.Election.{held, taken, inOrder, electionRefusal, certificate, electionEffect}
+use Rattle.model.specs.Check.{lackings, moved, checkFindings, checkRefusal, checkEffect}
 use Rattle.model.specs.Answer.{refusal, effect}
 use Rattle.model.specs.Ledger.{Ledger}
 use Rattle.model.specs.Run.{historyOf, Event, eventsOf}
-use Rattle.model.proofs.Tests.{either, cond-true, cond-false}
+use Rattle.model.proofs.Tests.{either, cond-cases, cond-true, cond-false}
 use Rattle.model.proofs.Members.{Distinct, all-old, all-new, all-cases, all-distinct, equally-long}
 use Rattle.model.proofs.Run.{by-events}
 
@@ -90,9 +90,10 @@ SevenExactly =
     → Counts count (λ f. List·Memᴰ f (historyOf ss .findings) ⊎ List·Memᴰ f (broughtBy (historyOf ss) r))
     → (refusal (historyOf ss) r ≡ some findingsFull) ↔ ((refusal (historyOf ss) r ≡ some prefixesFull → ⊥) × (128 < count))
 
--- From fresh, there are never more than 512 prefixes and 128 findings, and no finding is held twice.
+-- From fresh, there are never more than 512 prefixes, 64 certificates and 128 findings, and no finding is held twice.
 pub record Bounded (h : History) : Type 0 where
   pub prefixesFit : length (h .prefixes) ≤ 512
+  pub certificatesFit : length (h .certificates) ≤ 64
   pub findingsFit : length (h .findings) ≤ 128
   pub findingsOnce : Distinct (h .findings)
 
@@ -281,30 +282,50 @@ once-after h check u = noted-once (h .findings) (broughtBy h check) u
 once-after h (rows rs) u = u
 
 -- no refusal: the test failed, and so did those after it
-passed : {A : Type 0} (limit n : ℕ) (a : A) (o : Option A) → cond (ltb limit n) (some a) o ≡ none → (n ≤ limit) × (o ≡ none)
-passed limit n a o e =
-    ⊎-elim (λ t. absurd (let x : some a ≡ none = sym (cond-true (ltb limit n) (some a) o t) ∙ e in let z : _≡_ {A = ℕ} 0 1 = cc in omega arith))
-    (λ t. (ltb-false limit n t, sym (cond-false (ltb limit n) (some a) o t) ∙ e))
-    (either (ltb limit n))
+unrefused : {A : Type 0} (b : Bool) (a : A) (o : Option A) → cond b (some a) o ≡ none → (b ≡ false) × (o ≡ none)
+unrefused true a o e = absurd (let z : _≡_ {A = ℕ} 0 1 = cc in omega arith)
+unrefused false a o e = (refl, e)
 
-fit-after : (h : History) (r : Record) → refusal h r ≡ none → Bounded h
-    → (length (effect h r .prefixes) ≤ 512) × (length (effect h r .findings) ≤ 128)
-unfolding viewEffect viewRefusal commitEffect commitRefusal termsEffect electionEffect checkEffect checkRefusal
+passed : {A : Type 0} (limit n : ℕ) (a : A) (o : Option A) → cond (ltb limit n) (some a) o ≡ none → (n ≤ limit) × (o ≡ none)
+passed limit n a o e = let u = unrefused (ltb limit n) a o e in (ltb-false limit n (u .0), u .1)
+
+-- one certificate more
+placed-length : (c : Certificate) (cs : List Certificate) → length (inOrder c cs) ≡ length cs + 1
+unfolding inOrder
+placed-length c [] = refl
+placed-length c (d ∷ ds) =
+    cond-cases (λ (l : List Certificate). length l ≡ suc (length ds) + 1) (ltb (c .term) (d .term)) (c ∷ d ∷ ds) (d ∷ inOrder c ds)
+    (λ _. omega arith) (λ _. let e = placed-length c ds in omega arith)
+
+-- as many prefixes, certificates and findings as fit
+Fit : History → Type 0
+Fit h = (length (h .prefixes) ≤ 512) × (length (h .certificates) ≤ 64) × (length (h .findings) ≤ 128)
+
+fit-after : (h : History) (r : Record) → refusal h r ≡ none → Bounded h → Fit (effect h r)
+unfolding Fit viewEffect viewRefusal commitEffect commitRefusal termsEffect electionEffect electionRefusal checkEffect checkRefusal
 fit-after h (view n xs) e b =
     let six = passed 512 (length (stored (h .prefixes) (front xs))) prefixesFull _ e in
-    (six .0, passed 128 (length (viewFindings h n (front xs))) findingsFull none (six .1) .0)
-fit-after h (commit n i) e b = (b .prefixesFit, passed 128 (length (commitFindings h n i)) findingsFull none e .0)
-fit-after h (terms old new t) e b = (b .prefixesFit, b .findingsFit)
-fit-after h (election l t p n) e b = (b .prefixesFit, b .findingsFit)
-fit-after h check e b = (b .prefixesFit, passed 128 (length (checkFindings h)) findingsFull none e .0)
-fit-after h (rows rs) e b = (b .prefixesFit, b .findingsFit)
+    (six .0, b .certificatesFit, passed 128 (length (viewFindings h n (front xs))) findingsFull none (six .1) .0)
+fit-after h (commit n i) e b =
+    (b .prefixesFit, b .certificatesFit, passed 128 (length (commitFindings h n i)) findingsFull none e .0)
+fit-after h (terms old new t) e b =
+    (b .prefixesFit, (let l = length-map (h .certificates) (lowered t (firstChanged old new t (h .terms))) in let f = b .certificatesFit in omega arith), b .findingsFit)
+fit-after h (election l t p n) e b =
+    let nine = unrefused (ltb (length (frontOf h l)) n) lengthExceedsFront _ e in
+    let ten = unrefused (leb 64 (length (h .certificates))) certificatesFull _ (nine .1) in
+    let room = leb-false 64 (length (h .certificates)) (ten .0) in
+    (b .prefixesFit, (let k = placed-length (certificate h l t p n) (h .certificates) in omega arith), b .findingsFit)
+fit-after h check e b =
+    (b .prefixesFit, (let l = length-map (h .certificates) (moved (h .committed)) in let f = b .certificatesFit in omega arith), passed 128 (length (checkFindings h)) findingsFull none e .0)
+fit-after h (rows rs) e b = (b .prefixesFit, b .certificatesFit, b .findingsFit)
 
 pub always-bounded : AlwaysBounded
+unfolding Fit
 always-bounded =
-    by-events (λ h g es. Bounded h) (record { prefixesFit = zero-le; findingsFit = zero-le; findingsOnce = tt })
+    by-events (λ h g es. Bounded h) (record { prefixesFit = zero-le; certificatesFit = zero-le; findingsFit = zero-le; findingsOnce = tt })
     (λ h g es r e b.
     let fit = fit-after h r e b in
-    record { prefixesFit = fit .0; findingsFit = fit .1; findingsOnce = once-after h r (b .findingsOnce) })
+    record { prefixesFit = fit .0; certificatesFit = fit .1; findingsFit = fit .2; findingsOnce = once-after h r (b .findingsOnce) })
 
 -- 7 after 6, whose test is t
 seven-test : (t : Bool) (k : ℕ) (o : Option Refusal) → o ≡ cond t (some prefixesFull) (cond (ltb 128 k) (some findingsFull) none)
