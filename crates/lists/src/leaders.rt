@@ -2,7 +2,7 @@
 // the least above it.
 ghost use mathlib.Core.Path.{_≡_};
 ghost use mathlib.Core.Bool.{true};
-ghost use Prim.Native.Nat.{_≤_, _<_};
+ghost use Prim.Native.Nat.{_≤_};
 ghost use lib.ListN.{length};
 ghost use Rattle.storage.specs.Rules.{wellFormed};
 ghost use Rattle.storage.specs.Tables.{findingRows};
@@ -24,14 +24,14 @@ pub enum LeaderAnswer {
     NoMore,
 }
 
-// The first term and leader come before the second.
-fn is_below(s: u32, j: u8, t: u32, l: usize) -> bool
-    ensures { λ r. ⌜ r ≡ isBelow (pair s j) (pair t l) ⌝ }
+// The first term and leader come before the second, whose leader may be one past the last node.
+fn is_below(s: Term, j: NodeId, t: Term, l: usize) -> bool
+    ensures { λ r. ⌜ r ≡ isBelow (pair (s .0) (j .0)) (pair (t .0) l) ⌝ }
 {
-    if s != t {
-        return s < t;
+    if s.0 != t.0 {
+        return s.0 < t.0;
     }
-    (j as usize) < l
+    (j.0 as usize) < l
 }
 
 // The lesser of the best so far and the finding's leader.
@@ -42,7 +42,7 @@ fn lesser(f: Found, best: LeaderAnswer) -> LeaderAnswer
     let l = f.node;
     match best {
         LeaderAnswer::Leader { term, leader } => {
-            if is_below(term.0, leader.0, t.0, l.0 as usize) {
+            if is_below(term, leader, t, l.0 as usize) {
                 return LeaderAnswer::Leader {
                     term: term,
                     leader: leader,
@@ -61,7 +61,7 @@ fn better(f: Found, t: Term, l: usize, best: LeaderAnswer) -> LeaderAnswer
     if f.name != 5 {
         return best;
     }
-    if is_below(f.term.0, f.node.0, t.0, l) {
+    if is_below(f.term, f.node, t, l) {
         return best;
     }
     lesser(f, best)

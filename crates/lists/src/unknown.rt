@@ -1,7 +1,7 @@
 // The printed unknown indexes: those of the committed prefix whose commit term is zero or absent, ascending.
 ghost use mathlib.Core.Path.{_≡_};
 ghost use mathlib.Core.Bool.{true};
-ghost use Prim.Native.Nat.{_≤_, _<_};
+ghost use Prim.Native.Nat.{_≤_};
 ghost use lib.ListN.{length};
 ghost use Rattle.storage.specs.Rules.{wellFormed};
 ghost use Rattle.lists.specs.Unknown.{isKnown, indexIn, unknownAnswer};
