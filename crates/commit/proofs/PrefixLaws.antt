@@ -20,9 +20,8 @@ use Rattle.storage.specs.Lists.{every}
 use Rattle.storage.specs.Tables.{PrefixRow, NodeRow, findingRows, prefixRows, findingsPart, prefixesPart}
 use Rattle.storage.specs.Decode.{prefixAt, resolve}
 use Rattle.storage.specs.Rules.{findingRight}
-use Rattle.storage.proofs.PartLaws.{part-length}
 use Rattle.storage.proofs.RowFacts.{Facts}
-use Rattle.storage.proofs.Meanings.{Stands, withNoted, long, prefixes-read, findings-read, owner-read, front-read, last-read, node-written, committed-written, prefixes-stored, findings-stored, committed-stored, findings-taken}
+use Rattle.storage.proofs.Meanings.{Stands, withNoted, prefixes-read, findings-read, owner-read, front-read, last-read, node-written, committed-written, prefixes-stored, findings-stored, committed-stored, findings-taken}
 use Rattle.logical_log.specs.Violation.{findingsKept}
 use Rattle.logical_log.specs.Prefix.{sliceOf}
 use Rattle.logical_log.specs.Comparison.{sameFrom}
@@ -30,7 +29,7 @@ use Rattle.logical_log.specs.declared.prefix.Slice.{Slice}
 use Rattle.logical_log.proofs.TableLaws.{rows-length, rows-at}
 use Rattle.logical_log.proofs.SliceLaws.{index-length, slice-cases}
 use Rattle.logical_log.proofs.ComparisonLaws.{same-prefix}
-use Rattle.logical_log.proofs.ViolationLaws.{Holds, note-holds, note-length}
+use Rattle.logical_log.proofs.ViolationLaws.{Holds, note-holds, note-length, findings-long}
 use Rattle.commit.specs.Prefix.{rowsOf, nodeOf, longerIn, endIn, sameSlices, agreeIn, unseenSet, keepBytes, difference, heldWith, tableWith}
 use Rattle.storage.proofs.WellFormed.{Formed, formed, formed-rows}
 
@@ -225,13 +224,13 @@ module _ (h : Bytes) (x : History) (s : Stands h x) where
   pub difference-holds : (n i : ℕ) → n < 64 → i ≤ 256 → Holds (tableWith h n i) (heldWith h n i) (noted (x .findings) (difference n i ∷ []))
   unfolding tableWith heldWith noted withAll
   difference-holds n i l b =
-      note-holds (findingsPart h) (wordAt h 7 1) (difference n i) (x .findings) (part-length h 2121 1024 (let z = long h x s in omega arith))
+      note-holds (findingsPart h) (wordAt h 7 1) (difference n i) (x .findings) (findings-long h (s .right))
       (record { name = omega arith; node = omega arith; index = omega arith; term = omega arith })
       (inl (facts .findings, findings-stored h x s))
 
   pub table-length : (n i : ℕ) → length (tableWith h n i) ≡ 1024
   unfolding tableWith
-  table-length n i = note-length (findingsPart h) (wordAt h 7 1) (difference n i) ∙ part-length h 2121 1024 (let z = long h x s in omega arith)
+  table-length n i = note-length (findingsPart h) (wordAt h 7 1) (difference n i) ∙ findings-long h (s .right)
 
 -- the committed prefix and its owner, with the mark cleared
 pub keep-written : (h : Bytes) (x : History) (s : Stands h x) (n p : ℕ) → n < 64 → p ≤ wordAt h 0 2

@@ -13,8 +13,8 @@ use Rattle.storage.specs.Tables.{findingsPart}
 use Rattle.logical_log.specs.Violation.{heldAll, bytesAll, findingsKept}
 use Rattle.logical_log.proofs.ViolationLaws.{kept-length}
 use Rattle.completeness.specs.declared.leader_completeness.Checked.{Checked}
-use Rattle.storage.specs.Values.{committedEnd}
-use Rattle.completeness.specs.Judgement.{lackingsIn, certificatesOf, JudgedAll}
+use Rattle.storage.specs.Values.{certificatesOf, committedEnd}
+use Rattle.completeness.specs.Judgement.{lackingsIn, JudgedAll}
 use Rattle.completeness.specs.Marks.{marksMoved}
 use Rattle.completeness.specs.Check.{valueOf, checkHeld, checkTable, checkWritten, checkAnswer, checkBytes, CheckedAs}
 use Rattle.completeness.proofs.MarkLaws.{marks-length}

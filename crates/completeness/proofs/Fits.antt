@@ -11,6 +11,7 @@ use lib.ListN.{length, getD, List·getD-eq-default}
 use Rattle.model.specs.Sizes.{Bytes}
 use Rattle.model.specs.History.{Certificate, History}
 use Rattle.storage.specs.Lists.{tabulate}
+use Rattle.storage.specs.Values.{certificatesOf}
 use Rattle.storage.specs.Words.{wordAt}
 use Rattle.storage.specs.Layout.{part}
 use Rattle.storage.specs.Tables.{CertificateRow, certificateRow, certificatesPart}
@@ -18,7 +19,6 @@ use Rattle.storage.specs.Decode.{certificateIn}
 use Rattle.storage.proofs.PartLaws.{part-length, part-at}
 use Rattle.storage.proofs.DecodeLaws.{CertificateNamed}
 use Rattle.storage.proofs.Meanings.{Stands, certificates-stored}
-use Rattle.completeness.specs.Judgement.{certificatesOf}
 use Rattle.storage.proofs.WellFormed.{formed}
 
 -- the term of every certificate is one of 32 bits

@@ -1,4 +1,4 @@
--- Judging: what a slice that was read is, and the turns of the functions that judge.
+-- Judging: a certificate as it is read, and the turns of the functions that judge.
 -- Assumes nothing.
 use Prim.Native.Nat.{ℕ, _+_, _-_, _<_, _≤_}
 use native.Mathlib.Omega.{arith}
@@ -11,6 +11,7 @@ use borrow.Author.Tests.{eq-eqb, ne-eqb}
 use Rattle.model.specs.Sizes.{Bytes}
 use Rattle.model.proofs.Tests.{cond-true, cond-false}
 use Rattle.storage.specs.Lists.{tabulate}
+use Rattle.storage.specs.Values.{certificatesOf}
 use Rattle.storage.specs.Words.{wordAt}
 use Rattle.storage.specs.Tables.{CertificateRow, certificateRow, certificatesPart}
 use Rattle.storage.proofs.ListLaws.{tabulate-cons, tabulate-none}
@@ -21,7 +22,7 @@ use Rattle.logical_log.proofs.Turns.{held-append, bytes-append, held-few}
 use Rattle.completeness.specs.Relevance.{relevantIn}
 use Rattle.commit.specs.Prefix.{keptOf, agreeIn}
 use Rattle.commit.specs.declared.prefix.Kept.{Kept}
-use Rattle.completeness.specs.Judgement.{lacksKept, lacksThrough, lackingOf, lackingAt, lackingIn, flagIn, NotedAs, JudgedAs, lackingsIn, flagsIn, certificatesOf, JudgedAll}
+use Rattle.completeness.specs.Judgement.{lacksKept, lacksThrough, lackingOf, lackingAt, lackingIn, flagIn, NotedAs, JudgedAs, lackingsIn, flagsIn, JudgedAll}
 
 -- a certificate as it is read, and its log, which is stored
 pub row-here : (h p : Bytes) (k : ℕ) (c : CertificateRow) → p ≡ certificatesPart h → c ≡ certificateRow p k → c ≡ certificateRow (certificatesPart h) k

@@ -23,14 +23,13 @@ use Rattle.storage.specs.Words.{wordAt}
 use Rattle.storage.specs.Tables.{CertificateRow, certificateRow, certificatesPart, findingRow, findingRows, findingsPart}
 use Rattle.storage.specs.Rules.{findingRight}
 use Rattle.storage.proofs.ListLaws.{tabulate-length}
-use Rattle.storage.proofs.PartLaws.{part-length}
 use Rattle.storage.proofs.Meanings.{Stands, withElections, withNoted, certificates-stored, findings-stored, findings-taken, findings-right, noted-right, end-is}
 use Rattle.storage.proofs.Answered.{Means, accepts, refuses}
 use Rattle.logical_log.specs.Violation.{findingsKept}
-use Rattle.logical_log.proofs.ViolationLaws.{Holds, all-hold, all-length}
+use Rattle.logical_log.proofs.ViolationLaws.{Holds, all-hold, all-length, findings-long}
 use Rattle.completeness.specs.declared.leader_completeness.Checked.{Checked}
-use Rattle.storage.specs.Values.{committedEnd}
-use Rattle.completeness.specs.Judgement.{lackingsIn, flagsIn, certificatesOf}
+use Rattle.storage.specs.Values.{certificatesOf, committedEnd}
+use Rattle.completeness.specs.Judgement.{lackingsIn, flagsIn}
 use Rattle.completeness.specs.Marks.{marksMoved}
 use Rattle.completeness.specs.Check.{checkReply, valueOf, checkHeld, checkTable, checkWritten, checkAnswer, checkBytes, CheckedAs}
 use Rattle.storage.proofs.WellFormed.{formed, end-small}
@@ -52,15 +51,12 @@ module _ (h : Bytes) (x : History) (s : Stands h x) (f : TermsFit x) where
       ap (noted (x .findings))
       (lackings-mean h x s (certificatesOf h) (λ c m. rows c m .named .log) ∙ ap (lackings (x .committed) (x .terms)) (certificates-stored h x s))
 
-  table-long : length (findingsPart h) ≡ 1024
-  table-long = part-length h 2121 1024 (let l = formed h (s .right) .long in omega arith)
-
   -- the copy of the findings holds the model's, or there are too many
   holds : Holds (checkTable h) (checkHeld h) (checkFindings x)
   unfolding checkTable checkHeld
   holds =
       subst (Holds (checkTable h) (checkHeld h)) found
-      (all-hold (lackingsIn h (certificatesOf h)) (findingsPart h) (wordAt h 7 1) (x .findings) table-long
+      (all-hold (lackingsIn h (certificatesOf h)) (findingsPart h) (wordAt h 7 1) (x .findings) (findings-long h (s .right))
       (λ g m. fitting g (notes-fit g m)) (inl (formed h (s .right) .findings, findings-stored h x s)))
 
   flag : valueOf (flagsIn h false (certificatesOf h)) ≡ checkValue x
@@ -99,7 +95,7 @@ module _ (h : Bytes) (x : History) (s : Stands h x) (f : TermsFit x) where
 
     table-kept : length (checkTable h) ≡ 1024
     unfolding checkTable
-    table-kept = all-length (lackingsIn h (certificatesOf h)) (findingsPart h) (wordAt h 7 1) ∙ table-long
+    table-kept = all-length (lackingsIn h (certificatesOf h)) (findingsPart h) (wordAt h 7 1) ∙ findings-long h (s .right)
 
     written : Stands (checkBytes h) (checkEffect x)
     unfolding checkBytes checkWritten findingsKept checkEffect

@@ -9,7 +9,8 @@ use lib.ListN.{length}
 use Rattle.model.specs.Sizes.{Bytes}
 use Rattle.model.specs.History.{Finding}
 use Rattle.storage.specs.Words.{wordAt}
-use Rattle.storage.specs.Tables.{CertificateRow, certificateRows, certificatesPart}
+use Rattle.storage.specs.Tables.{CertificateRow}
+use Rattle.storage.specs.Values.{certificatesOf}
 use Rattle.storage.specs.Rules.{wellFormed}
 use Rattle.commit.specs.Prefix.{keptOf, agreeIn}
 use Rattle.commit.specs.declared.prefix.Kept.{Kept}
@@ -73,10 +74,6 @@ unfoldable pub flagsIn : Bytes → Bool → List CertificateRow → Bool
 unfolding flagIn
 flagsIn h b [] = b
 flagsIn h b (c ∷ cs) = flagsIn h (flagIn h c b) cs
-
--- the certificates of a history
-abbrev pub certificatesOf : Bytes → List CertificateRow
-certificatesOf h = certificateRows (certificatesPart h) (wordAt h 6 1)
 
 pub record Judging (h t : Bytes) (held : ℕ) : Type 0 where
   pub right : wellFormed h ≡ true

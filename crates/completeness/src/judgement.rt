@@ -1,5 +1,5 @@
 // A certificate judged: flag 4 where it has a relevant index, LG-05 where its log is absent, shorter or different through
-// it. Nothing of the history is written; findings are noted in a table of their own.
+// it. Nothing of the history is written; findings are noted in a copy of its table.
 ghost use mathlib.Core.Path.{_≡_};
 ghost use Prim.Native.Nat.{_≤_};
 ghost use mathlib.Core.Bool.{true};

@@ -19,6 +19,7 @@ use Rattle.model.specs.Election as model
 use Rattle.model.specs.Election.{held, taken, inOrder, electionRefusal, certificate, electionEffect}
 use Rattle.model.proofs.Tests.{tf, cond-true, cond-false}
 use Rattle.storage.specs.Words.{wordAt}
+use Rattle.storage.specs.Values.{certificatesOf}
 use Rattle.storage.specs.Tables.{CertificateRow, PrefixRow, certificateRow, certificatesPart, prefixRow, prefixRows, prefixesPart}
 use Rattle.storage.specs.Decode.{prefixAt, resolve, logIn, certificateIn}
 use Rattle.storage.specs.Order.{placeOf, heldOf}
@@ -33,7 +34,7 @@ use Rattle.logical_log.proofs.TableLaws.{rows-length, rows-at}
 use Rattle.logical_log.proofs.SliceLaws.{slice-cases}
 use Rattle.election.specs.declared.certificate.ElectionAnswer.{ElectionAnswer}
 use Rattle.election.specs.Order.{takenOf}
-use Rattle.election.specs.Certify.{roomOf, isAccepted, logOf, certificatesIn, heldIn, frontIn, sliceIn, judgedOf, kept, keptIn, answerIn, bytesIn}
+use Rattle.election.specs.Certify.{roomOf, isAccepted, logOf, heldIn, frontIn, sliceIn, judgedOf, kept, keptIn, answerIn, bytesIn}
 use Rattle.election.proofs.Turns.{room-left}
 
 -- the model's refusal, or none
@@ -79,7 +80,7 @@ module _ (h : Bytes) (x : History) (s : Stands h x) where
   rows = prefixRows (prefixesPart h) (wordAt h 0 2)
 
   abbrev cs : List CertificateRow
-  cs = certificatesIn h
+  cs = certificatesOf h
 
   count-is : length cs ≡ length (x .certificates)
   count-is = sym (length-map cs (certificateIn (x .prefixes))) ∙ ap length (certificates-stored h x s)

@@ -12,6 +12,7 @@ use borrow.Author.Tests.{le-leb, lt-leb, leb-false, not-true, not-false}
 use Rattle.model.specs.Sizes.{Bytes}
 use Rattle.model.proofs.Tests.{tf, either, cond-true, cond-false}
 use Rattle.storage.specs.Words.{wordAt}
+use Rattle.storage.specs.Values.{certificatesOf}
 use Rattle.storage.specs.Tables.{CertificateRow, certificateRow, certificateRows, certificatesPart, prefixRow, prefixesPart}
 use Rattle.storage.specs.Order.{heldOf}
 use Rattle.storage.specs.Writes.{certificateAdded}
@@ -21,7 +22,7 @@ use Rattle.logical_log.specs.Prefix.{sliceOf}
 use Rattle.logical_log.specs.declared.prefix.Slice.{Slice}
 use Rattle.election.specs.declared.certificate.ElectionAnswer.{ElectionAnswer}
 use Rattle.election.specs.Order.{takenOf}
-use Rattle.election.specs.Certify.{roomOf, isAccepted, logOf, certificatesIn, heldIn, placeIn, frontIn, sliceIn, judgedOf, kept, keptIn, answerIn, bytesIn, Recorded}
+use Rattle.election.specs.Certify.{roomOf, isAccepted, logOf, heldIn, placeIn, frontIn, sliceIn, judgedOf, kept, keptIn, answerIn, bytesIn, Recorded}
 
 -- ---- room among the certificates of those rows
 
@@ -77,12 +78,12 @@ kept-is h l t p log number place x e n q =
 -- a certificate's place is among those held, or behind them
 pub place-fits : (h : Bytes) (t : ℕ) → placeIn h t ≤ wordAt h 6 1
 place-fits h t =
-    omega (arith, place-within t (certificatesIn h), tabulate-length (certificateRow (certificatesPart h)) 0 (wordAt h 6 1))
+    omega (arith, place-within t (certificatesOf h), tabulate-length (certificateRow (certificatesPart h)) 0 (wordAt h 6 1))
 
 -- an accepted election leaves room for its certificate
 pub accepted-room : (h : Bytes) (s : Slice) (t : ℕ) → isAccepted (judgedOf h s t) ≡ true → wordAt h 6 1 < 64
 accepted-room h (Slice.Prefix q) t e =
-    omega (arith, room-left t (certificatesIn h) e, tabulate-length (certificateRow (certificatesPart h)) 0 (wordAt h 6 1))
+    omega (arith, room-left t (certificatesOf h) e, tabulate-length (certificateRow (certificatesPart h)) 0 (wordAt h 6 1))
 accepted-room h Slice.Beyond t e = absurd (tf (sym e))
 
 -- ---- the whole, with what was read

@@ -7,8 +7,8 @@ use mathlib.Core.List.{List}
 use lib.Dec.{leb}
 use lib.ListN.{length}
 use Rattle.model.specs.Sizes.{Bytes, certificateLimit}
-use Rattle.storage.specs.Words.{wordAt}
-use Rattle.storage.specs.Tables.{CertificateRow, certificateRows, certificatesPart, nodeRow, nodesPart, prefixRow, prefixesPart}
+use Rattle.storage.specs.Values.{certificatesOf}
+use Rattle.storage.specs.Tables.{CertificateRow, nodeRow, nodesPart, prefixRow, prefixesPart}
 use Rattle.storage.specs.Order.{placeOf, heldOf}
 use Rattle.storage.specs.Writes.{certificateAdded}
 use Rattle.logical_log.specs.Prefix.{sliceOf}
@@ -48,15 +48,11 @@ logOf Slice.Beyond = 0
 
 -- ---- in the bytes of a history
 
--- the rows of the certificates held
-abbrev pub certificatesIn : Bytes → List CertificateRow
-certificatesIn h = certificateRows (certificatesPart h) (wordAt h 6 1)
-
 abbrev pub heldIn : Bytes → ℕ → ℕ
-heldIn h t = heldOf t (certificatesIn h)
+heldIn h t = heldOf t (certificatesOf h)
 
 abbrev pub placeIn : Bytes → ℕ → ℕ
-placeIn h t = placeOf t (certificatesIn h)
+placeIn h t = placeOf t (certificatesOf h)
 
 -- the number of a node's front
 abbrev pub frontIn : Bytes → ℕ → ℕ
@@ -67,7 +63,7 @@ abbrev pub sliceIn : Bytes → ℕ → ℕ → Slice
 sliceIn h l n = sliceOf (prefixRow (prefixesPart h)) (frontIn h l) n
 
 abbrev pub judgedOf : Bytes → Slice → ℕ → ElectionAnswer
-judgedOf h s t = earlierOf (withinFront s) (roomOf t (certificatesIn h))
+judgedOf h s t = earlierOf (withinFront s) (roomOf t (certificatesOf h))
 
 -- a new certificate's row: its mark is zero
 abbrev pub kept : ℕ → ℕ → ℕ → Bool → ℕ → CertificateRow
