@@ -30,7 +30,7 @@ struct gamiwhoru_finding_reply {
     size_t name; /* 3, 4 or 5 for LG-03, LG-04, LG-05 */
     uint8_t node;
     size_t index;
-    uint32_t term; /* 0 for LG-04 */
+    uint32_t term; /* 0 for LG-04, as it is noted */
 };
 
 struct gamiwhoru_leader_reply {

@@ -1,8 +1,8 @@
 //! Document 01 once more, as plainly as it can be said: lists and loops, with
 //! a reader of its own and nothing of the oracle or of `record`.
 //!
-//! It stands where the library `history` will stand, so what it is compared
-//! with is the Rust. It can also make one mistake on purpose: `harness
+//! It stands beside the library `history`, or in its place where that is not
+//! made; what it is compared with is the Rust. It can also make one mistake on purpose: `harness
 //! mistakes` shows that the chains notice each of them.
 
 use crate::subject::{Answer, Finding, Lists, Subject};

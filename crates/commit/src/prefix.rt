@@ -111,7 +111,7 @@ fn is_longer(history: &[u8], a: usize, b: usize) -> bool
     index_of(prefixes, a) < index_of(prefixes, b)
 }
 
-// Two prefixes are the same through the index, which both reach.
+// Both prefixes reach the index, and are the same through it.
 pub fn agree_through(history: &[u8], a: usize, b: usize, through: LogIndex) -> bool
     requires { ⌜ (wellFormed (now history) ≡ true) × (a ≤ wordAt (now history) 0 2) × (b ≤ wordAt (now history) 0 2) ⌝ }
     ensures { λ r. ⌜ r ≡ agreeIn (now (history .entry)) a b (through .0) ⌝ }

@@ -2,7 +2,7 @@
 // late can make an index relevant that a check has passed, so the marks past it are lowered.
 ghost use mathlib.Core.Path.{_≡_};
 ghost use mathlib.Core.Bool.{true};
-ghost use Prim.Native.Nat.{_+_, _≤_, _<_};
+ghost use Prim.Native.Nat.{_≤_, _<_};
 ghost use lib.ListN.{length};
 ghost use Rattle.storage.specs.Rules.{wellFormed};
 ghost use Rattle.commit.specs.Terms.{lengthenedTo, termIn, isReplaced, replaceBytes, firstOf, ReplacedAs, termsAnswer, termsBytes};

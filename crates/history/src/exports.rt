@@ -62,7 +62,7 @@ pub struct FindingReply {
     pub name: usize,
     pub node: u8,
     pub index: usize,
-    // 0 for LG-04.
+    // 0 for LG-04, as it is noted.
     pub term: u32,
 }
 

@@ -1,4 +1,4 @@
--- The turns of the two walks along a front, judged and written: each from what was read.
+-- The turns of the judging walk along a front, each from what was read, and what an entry as it is read is to the front.
 -- Assumes nothing.
 use Prim.Native.Nat.{ℕ, _+_, _-_, _<_, _≤_}
 use native.Mathlib.Omega.{arith}

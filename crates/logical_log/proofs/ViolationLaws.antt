@@ -1,4 +1,5 @@
--- Findings are noted once: what the tests of the code say of a row, and what noting means of the list of findings.
+-- Findings are noted once: what the tests of the code say of a row, what noting means of the list of findings, and the history's
+-- findings copied and written back.
 -- Assumes nothing.
 use Prim.Native.Nat.{ℕ, zero, suc, _+_, _*_, _<_, _≤_}
 use native.Mathlib.Omega.{arith}

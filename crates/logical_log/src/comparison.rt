@@ -1,5 +1,5 @@
-// Comparison of stored prefixes (comparison.rs): by term and content at each index, never by number alone. Two numbers that
-// are equal are the same stored prefix, which is the Rust's shortcut.
+// Comparison of stored prefixes (the equality of types/prefix.rs): by term and content at each index, never by number alone. Two
+// numbers that are equal are the same stored prefix, which is the Rust's shortcut.
 ghost use mathlib.Core.Path.{_≡_};
 ghost use Prim.Native.Nat.{_≤_};
 ghost use Rattle.storage.specs.Tables.{prefixRow};

@@ -129,7 +129,7 @@ fn onward(missing: usize, old: Place, at: usize, left: usize, index: usize, numb
 
 // The walk along the front of a view of `entries` entries: how many of its prefixes are not stored and where they begin, and
 // its LG-03, noted among the findings, of which `held` are held.
-pub fn judge(
+fn judge(
     prefixes: &[u8],
     count: usize,
     view: &[u8],
@@ -176,7 +176,7 @@ pub fn judge(
 }
 
 // Each prefix of the front, from a place on, is stored once; the number of the front.
-pub fn store(history: &mut [u8], count: usize, view: &[u8], rest: Place) -> usize
+fn store(history: &mut [u8], count: usize, view: &[u8], rest: Place) -> usize
     requires { ⌜ Storing (now history) count (now view) rest ⌝ }
     ensures { λ r. ⌜ StoredAs (now (history .entry)) count (now (view .entry)) rest r (now (history .exit)) ⌝ }
 {

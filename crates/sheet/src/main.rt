@@ -2,7 +2,7 @@
 // the history. What it prints is put together by `sheet_text`, whose functions are proved to give it; the functions here, which
 // read and write, are proved to be safe and to end.
 ghost use mathlib.Core.Path.{_≡_};
-ghost use Prim.Native.Nat.{_+_, _≤_};
+ghost use Prim.Native.Nat.{_≤_};
 ghost use lib.ListN.{length};
 use libc::STDOUT_FILENO;
 use sheet_text::closing::put_lists;

@@ -1,6 +1,6 @@
 -- Laws of putting bytes into the output: one byte, one thing after another, more room.
 -- Assumes nothing.
-use Prim.Native.Nat.{ℕ, suc, _+_, _≤_}
+use Prim.Native.Nat.{ℕ, _+_, _≤_}
 use native.Mathlib.Omega.{arith}
 use mathlib.Core.Path.{_≡_, refl, ap, _∙_}
 use mathlib.Core.List.{[], _∷_, _++_, append-assoc}

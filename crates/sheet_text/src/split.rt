@@ -1,5 +1,5 @@
 // A recording split into its pieces: each behind its length in two bytes, high byte first.
-ghost use Prim.Native.Nat.{_+_, _≤_};
+ghost use Prim.Native.Nat.{_≤_};
 ghost use lib.ListN.{length};
 ghost use Rattle.sheet_text.specs.Pieces.{Split, Moved};
 use storage::words::get16;
