@@ -29,7 +29,7 @@ pub fn same_prefix(prefixes: &[u8], count: usize, a: usize, b: usize) -> bool
         }
         let i = p - 1;
         let j = q - 1;
-        if term_at(prefixes, i) != term_at(prefixes, j) {
+        if term_at(prefixes, i).0 != term_at(prefixes, j).0 {
             same = false;
             break 'entries;
         }

@@ -37,7 +37,7 @@ fn matches_extension(prefixes: &[u8], k: usize, p: usize, e: ShownEntry) -> bool
     if parent_at(prefixes, k) != p {
         return false;
     }
-    if term_at(prefixes, k) != e.term.0 {
+    if term_at(prefixes, k).0 != e.term.0 {
         return false;
     }
     let n = e.length;
@@ -71,7 +71,7 @@ fn is_of(prefixes: &[u8], k: usize, index: LogIndex, term: Term) -> bool
     if index_at(prefixes, k) != index.0 {
         return false;
     }
-    term_at(prefixes, k) == term.0
+    term_at(prefixes, k).0 == term.0
 }
 
 // The number of the first stored prefix of the index and term, or 0. A prefix's number is at least its index.

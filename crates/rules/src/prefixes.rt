@@ -25,7 +25,7 @@ fn same_row(prefixes: &[u8], j: usize, k: usize) -> bool
     if parent_at(prefixes, j) != parent_at(prefixes, k) {
         return false;
     }
-    if term_at(prefixes, j) != term_at(prefixes, k) {
+    if term_at(prefixes, j).0 != term_at(prefixes, k).0 {
         return false;
     }
     let n = size_at(prefixes, k);

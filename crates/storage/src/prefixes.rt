@@ -40,11 +40,11 @@ pub fn index_at(prefixes: &[u8], k: usize) -> usize
     get16(prefixes, k * PREFIX_WIDTH + 2)
 }
 
-pub fn term_at(prefixes: &[u8], k: usize) -> u32
+pub fn term_at(prefixes: &[u8], k: usize) -> Term
     requires { ⌜ (k < 512) × (length (now prefixes) ≡ 20992) ⌝ }
-    ensures { λ r. ⌜ r ≡ wordAt (now (prefixes .entry)) (k * 41 + 4) 4 ⌝ }
+    ensures { λ r. ⌜ r .0 ≡ wordAt (now (prefixes .entry)) (k * 41 + 4) 4 ⌝ }
 {
-    get32(prefixes, k * PREFIX_WIDTH + 4)
+    Term(get32(prefixes, k * PREFIX_WIDTH + 4))
 }
 
 pub fn size_at(prefixes: &[u8], k: usize) -> usize

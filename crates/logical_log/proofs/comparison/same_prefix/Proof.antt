@@ -70,7 +70,7 @@ add-y c = search needs
 loop-holds : tie.Need-loop-holds Inv-loop μ-loop Inv-entries μ-entries
 loop-holds c =
     let e3 = c .before .before .before in
-    let e2 = e3 .before .before .before in
+    let e2 = e3 .before .before .before .before .before in
     let l = e2 .before .before .before in
     let s = l .before .before in
     let short : c .before .before .size-at .result ≤ 32 =
@@ -80,7 +80,7 @@ loop-holds c =
       search needs,
       content-within (s .args .prefixes .now) (s .pre .0 .long) (s .pre .0 .fits) (place-before (l .entries .inv .1) (e2 .before .if1 .left)) short,
       content-within (s .args .prefixes .now) (s .pre .0 .long) (s .pre .0 .fits) (place-before (l .entries .inv .2) (e2 .if2 .left)) short,
-      entry-content (s .args .prefixes .now) _ _ _ _ _ _ (e3 .before .before .term-at .ensures) (e3 .before .term-at2 .ensures) (e3 .if3 .left)
+      entry-content (s .args .prefixes .now) _ _ _ _ _ _ (e3 .before .before .before .before .term-at .ensures) (e3 .before .before .before .term-at2 .ensures) (e3 .if3 .left)
           (c .before .before .size-at .ensures .is) (c .before .size-at2 .ensures .is) (c .if4 .left) short,
     )
 
@@ -105,7 +105,7 @@ loop-less c = falls _ _ (c .before .before .before .loop-test .taken)
 loop-again : tie.Need-loop-again Inv-loop μ-loop Inv-entries μ-entries
 loop-again c =
     let i = c .before .before .before .before in
-    let s = i .before .before .before .before .before .before .before .before .before .before .before .before .args in (
+    let s = i .before .before .before .before .before .before .before .before .before .before .before .before .before .before .args in (
       i .loop .inv .0,
       search needs,
       i .loop .inv .2,
@@ -121,7 +121,7 @@ parent-at-requires-2 c κs = search needs
 
 entries-less : tie.Need-entries-less Inv-loop μ-loop Inv-entries μ-entries
 entries-less c =
-    let e2 = c .before .before .before .before .before .before .before .before .before .before in
+    let e2 = c .before .before .before .before .before .before .before .before .before .before .before .before in
     let l = e2 .before .before .before in
     let s = l .before .before in
     let pa = table-parent (s .args .prefixes .now) (s .args .count) (l .entries .p - 1) (s .pre .0) (place-before (l .entries .inv .1) (e2 .before .if1 .left)) in
@@ -132,7 +132,7 @@ entries-again c =
     let i = c .before .before .before in
     let e4 = i .before in
     let e3 = e4 .before .before .before in
-    let e2 = e3 .before .before .before in
+    let e2 = e3 .before .before .before .before .before in
     let l = e2 .before .before .before in
     let s = l .before .before in
     let t = s .args .prefixes .now in
@@ -169,22 +169,22 @@ returns-3 c =
 
 returns-4 : tie.Need-returns-4 Inv-loop μ-loop Inv-entries μ-entries
 returns-4 c =
-    let e2 = c .before .before .before in
+    let e2 = c .before .before .before .before .before in
     let l = e2 .before .before .before in
     let s = l .before .before .args in
     sym
     (compare-differs (prefixRow (s .prefixes .now)) _ _ (l .entries .inv .3) (e2 .before .before .entries-test .taken) (e2 .before .if1 .left) (e2 .if2 .left)
-    (entry-term (s .prefixes .now) _ _ _ _ 0 0 (c .before .before .term-at .ensures) (c .before .term-at2 .ensures) (c .if3 .taken)))
+    (entry-term (s .prefixes .now) _ _ _ _ 0 0 (c .before .before .before .before .term-at .ensures) (c .before .before .before .term-at2 .ensures) (c .if3 .taken)))
 
 returns-5 : tie.Need-returns-5 Inv-loop μ-loop Inv-entries μ-entries
 returns-5 c =
     let e3 = c .before .before .before in
-    let e2 = e3 .before .before .before in
+    let e2 = e3 .before .before .before .before .before in
     let l = e2 .before .before .before in
     let s = l .before .before .args in
     sym
     (compare-differs (prefixRow (s .prefixes .now)) _ _ (l .entries .inv .3) (e2 .before .before .entries-test .taken) (e2 .before .if1 .left) (e2 .if2 .left)
-    (entry-size (s .prefixes .now) _ _ _ _ _ _ (e3 .before .before .term-at .ensures) (e3 .before .term-at2 .ensures) (e3 .if3 .left)
+    (entry-size (s .prefixes .now) _ _ _ _ _ _ (e3 .before .before .before .before .term-at .ensures) (e3 .before .before .before .term-at2 .ensures) (e3 .if3 .left)
     (c .before .before .size-at .ensures .is) (c .before .size-at2 .ensures .is) (c .if4 .taken)))
 
 returns-6 : tie.Need-returns-6 Inv-loop μ-loop Inv-entries μ-entries
@@ -192,7 +192,7 @@ returns-6 c =
     let i = c .before .before .before .before in
     let e4 = i .before in
     let e3 = e4 .before .before .before in
-    let e2 = e3 .before .before .before in
+    let e2 = e3 .before .before .before .before .before in
     let l = e2 .before .before .before in
     let s = l .before .before .args in
     sym

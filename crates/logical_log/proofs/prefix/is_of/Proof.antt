@@ -16,7 +16,8 @@ term-at-requires c κs = search needs
 
 returns-2 : tie.Need-returns-2
 returns-2 c =
-    rw (← c .before .before .before .before .index-at .ensures .is, eq-eqb _ _ (c .before .before .if1 .left), ← c .before .term-at .ensures)
+    let b = c .before .before .before in
+    rw (← b .before .before .index-at .ensures .is, eq-eqb _ _ (b .if1 .left), ← c .before .before .term-at .ensures)
 
 pub is-of-spec : {M : Type 1} → statement M
 is-of-spec = tie.close (tie.spec index-at-requires returns term-at-requires returns-2)

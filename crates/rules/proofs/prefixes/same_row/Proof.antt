@@ -28,13 +28,13 @@ term-at-requires-2 c κs = search needs
 returns-2 : tie.Need-returns-2
 unfolding sameRow
 returns-2 c =
-    let b = c .before .before .before in
+    let b = c .before .before .before .before .before in
     rw (
       ← b .before .before .parent-at .ensures .is,
       ← b .before .parent-at2 .ensures .is,
       eq-eqb _ _ (b .if1 .left),
-      ← c .before .before .term-at .ensures,
-      ← c .before .term-at2 .ensures,
+      ← c .before .before .before .before .term-at .ensures,
+      ← c .before .before .before .term-at2 .ensures,
       ne-eqb _ _ (c .if2 .taken),
     )
 
@@ -48,13 +48,13 @@ returns-3 : tie.Need-returns-3
 unfolding sameRow
 returns-3 c =
     let b2 = c .before .before .before in
-    let b1 = b2 .before .before .before in
+    let b1 = b2 .before .before .before .before .before in
     rw (
       ← b1 .before .before .parent-at .ensures .is,
       ← b1 .before .parent-at2 .ensures .is,
       eq-eqb _ _ (b1 .if1 .left),
-      ← b2 .before .before .term-at .ensures,
-      ← b2 .before .term-at2 .ensures,
+      ← b2 .before .before .before .before .term-at .ensures,
+      ← b2 .before .before .before .term-at2 .ensures,
       eq-eqb _ _ (b2 .if2 .left),
       ← c .before .size-at2 .ensures .is,
       ← c .before .before .size-at .ensures .is,
@@ -80,7 +80,7 @@ returns-4 : tie.Need-returns-4
 returns-4 c =
     let b3 = c .before in
     let b2 = b3 .before .before .before in
-    let b1 = b2 .before .before .before in
+    let b1 = b2 .before .before .before .before .before in
     let s = b1 .before .before .before .before in
     let n = b3 .before .before .size-at in
     c .same-bytes .ensures
@@ -89,8 +89,8 @@ returns-4 c =
     (b1 .before .before .parent-at .ensures .is)
     (b1 .before .parent-at2 .ensures .is)
     (b1 .if1 .left)
-    (b2 .before .before .term-at .ensures)
-    (b2 .before .term-at2 .ensures)
+    (b2 .before .before .before .before .term-at .ensures)
+    (b2 .before .before .before .term-at2 .ensures)
     (b2 .if2 .left)
     (b3 .before .size-at2 .ensures .is)
     (n .ensures .is)
