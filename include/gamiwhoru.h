@@ -1,8 +1,8 @@
 /* The functions of target/staticlib/libhistory.a (`rt staticlib history`).
  *
  * The functions are proved; these declarations are checked by nobody. They
- * follow crates/history/src/exports.rt and numbers.rt, where each function's
- * whole promise stands. Nothing is asked of the bytes: any history and any
+ * follow crates/history/src/exports.rt and crates/answers/src/numbers.rt, where
+ * each function's whole promise stands. Nothing is asked of the bytes: any history and any
  * record may be handed in. Each pointer must be that of `length` live bytes,
  * and a history must not overlap the record handed to it. */
 #ifndef GAMIWHORU_H

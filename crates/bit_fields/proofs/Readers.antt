@@ -1,19 +1,16 @@
 -- Laws of the model's readers, in the form that the code's exits want: what a reader gives from what was read and tested.
 -- Assumes nothing.
 use Prim.Native.Nat.{ℕ, _+_, _-_, _*_, _/_, _%_, _≤_, _<_}
-use mathlib.Core.Path.{_≡_, refl, sym, _∙_}
-use mathlib.Core.Bool.{Bool, true, false, cond}
+use mathlib.Core.Path.{_≡_, sym, _∙_}
+use mathlib.Core.Bool.{true, false}
 use native.Mathlib.Omega.{arith}
 use native.Mathlib.Decide.{decLe}
 use borrow.Author.Tests.{le-leb, lt-leb, lt-ltb, le-ltb}
 use lib.ListN.{length}
 use lib.Dec.{leb, eqb}
 use Rattle.model.specs.Sizes.{Bytes}
-use Rattle.model.specs.Refusal.{bitsMissing, outOfLimit}
-use Rattle.model.specs.Reading.{fieldAt, bytesAt, content, Part, got, fault, field, limited, filled}
-use Rattle.bit_fields.specs.declared.bits.Number.{Number}
-use Rattle.bit_fields.specs.declared.bits.Fault.{Fault}
-use Rattle.bit_fields.specs.Answers.{numberPart, atMost}
+use Rattle.model.specs.Refusal.{bitsMissing}
+use Rattle.model.specs.Reading.{fieldAt, bytesAt, content, got, fault, field, filled}
 
 -- ---- a field
 
@@ -25,25 +22,6 @@ module _ (s : Bytes) (k w : ℕ) where
   pub field-missing : 8 * length s < k + w → field w s k ≡ fault bitsMissing
   unfolding field
   field-missing h = rw (lt-leb (k + w) (8 * length s) h)
-
--- ---- a field with its limit
-
-at-most : (b : Bool) (v k : ℕ)
-    → cond {A = Part ℕ} b (got v k) (fault outOfLimit)
-    ≡ numberPart (cond b (Number.Is v) (Number.Not Fault.OutOfLimit)) k
-at-most true v k = refl
-at-most false v k = refl
-
-module _ (s : Bytes) (k w m : ℕ) where
-  limited-most : (n : Number) → field w s k ≡ numberPart n (k + w) → limited w m s k ≡ numberPart (atMost m n) (k + w)
-  unfolding limited
-  limited-most (Number.Is v) e = rw e (at-most (leb v m) v (k + w))
-  limited-most (Number.Not f) e = rw e
-
-  -- what was read, and then held to its limit
-  pub limited-within : (n : Number) {r : Number} → field w s k ≡ numberPart n (k + w) → r ≡ atMost m n
-      → limited w m s k ≡ numberPart r (k + w)
-  limited-within n e q = rw q (limited-most n e)
 
 -- ---- content
 

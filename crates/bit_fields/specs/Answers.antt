@@ -1,13 +1,10 @@
 -- What the code's answers say in the model's words: a value with the bit after it, or a refusal.
 -- Assumes nothing.
 use Prim.Native.Nat.{ℕ}
-use mathlib.Core.Bool.{Bool, cond}
-use lib.Dec.{leb}
 use Rattle.model.specs.Refusal.{Refusal, unknownKind, bitsMissing, filling, outOfLimit, notAbove}
 use Rattle.model.specs.Reading.{Part, got, fault}
 use Rattle.bit_fields.specs.declared.bits.Fault.{Fault}
 use Rattle.bit_fields.specs.declared.bits.Number.{Number}
-use Rattle.bit_fields.specs.declared.fields.Flag.{Flag}
 
 -- a fault is a refusal of reading
 abbrev pub refusalOf : Fault → Refusal
@@ -21,13 +18,3 @@ refusalOf Fault.NotAbove = notAbove
 abbrev pub numberPart : Number → ℕ → Part ℕ
 numberPart (Number.Is v) k = got v k
 numberPart (Number.Not f) k = fault (refusalOf f)
-
--- the number where it is at most m: else 4
-abbrev pub atMost : ℕ → Number → Number
-atMost m (Number.Is v) = cond (leb v m) (Number.Is v) (Number.Not Fault.OutOfLimit)
-atMost m (Number.Not f) = Number.Not f
-
--- the yes/no, with the bit after it, or the refusal
-abbrev pub flagPart : Flag → ℕ → Part Bool
-flagPart (Flag.Says b) k = got b k
-flagPart (Flag.Not f) k = fault (refusalOf f)

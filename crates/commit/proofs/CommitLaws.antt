@@ -16,15 +16,15 @@ use Rattle.model.specs.Refusal.{findingsFull}
 use Rattle.model.specs.History.{Finding, History, frontOf, noted}
 use Rattle.model.specs.Commit.{seen, unseenMark, replaces, differences, commitFindings, commitRefusal, agreement, commitValue, commitEffect}
 use Rattle.model.proofs.Tests.{either, cond-true, cond-false, yes-same}
-use Rattle.storage.specs.Words.{wordAt}
+use Rattle.storage_bytes.specs.Words.{wordAt}
 use Rattle.storage.specs.Tables.{findingRow}
-use Rattle.storage.proofs.ListLaws.{tabulate-length}
+use Rattle.storage_bytes.proofs.ListLaws.{tabulate-length}
 use Rattle.storage.proofs.RuleLaws.{pass, stop}
 use Rattle.storage.proofs.DecodeLaws.{FindingNamed}
 use Rattle.storage.proofs.Meanings.{Stands, withNoted, findings-right, noted-right}
-use Rattle.logical_log.specs.declared.prefix.Slice.{Slice}
-use Rattle.logical_log.specs.Violation.{findingsKept}
-use Rattle.logical_log.specs.Prefix.{sliceOf}
+use Rattle.log_prefix.specs.declared.prefix.Slice.{Slice}
+use Rattle.log_violation.specs.Violation.{findingsKept}
+use Rattle.log_prefix.specs.Prefix.{sliceOf}
 use Rattle.commit.specs.Prefix.{keptOf, rowsOf, nodeOf, seenOf, longerIn, endIn, agreeIn, flagsOf, unseenSet, keepBytes, difference, heldWith, tableWith, noteAnswer, noteLeaves, commitAnswer, commitBytes, Inserted, Observed}
 use Rattle.commit.specs.declared.prefix.Kept.{Kept}
 use Rattle.commit.specs.declared.prefix.CommitAnswer.{CommitAnswer}

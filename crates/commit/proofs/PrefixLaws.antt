@@ -14,22 +14,22 @@ use Rattle.model.specs.Sizes.{Bytes}
 use Rattle.model.specs.Entry.{Prefix, same, agree, withAll}
 use Rattle.model.specs.History.{Finding, History, frontOf, noted}
 use Rattle.model.proofs.Tests.{cond-cases}
-use Rattle.storage.specs.Words.{wordAt}
+use Rattle.storage_bytes.specs.Words.{wordAt}
 use Rattle.storage.specs.Values.{indexOf}
-use Rattle.storage.specs.Lists.{every}
+use Rattle.storage_bytes.specs.Lists.{every}
 use Rattle.storage.specs.Tables.{PrefixRow, NodeRow, findingRows, prefixRows, findingsPart, prefixesPart}
 use Rattle.storage.specs.Decode.{prefixAt, resolve}
 use Rattle.storage.specs.Rules.{findingRight}
 use Rattle.storage.proofs.RowFacts.{Facts}
 use Rattle.storage.proofs.Meanings.{Stands, withNoted, prefixes-read, findings-read, owner-read, front-read, last-read, node-written, committed-written, prefixes-stored, findings-stored, committed-stored, findings-taken}
-use Rattle.logical_log.specs.Violation.{findingsKept}
-use Rattle.logical_log.specs.Prefix.{sliceOf}
-use Rattle.logical_log.specs.Comparison.{sameFrom}
-use Rattle.logical_log.specs.declared.prefix.Slice.{Slice}
-use Rattle.logical_log.proofs.TableLaws.{rows-length, rows-at}
-use Rattle.logical_log.proofs.SliceLaws.{index-length, slice-cases}
-use Rattle.logical_log.proofs.ComparisonLaws.{same-prefix}
-use Rattle.logical_log.proofs.ViolationLaws.{Holds, note-holds, note-length, findings-long}
+use Rattle.log_violation.specs.Violation.{findingsKept}
+use Rattle.log_prefix.specs.Prefix.{sliceOf}
+use Rattle.log_comparison.specs.Comparison.{sameFrom}
+use Rattle.log_prefix.specs.declared.prefix.Slice.{Slice}
+use Rattle.log_prefix.proofs.TableLaws.{rows-length, rows-at}
+use Rattle.log_prefix.proofs.SliceLaws.{index-length, slice-cases}
+use Rattle.log_comparison.proofs.ComparisonLaws.{same-prefix}
+use Rattle.log_violation.proofs.ViolationLaws.{Holds, note-holds, note-length, findings-long}
 use Rattle.commit.specs.Prefix.{rowsOf, nodeOf, longerIn, endIn, sameSlices, agreeIn, unseenSet, keepBytes, difference, heldWith, tableWith}
 use Rattle.storage.proofs.WellFormed.{Formed, formed, formed-rows}
 

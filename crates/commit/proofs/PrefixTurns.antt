@@ -9,18 +9,18 @@ use lib.ListN.{length}
 use borrow.Author.Tests.{eq-eqb, ne-eqb, lt-ltb, le-ltb}
 use Rattle.model.specs.Sizes.{Bytes}
 use Rattle.model.proofs.Tests.{cond-cases, cond-true, cond-false}
-use Rattle.storage.specs.Words.{wordAt, wordBytes, putBytes}
+use Rattle.storage_bytes.specs.Words.{wordAt, wordBytes, putBytes}
 use Rattle.storage.specs.Tables.{NodeRow, nodeRow, prefixRow, nodesPart, findingsPart, prefixesPart}
 use Rattle.storage.specs.Values.{numberIndex}
 use Rattle.storage.specs.Rules.{wellFormed}
 use Rattle.storage.specs.Writes.{nodeBytes, committedSet}
-use Rattle.storage.proofs.WordLaws.{put-length}
-use Rattle.logical_log.specs.Prefix.{sliceOf}
-use Rattle.logical_log.specs.Comparison.{sameFrom}
-use Rattle.logical_log.specs.Violation.{noteHeld, noteBytes, findingsKept}
-use Rattle.logical_log.specs.declared.prefix.Slice.{Slice}
-use Rattle.logical_log.proofs.TableLaws.{whole-table, slice-within}
-use Rattle.logical_log.proofs.ViolationLaws.{note-length, findings-long, kept-length}
+use Rattle.storage_bytes.proofs.WordLaws.{put-length}
+use Rattle.log_prefix.specs.Prefix.{sliceOf}
+use Rattle.log_comparison.specs.Comparison.{sameFrom}
+use Rattle.log_violation.specs.Violation.{noteHeld, noteBytes, findingsKept}
+use Rattle.log_prefix.specs.declared.prefix.Slice.{Slice}
+use Rattle.log_prefix.proofs.TableLaws.{whole-table, slice-within}
+use Rattle.log_violation.proofs.ViolationLaws.{note-length, findings-long, kept-length}
 use Rattle.commit.specs.Prefix.{rowsOf, keptOf, nodeOf, seenOf, longerIn, endIn, sameSlices, agreeIn, flagsOf, unseenSet, keepBytes, difference, heldWith, tableWith, noteAnswer, noteLeaves, insertAnswer, insertLeaves, keptAnswer, keptLeaves, seenAnswer, seenLeaves, commitAnswer, commitBytes, Noted, Inserted, Observed}
 use Rattle.commit.specs.declared.prefix.Kept.{Kept}
 use Rattle.commit.specs.declared.prefix.CommitAnswer.{CommitAnswer}

@@ -8,14 +8,14 @@ use Rattle.model.specs.Sizes.{Bytes}
 use Rattle.model.specs.Refusal.{findingsFull}
 use Rattle.model.specs.Answer.{Answer, accepted, refused}
 use Rattle.model.specs.History.{Finding}
-use Rattle.storage.specs.Words.{wordAt, putBytes}
+use Rattle.storage_bytes.specs.Words.{wordAt, putBytes}
 use Rattle.storage.specs.Values.{indexOf}
 use Rattle.storage.specs.Tables.{PrefixRow, NodeRow, nodeRow, prefixRow, nodesPart, findingsPart, prefixesPart}
 use Rattle.storage.specs.Writes.{nodeBytes, committedSet}
-use Rattle.logical_log.specs.Prefix.{sliceOf}
-use Rattle.logical_log.specs.Comparison.{sameFrom}
-use Rattle.logical_log.specs.Violation.{noteHeld, noteBytes, findingsKept}
-use Rattle.logical_log.specs.declared.prefix.Slice.{Slice}
+use Rattle.log_prefix.specs.Prefix.{sliceOf}
+use Rattle.log_comparison.specs.Comparison.{sameFrom}
+use Rattle.log_violation.specs.Violation.{noteHeld, noteBytes, findingsKept}
+use Rattle.log_prefix.specs.declared.prefix.Slice.{Slice}
 use Rattle.commit.specs.declared.prefix.Kept.{Kept}
 use Rattle.commit.specs.declared.prefix.CommitAnswer.{CommitAnswer}
 

@@ -1,5 +1,2 @@
-// What is committed, after commit/prefix.rs of the Rust: the committed prefix, the terms in which indexes were committed, and
-// the marks of the certificates that a late term lowers. Stands on storage and logical_log.
-pub mod marks;
+// Kind 2, after commit/prefix.rs of the Rust: the committed prefix. Stands on log_prefix, log_comparison and log_violation.
 pub mod prefix;
-pub mod terms;

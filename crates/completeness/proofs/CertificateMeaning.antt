@@ -17,7 +17,7 @@ use Rattle.model.specs.Entry.{Prefix, prefixes, same, begins}
 use Rattle.model.specs.History.{History}
 use Rattle.model.specs.Check.{lastBelow, relevant, lacks, lacking, lackings, someRelevant}
 use Rattle.model.proofs.Tests.{either, cond-false, no-begins}
-use Rattle.storage.specs.Words.{wordAt}
+use Rattle.storage_bytes.specs.Words.{wordAt}
 use Rattle.storage.specs.Tables.{CertificateRow, termRow, termsPart}
 use Rattle.storage.specs.Decode.{prefixAt, certificateIn}
 use Rattle.storage.proofs.Meanings.{Stands, committed-stored, terms-stored, end-is}
@@ -25,9 +25,9 @@ use Rattle.commit.specs.Prefix.{keptOf, agreeIn}
 use Rattle.commit.specs.declared.prefix.Kept.{Kept}
 use Rattle.commit.proofs.PrefixLaws.{agree-at, agree-beyond}
 use Rattle.storage.specs.Values.{committedEnd}
-use Rattle.completeness.specs.Relevance.{lastRelevant, recordedEnd, relevantIn}
+use Rattle.check_relevance.specs.Relevance.{lastRelevant, recordedEnd, relevantIn}
 use Rattle.completeness.specs.Judgement.{lacksKept, lacksThrough, lackingOf, lackingAt, lackingIn, flagIn, lackingsIn, flagsIn}
-use Rattle.completeness.proofs.RelevanceLaws.{last-below, at-most}
+use Rattle.check_relevance.proofs.RelevanceLaws.{last-below, at-most}
 use Rattle.storage.proofs.WellFormed.{formed}
 
 -- ---- tests

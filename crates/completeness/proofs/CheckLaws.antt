@@ -8,16 +8,16 @@ use lib.ListN.{length}
 use borrow.Author.Tests.{lt-ltb, le-ltb}
 use Rattle.model.specs.Sizes.{Bytes}
 use Rattle.model.proofs.Tests.{cond-true, cond-false}
-use Rattle.storage.specs.Words.{wordAt}
+use Rattle.storage_bytes.specs.Words.{wordAt}
 use Rattle.storage.specs.Tables.{findingsPart}
-use Rattle.logical_log.specs.Violation.{heldAll, bytesAll, findingsKept}
-use Rattle.logical_log.proofs.ViolationLaws.{kept-length}
+use Rattle.log_violation.specs.Violation.{heldAll, bytesAll, findingsKept}
+use Rattle.log_violation.proofs.ViolationLaws.{kept-length}
 use Rattle.completeness.specs.declared.leader_completeness.Checked.{Checked}
 use Rattle.storage.specs.Values.{certificatesOf, committedEnd}
 use Rattle.completeness.specs.Judgement.{lackingsIn, JudgedAll}
-use Rattle.completeness.specs.Marks.{marksMoved}
+use Rattle.check_marks.specs.Marks.{marksMoved}
 use Rattle.completeness.specs.Check.{valueOf, checkHeld, checkTable, checkWritten, checkAnswer, checkBytes, CheckedAs}
-use Rattle.completeness.proofs.MarkLaws.{marks-length}
+use Rattle.check_marks.proofs.MarkLaws.{marks-length}
 
 -- ---- written
 

@@ -10,12 +10,12 @@ use lib.Dec.{eqb}
 use Rattle.model.specs.Sizes.{Bytes}
 use Rattle.model.specs.History.{Finding, History}
 use Rattle.model.proofs.Tests.{cond-cases}
-use Rattle.storage.specs.Words.{wordAt}
+use Rattle.storage_bytes.specs.Words.{wordAt}
 use Rattle.storage.specs.Tables.{CertificateRow}
 use Rattle.storage.specs.Writes.{FindingFits}
 use Rattle.storage.proofs.DecodeLaws.{FindingNamed}
 use Rattle.storage.proofs.Meanings.{Stands}
-use Rattle.completeness.specs.Relevance.{relevantIn}
+use Rattle.check_relevance.specs.Relevance.{relevantIn}
 use Rattle.completeness.specs.Judgement.{lacksThrough, lackingOf, lackingAt, lackingIn, lackingsIn}
 use Rattle.completeness.proofs.Fits.{Stored}
 use Rattle.completeness.proofs.CertificateMeaning.{relevant-within}

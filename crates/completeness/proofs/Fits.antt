@@ -10,13 +10,13 @@ use mathlib.Core.List.{List·Memᴰ, List·Memᴰ·cases-cons, List·Memᴰ·not
 use lib.ListN.{length, getD, List·getD-eq-default}
 use Rattle.model.specs.Sizes.{Bytes}
 use Rattle.model.specs.History.{Certificate, History}
-use Rattle.storage.specs.Lists.{tabulate}
+use Rattle.storage_bytes.specs.Lists.{tabulate}
 use Rattle.storage.specs.Values.{certificatesOf}
-use Rattle.storage.specs.Words.{wordAt}
-use Rattle.storage.specs.Layout.{part}
+use Rattle.storage_bytes.specs.Words.{wordAt}
+use Rattle.storage_bytes.specs.Layout.{part}
 use Rattle.storage.specs.Tables.{CertificateRow, certificateRow, certificatesPart}
 use Rattle.storage.specs.Decode.{certificateIn}
-use Rattle.storage.proofs.PartLaws.{part-length, part-at}
+use Rattle.storage_bytes.proofs.PartLaws.{part-length, part-at}
 use Rattle.storage.proofs.DecodeLaws.{CertificateNamed}
 use Rattle.storage.proofs.Meanings.{Stands, certificates-stored}
 use Rattle.storage.proofs.WellFormed.{formed}

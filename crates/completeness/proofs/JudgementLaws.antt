@@ -10,16 +10,15 @@ use lib.ListN.{length}
 use borrow.Author.Tests.{eq-eqb, ne-eqb}
 use Rattle.model.specs.Sizes.{Bytes}
 use Rattle.model.proofs.Tests.{cond-true, cond-false}
-use Rattle.storage.specs.Lists.{tabulate}
+use Rattle.storage_bytes.specs.Lists.{tabulate}
 use Rattle.storage.specs.Values.{certificatesOf}
-use Rattle.storage.specs.Words.{wordAt}
+use Rattle.storage_bytes.specs.Words.{wordAt}
 use Rattle.storage.specs.Tables.{CertificateRow, certificateRow, certificatesPart}
-use Rattle.storage.proofs.ListLaws.{tabulate-cons, tabulate-none}
-use Rattle.logical_log.specs.Violation.{noteHeld, noteBytes, heldAll, bytesAll}
-use Rattle.logical_log.proofs.ViolationLaws.{all-length}
+use Rattle.storage_bytes.proofs.ListLaws.{tabulate-cons, tabulate-none}
+use Rattle.log_violation.specs.Violation.{noteHeld, noteBytes, heldAll, bytesAll}
+use Rattle.log_violation.proofs.ViolationLaws.{all-length, held-append, bytes-append, held-few}
 use Rattle.storage.proofs.WellFormed.{Formed}
-use Rattle.logical_log.proofs.Turns.{held-append, bytes-append, held-few}
-use Rattle.completeness.specs.Relevance.{relevantIn}
+use Rattle.check_relevance.specs.Relevance.{relevantIn}
 use Rattle.commit.specs.Prefix.{keptOf, agreeIn}
 use Rattle.commit.specs.declared.prefix.Kept.{Kept}
 use Rattle.completeness.specs.Judgement.{lacksKept, lacksThrough, lackingOf, lackingAt, lackingIn, flagIn, NotedAs, JudgedAs, lackingsIn, flagsIn, JudgedAll}

@@ -1,10 +1,7 @@
-pub mod RelevanceLaws
 pub mod JudgementLaws
-pub mod MarkLaws
 pub mod CheckLaws
 pub mod Fits
 pub mod CertificateMeaning
-pub mod MarkMeaning
 pub mod FindingMeaning
 pub mod Meaning
 pub mod StepMeaning

@@ -18,24 +18,24 @@ use Rattle.model.specs.History.{Finding, Certificate, History, noted}
 use Rattle.model.specs.Check.{moved, lackings, someRelevant, checkFindings, checkRefusal, checkValue, checkEffect}
 use Rattle.model.specs.Answer.{refusal}
 use Rattle.model.proofs.Tests.{cond-true, cond-false}
-use Rattle.storage.specs.Lists.{every}
-use Rattle.storage.specs.Words.{wordAt}
+use Rattle.storage_bytes.specs.Lists.{every}
+use Rattle.storage_bytes.specs.Words.{wordAt}
 use Rattle.storage.specs.Tables.{CertificateRow, certificateRow, certificatesPart, findingRow, findingRows, findingsPart}
 use Rattle.storage.specs.Rules.{findingRight}
-use Rattle.storage.proofs.ListLaws.{tabulate-length}
+use Rattle.storage_bytes.proofs.ListLaws.{tabulate-length}
 use Rattle.storage.proofs.Meanings.{Stands, withElections, withNoted, certificates-stored, findings-stored, findings-taken, findings-right, noted-right, end-is}
 use Rattle.storage.proofs.Answered.{Means, accepts, refuses}
-use Rattle.logical_log.specs.Violation.{findingsKept}
-use Rattle.logical_log.proofs.ViolationLaws.{Holds, all-hold, all-length, findings-long}
+use Rattle.log_violation.specs.Violation.{findingsKept}
+use Rattle.log_violation.proofs.ViolationLaws.{Holds, all-hold, all-length, findings-long}
 use Rattle.completeness.specs.declared.leader_completeness.Checked.{Checked}
 use Rattle.storage.specs.Values.{certificatesOf, committedEnd}
 use Rattle.completeness.specs.Judgement.{lackingsIn, flagsIn}
-use Rattle.completeness.specs.Marks.{marksMoved}
+use Rattle.check_marks.specs.Marks.{marksMoved}
 use Rattle.completeness.specs.Check.{checkReply, valueOf, checkHeld, checkTable, checkWritten, checkAnswer, checkBytes, CheckedAs}
 use Rattle.storage.proofs.WellFormed.{formed, end-small}
 use Rattle.completeness.proofs.Fits.{TermsFit, Stored, stored}
 use Rattle.completeness.proofs.CertificateMeaning.{lackings-mean, flags-mean}
-use Rattle.completeness.proofs.MarkMeaning.{raised, marks-mean}
+use Rattle.check_marks.proofs.MarkMeaning.{raised, marks-mean}
 use Rattle.completeness.proofs.FindingMeaning.{Fitting, fitting, lackings-fit}
 
 module _ (h : Bytes) (x : History) (s : Stands h x) (f : TermsFit x) where

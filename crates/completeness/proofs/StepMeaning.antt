@@ -10,19 +10,19 @@ use lib.ListN.{length, set}
 use Rattle.model.specs.Sizes.{Bytes}
 use Rattle.model.specs.History.{Finding, Certificate, History, noted}
 use Rattle.model.specs.Check.{relevant, lacking, moved}
-use Rattle.storage.specs.Words.{wordAt}
+use Rattle.storage_bytes.specs.Words.{wordAt}
 use Rattle.storage.specs.Tables.{CertificateRow, certificateRow, certificatesPart}
 use Rattle.storage.specs.Decode.{certificateIn}
 use Rattle.storage.proofs.Meanings.{Stands, withElections, end-is}
-use Rattle.logical_log.proofs.ViolationLaws.{Holds, all-hold}
+use Rattle.log_violation.proofs.ViolationLaws.{Holds, all-hold}
 use Rattle.storage.specs.Values.{committedEnd}
-use Rattle.completeness.specs.Relevance.{relevantIn}
+use Rattle.check_relevance.specs.Relevance.{relevantIn}
 use Rattle.completeness.specs.Judgement.{flagIn, lackingIn, JudgedAs}
-use Rattle.completeness.specs.Marks.{markMoved}
+use Rattle.check_marks.specs.Marks.{markMoved}
 use Rattle.storage.proofs.WellFormed.{end-small}
 use Rattle.completeness.proofs.Fits.{Stored}
 use Rattle.completeness.proofs.CertificateMeaning.{positive, relevant-means, lacking-means}
-use Rattle.completeness.proofs.MarkMeaning.{raised, mark-means}
+use Rattle.check_marks.proofs.MarkMeaning.{raised, mark-means}
 use Rattle.completeness.proofs.FindingMeaning.{fitting, lacking-fits}
 
 -- what judging a certificate c of the history x comes to, after a flag b and the findings fs

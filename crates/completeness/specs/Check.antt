@@ -8,12 +8,12 @@ use lib.ListN.{length}
 use Rattle.model.specs.Sizes.{Bytes}
 use Rattle.model.specs.Refusal.{findingsFull}
 use Rattle.model.specs.Answer.{Answer, accepted, refused}
-use Rattle.storage.specs.Words.{wordAt}
+use Rattle.storage_bytes.specs.Words.{wordAt}
 use Rattle.storage.specs.Tables.{findingsPart}
-use Rattle.logical_log.specs.Violation.{heldAll, bytesAll, findingsKept}
+use Rattle.log_violation.specs.Violation.{heldAll, bytesAll, findingsKept}
 use Rattle.storage.specs.Values.{certificatesOf, committedEnd}
 use Rattle.completeness.specs.Judgement.{lackingsIn, flagsIn}
-use Rattle.completeness.specs.Marks.{marksMoved}
+use Rattle.check_marks.specs.Marks.{marksMoved}
 use Rattle.completeness.specs.declared.leader_completeness.Checked.{Checked}
 use Rattle.completeness.specs.declared.leader_completeness.Checked.the-variants.{Accepted, FindingsFull}
 

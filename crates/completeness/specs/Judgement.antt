@@ -8,14 +8,14 @@ use lib.Dec.{eqb}
 use lib.ListN.{length}
 use Rattle.model.specs.Sizes.{Bytes}
 use Rattle.model.specs.History.{Finding}
-use Rattle.storage.specs.Words.{wordAt}
+use Rattle.storage_bytes.specs.Words.{wordAt}
 use Rattle.storage.specs.Tables.{CertificateRow}
 use Rattle.storage.specs.Values.{certificatesOf}
 use Rattle.storage.specs.Rules.{wellFormed}
 use Rattle.commit.specs.Prefix.{keptOf, agreeIn}
 use Rattle.commit.specs.declared.prefix.Kept.{Kept}
-use Rattle.logical_log.specs.Violation.{heldAll, bytesAll}
-use Rattle.completeness.specs.Relevance.{relevantIn}
+use Rattle.log_violation.specs.Violation.{heldAll, bytesAll}
+use Rattle.check_relevance.specs.Relevance.{relevantIn}
 
 -- ---- one certificate
 

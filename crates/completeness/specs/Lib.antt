@@ -1,4 +1,2 @@
-pub mod Relevance
 pub mod Judgement
-pub mod Marks
 pub mod Check

@@ -3,22 +3,22 @@
 ghost use mathlib.Core.Path.{_≡_};
 ghost use Prim.Native.Nat.{_≤_};
 ghost use mathlib.Core.Bool.{true};
-ghost use Rattle.storage.specs.Words.{wordAt};
+ghost use Rattle.storage_bytes.specs.Words.{wordAt};
 ghost use Rattle.storage.specs.Rules.{wellFormed};
-ghost use Rattle.storage.specs.Values.{certificateValue};
+ghost use Rattle.certificate_rows.specs.Values.{certificateValue};
 ghost use Rattle.completeness.specs.Judgement.{lacksThrough, Noting, NotedAs, Judging, JudgedAs, JudgedAll};
-use crate::relevance::relevant_index;
+use certificate_rows::certificates::Certificate;
+use certificate_rows::certificates::certificate_at;
+use check_relevance::relevance::relevant_index;
 use commit::prefix::Kept;
 use commit::prefix::agree_through;
 use commit::prefix::committed_prefix;
-use logical_log::violation::note;
-use storage::certificates::Certificate;
-use storage::certificates::certificate_at;
-use storage::findings::Found;
+use log_violation::violation::note;
 use storage::head::certificate_count;
-use storage::layout::CERTIFICATES_LENGTH;
-use storage::layout::CERTIFICATES_START;
-use storage::layout::part;
+use storage_bytes::layout::CERTIFICATES_LENGTH;
+use storage_bytes::layout::CERTIFICATES_START;
+use storage_bytes::layout::part;
+use table_rows::findings::Found;
 use units::LogIndex;
 
 // How far the judging has come: whether an index was relevant, and how many findings are held.

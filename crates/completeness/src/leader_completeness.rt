@@ -4,10 +4,10 @@ ghost use mathlib.Core.Bool.{true};
 ghost use Rattle.storage.specs.Rules.{wellFormed};
 ghost use Rattle.completeness.specs.Check.{valueOf, Writing, checkWritten, CheckedAs};
 use crate::judgement::judge_all;
-use crate::marks::move_marks;
-use logical_log::violation::copy_findings;
-use logical_log::violation::keep_findings;
-use storage::prefixes::committed_end;
+use check_marks::marks::move_marks;
+use log_violation::violation::copy_findings;
+use log_violation::violation::keep_findings;
+use prefix_rows::prefixes::committed_end;
 use units::FINDING_LIMIT;
 use units::LogIndex;
 

@@ -18,22 +18,22 @@ use Rattle.model.specs.History.{Certificate, History, frontOf}
 use Rattle.model.specs.Election as model
 use Rattle.model.specs.Election.{held, taken, inOrder, electionRefusal, certificate, electionEffect}
 use Rattle.model.proofs.Tests.{tf, cond-true, cond-false}
-use Rattle.storage.specs.Words.{wordAt}
+use Rattle.storage_bytes.specs.Words.{wordAt}
 use Rattle.storage.specs.Values.{certificatesOf}
 use Rattle.storage.specs.Tables.{CertificateRow, PrefixRow, certificateRow, certificatesPart, prefixRow, prefixRows, prefixesPart}
 use Rattle.storage.specs.Decode.{prefixAt, resolve, logIn, certificateIn}
 use Rattle.storage.specs.Order.{placeOf, heldOf}
 use Rattle.storage.specs.Writes.{CertificateFits, certificateAdded}
-use Rattle.storage.proofs.ListLaws.{tabulate-length}
+use Rattle.storage_bytes.proofs.ListLaws.{tabulate-length}
 use Rattle.storage.proofs.DecodeLaws.{CertificateNamed}
 use Rattle.storage.proofs.WellFormed.{certificates-are, formed, formed-rows}
 use Rattle.storage.proofs.Meanings.{Stands, withElections, front-read, prefixes-stored, certificates-stored}
 use Rattle.storage.proofs.OrderLaws.{held-is, election-written}
-use Rattle.logical_log.specs.declared.prefix.Slice.{Slice}
-use Rattle.logical_log.proofs.TableLaws.{rows-length, rows-at}
-use Rattle.logical_log.proofs.SliceLaws.{slice-cases}
+use Rattle.log_prefix.specs.declared.prefix.Slice.{Slice}
+use Rattle.log_prefix.proofs.TableLaws.{rows-length, rows-at}
+use Rattle.log_prefix.proofs.SliceLaws.{slice-cases}
 use Rattle.election.specs.declared.certificate.ElectionAnswer.{ElectionAnswer}
-use Rattle.election.specs.Order.{takenOf}
+use Rattle.certificate_order.specs.Order.{takenOf}
 use Rattle.election.specs.Certify.{roomOf, isAccepted, logOf, heldIn, frontIn, sliceIn, judgedOf, kept, keptIn, answerIn, bytesIn}
 use Rattle.election.proofs.Turns.{room-left}
 

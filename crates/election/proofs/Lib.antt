@@ -1,4 +1,3 @@
-pub mod Loops
 pub mod Turns
 pub mod Effects
 pub mod Meaning

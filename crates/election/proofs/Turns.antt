@@ -11,17 +11,17 @@ use lib.ListN.{length}
 use borrow.Author.Tests.{le-leb, lt-leb, leb-false, not-true, not-false}
 use Rattle.model.specs.Sizes.{Bytes}
 use Rattle.model.proofs.Tests.{tf, either, cond-true, cond-false}
-use Rattle.storage.specs.Words.{wordAt}
+use Rattle.storage_bytes.specs.Words.{wordAt}
 use Rattle.storage.specs.Values.{certificatesOf}
 use Rattle.storage.specs.Tables.{CertificateRow, certificateRow, certificateRows, certificatesPart, prefixRow, prefixesPart}
 use Rattle.storage.specs.Order.{heldOf}
 use Rattle.storage.specs.Writes.{certificateAdded}
-use Rattle.storage.proofs.ListLaws.{tabulate-length}
+use Rattle.storage_bytes.proofs.ListLaws.{tabulate-length}
 use Rattle.storage.proofs.OrderLaws.{place-within}
-use Rattle.logical_log.specs.Prefix.{sliceOf}
-use Rattle.logical_log.specs.declared.prefix.Slice.{Slice}
+use Rattle.log_prefix.specs.Prefix.{sliceOf}
+use Rattle.log_prefix.specs.declared.prefix.Slice.{Slice}
 use Rattle.election.specs.declared.certificate.ElectionAnswer.{ElectionAnswer}
-use Rattle.election.specs.Order.{takenOf}
+use Rattle.certificate_order.specs.Order.{takenOf}
 use Rattle.election.specs.Certify.{roomOf, isAccepted, logOf, heldIn, placeIn, frontIn, sliceIn, judgedOf, kept, keptIn, answerIn, bytesIn, Recorded}
 
 -- ---- room among the certificates of those rows

@@ -11,10 +11,10 @@ use Rattle.storage.specs.Values.{certificatesOf}
 use Rattle.storage.specs.Tables.{CertificateRow, nodeRow, nodesPart, prefixRow, prefixesPart}
 use Rattle.storage.specs.Order.{placeOf, heldOf}
 use Rattle.storage.specs.Writes.{certificateAdded}
-use Rattle.logical_log.specs.Prefix.{sliceOf}
-use Rattle.logical_log.specs.declared.prefix.Slice.{Slice}
+use Rattle.log_prefix.specs.Prefix.{sliceOf}
+use Rattle.log_prefix.specs.declared.prefix.Slice.{Slice}
 use Rattle.election.specs.declared.certificate.ElectionAnswer.{ElectionAnswer}
-use Rattle.election.specs.Order.{takenOf}
+use Rattle.certificate_order.specs.Order.{takenOf}
 
 -- 9 beyond the front
 abbrev pub withinFront : Slice → ElectionAnswer

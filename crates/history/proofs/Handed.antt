@@ -11,13 +11,13 @@ use Rattle.model.proofs.Tests.{either}
 use Rattle.storage.specs.Rules.{wellFormed}
 use Rattle.storage.specs.Decode.{decode}
 use Rattle.completeness.proofs.Fits.{Octets, octets-fit}
-use Rattle.history.specs.declared.answer.Answer.{Answer}
-use Rattle.history.specs.declared.numbers.Reply.{Reply}
-use Rattle.history.specs.Numbers.{refusalIn, replyOf, modelReply}
-use Rattle.history.specs.Replies.{Submitted}
+use Rattle.answers.specs.declared.answer.Answer.{Answer}
+use Rattle.answers.specs.declared.numbers.Reply.{Reply}
+use Rattle.answers.specs.Numbers.{refusalIn, replyOf, modelReply}
+use Rattle.record_kinds.specs.Replies.{Submitted}
 use Rattle.history.specs.Exports.{Handed}
-use Rattle.history.proofs.Meaning.{modelled, Means, submit-means, submit-broken}
-use Rattle.history.proofs.Printed.{stand}
+use Rattle.submission.proofs.Meaning.{modelled, Means, submit-means, submit-broken}
+use Rattle.storage.proofs.Meanings.{stand}
 
 -- ---- the numbers of an answer are those of the model's
 

@@ -13,18 +13,18 @@ use Rattle.storage.specs.Rules.{wellFormed}
 use Rattle.storage.specs.Decode.{decode}
 use Rattle.storage.specs.Fresh.{FreshMade, madeNumber}
 use Rattle.storage.specs.declared.fresh.Made.{Made}
-use Rattle.storage.proofs.Meanings.{end-is, Stands}
-use Rattle.lists.specs.Picked.{nth}
+use Rattle.storage.proofs.Meanings.{stand, end-is}
+use Rattle.index_lists.specs.Picked.{nth}
 use Rattle.storage.specs.Values.{committedEnd}
-use Rattle.lists.specs.Committed.{ownerIn}
+use Rattle.index_lists.specs.Committed.{ownerIn}
 use Rattle.lists.specs.declared.findings.FindingAnswer.{FindingAnswer}
 use Rattle.lists.specs.Findings.{findingOf, findingAnswer}
 use Rattle.lists.specs.declared.leaders.LeaderAnswer.{LeaderAnswer}
 use Rattle.lists.specs.Leaders.{leaderAs, leaderAnswer}
-use Rattle.lists.specs.declared.unseen.UnseenAnswer.{UnseenAnswer}
-use Rattle.lists.specs.Unseen.{markOf, unseenAnswer}
-use Rattle.lists.specs.declared.unknown.UnknownAnswer.{UnknownAnswer}
-use Rattle.lists.specs.Unknown.{indexOf, unknownAnswer}
+use Rattle.index_lists.specs.declared.unseen.UnseenAnswer.{UnseenAnswer}
+use Rattle.index_lists.specs.Unseen.{markOf, unseenAnswer}
+use Rattle.index_lists.specs.declared.unknown.UnknownAnswer.{UnknownAnswer}
+use Rattle.index_lists.specs.Unknown.{indexOf, unknownAnswer}
 use Rattle.lists.proofs.Meaning.{owner-told, findings-told, leaders-told, unseen-told, unknown-told}
 use Rattle.history.specs.declared.exports.FindingReply.{FindingReply}
 use Rattle.history.specs.declared.exports.LeaderReply.{LeaderReply}
@@ -32,10 +32,6 @@ use Rattle.history.specs.declared.exports.UnseenReply.{UnseenReply}
 use Rattle.history.specs.declared.exports.UnknownReply.{UnknownReply}
 use Rattle.history.specs.declared.exports.CommittedReply.{CommittedReply}
 use Rattle.history.specs.Exports.{MadeFresh, noFinding, foundAs, findingOut, noLeader, leaderIs, leaderOut, noMark, markIs, unseenOut, noIndex, indexIs, unknownOut, committedOut}
-
--- bytes that keep the rules stand for what they decode to
-pub stand : (h : Bytes) → wellFormed h ≡ true → Stands h (decode h)
-stand h w = record { right = w; decodes = refl }
 
 -- the n-th answer, taken for another
 nth-as : {A B C : Type 0} (f : A → B) (d : B) (g : B → C) (xs : List A) (n : ℕ) → g (nth f d xs n) ≡ nth (λ x. g (f x)) (g d) xs n

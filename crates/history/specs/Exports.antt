@@ -12,19 +12,19 @@ use Rattle.model.specs.Lists.{Unseen, findingList, leaderList, unseenList, unkn
 use Rattle.storage.specs.Rules.{rightLength, wellFormed}
 use Rattle.storage.specs.Decode.{decode}
 use Rattle.storage.specs.Fresh.{freshHistory}
-use Rattle.lists.specs.Picked.{nth}
+use Rattle.index_lists.specs.Picked.{nth}
 use Rattle.lists.specs.declared.findings.FindingAnswer.{FindingAnswer}
 use Rattle.lists.specs.declared.leaders.LeaderAnswer.{LeaderAnswer}
-use Rattle.lists.specs.declared.unseen.UnseenAnswer.{UnseenAnswer}
-use Rattle.lists.specs.declared.unknown.UnknownAnswer.{UnknownAnswer}
-use Rattle.history.specs.declared.numbers.Reply.{Reply}
+use Rattle.index_lists.specs.declared.unseen.UnseenAnswer.{UnseenAnswer}
+use Rattle.index_lists.specs.declared.unknown.UnknownAnswer.{UnknownAnswer}
+use Rattle.answers.specs.declared.numbers.Reply.{Reply}
 use Rattle.history.specs.declared.exports.FindingReply.{FindingReply}
 use Rattle.history.specs.declared.exports.LeaderReply.{LeaderReply}
 use Rattle.history.specs.declared.exports.UnseenReply.{UnseenReply}
 use Rattle.history.specs.declared.exports.UnknownReply.{UnknownReply}
 use Rattle.history.specs.declared.exports.CommittedReply.{CommittedReply}
-use Rattle.history.specs.Numbers.{refusalIn, replyOf, modelReply}
-use Rattle.history.specs.Replies.{submitAnswer, submitBytes}
+use Rattle.answers.specs.Numbers.{refusalIn, replyOf, modelReply}
+use Rattle.record_kinds.specs.Replies.{submitAnswer, submitBytes}
 
 -- ---- a fresh history
 

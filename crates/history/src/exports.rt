@@ -1,25 +1,25 @@
 // The library for callers in other languages: byte slices and numbers, and nothing is asked of the caller. A reader's `state`
 // is 0 where there is an element, 1 where there are not so many, 12 where the history breaks its storage rules.
 ghost use mathlib.Core.Path.{_≡_};
-ghost use Rattle.storage.specs.Layout.{historyLength};
+ghost use Rattle.storage_bytes.specs.Layout.{historyLength};
 ghost use Rattle.history.specs.Exports.{Handed, MadeFresh, foundAs, leaderIs, markIs, indexIs, findingOut, leaderOut, unseenOut, unknownOut, committedOut};
-use crate::numbers::Reply;
-use crate::numbers::reply_of;
-use crate::submit::submit;
-use lists::committed::committed_length;
-use lists::committed::committed_owner;
+use answers::numbers::Reply;
+use answers::numbers::reply_of;
+use index_lists::committed::committed_length;
+use index_lists::committed::committed_owner;
+use index_lists::unknown::UnknownAnswer;
+use index_lists::unknown::unknown_at;
+use index_lists::unseen::UnseenAnswer;
+use index_lists::unseen::unseen_at;
 use lists::findings::FindingAnswer;
 use lists::findings::finding_at;
 use lists::leaders::LeaderAnswer;
 use lists::leaders::leader_at;
-use lists::unknown::UnknownAnswer;
-use lists::unknown::unknown_at;
-use lists::unseen::UnseenAnswer;
-use lists::unseen::unseen_at;
 use rules::whole::well_formed;
 use storage::fresh::Made;
 use storage::fresh::fresh;
-use storage::layout::HISTORY_LENGTH;
+use storage_bytes::layout::HISTORY_LENGTH;
+use submission::submit::submit;
 
 const HERE: u8 = 0;
 

@@ -10,7 +10,7 @@ use Rattle.model.specs.Answer.{accepted, answer, after}
 use Rattle.model.specs.Rows.{verdict}
 use Rattle.records.specs.declared.head.Head.{Head}
 use Rattle.records.specs.Heads.{Told, readingOf}
-use Rattle.records.specs.Places.{RowWalk, rowsAt, firstRow}
+use Rattle.record_scan.specs.Places.{RowWalk, rowsAt, firstRow}
 use Rattle.records.proofs.Readable.{rows-walk}
 use Rattle.invariants.specs.declared.commit_safety.Verdict.{Verdict}
 use Rattle.invariants.specs.Rules.{verdictOf}

@@ -12,10 +12,10 @@ use Rattle.model.specs.Record as model
 use Rattle.model.specs.Rows as rows
 use Rattle.model.specs.Rows.{failing, verdict, or, rule1, rule2, rule3, rule4}
 use Rattle.units.specs.declared.NodeId.{NodeId}
-use Rattle.records.specs.Places.{rowAt, afterRow, rowsAt}
-use Rattle.records.specs.Values.{rowValue}
-use Rattle.records.specs.declared.walk.Row.{Row}
-use Rattle.records.proofs.Walks.{rows-next, rows-none}
+use Rattle.record_scan.specs.Places.{rowAt, afterRow, rowsAt}
+use Rattle.record_walk.specs.Values.{rowValue}
+use Rattle.record_walk.specs.declared.walk.Row.{Row}
+use Rattle.record_walk.proofs.Walks.{rows-next, rows-none}
 use Rattle.invariants.specs.declared.commit_safety.Verdict.{Verdict}
 use Rattle.invariants.specs.declared.commit_safety.Failing.{Failing}
 use Rattle.invariants.specs.Rules.{rowOf, ruleOf, found, orLater, firstOf, verdictOf}

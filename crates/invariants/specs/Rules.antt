@@ -7,8 +7,8 @@ use mathlib.Core.Option.{Option, none, some}
 use lib.Dec.{eqb}
 use Rattle.model.specs.Record as model
 use Rattle.model.specs.Rows as rows
-use Rattle.records.specs.declared.walk.Row.{Row}
-use Rattle.records.specs.declared.walk.Configuration.{Configuration}
+use Rattle.record_walk.specs.declared.walk.Row.{Row}
+use Rattle.record_walk.specs.declared.walk.Configuration.{Configuration}
 use Rattle.invariants.specs.declared.commit_safety.Failing.{Failing}
 use Rattle.invariants.specs.declared.commit_safety.Verdict.{Verdict}
 

@@ -2,11 +2,11 @@
 // pass of its own over all the rows, since an earlier rule counts before an earlier row.
 ghost use mathlib.Core.Path.{_≡_};
 ghost use Rattle.model.specs.Rows as model;
-ghost use Rattle.records.specs.Places as places;
+ghost use Rattle.record_scan.specs.Places as places;
 ghost use Rattle.invariants.specs.Rules.{rowOf, ruleOf, found, firstOf, verdictOf};
-use records::walk::FIRST_ROW;
-use records::walk::Row;
-use records::walk::row_at;
+use record_walk::walk::FIRST_ROW;
+use record_walk::walk::Row;
+use record_walk::walk::row_at;
 use units::NodeId;
 
 // What the rows show.

@@ -13,10 +13,10 @@ use Rattle.model.specs.Sizes.{Bytes}
 use Rattle.model.specs.History.{Finding}
 use Rattle.model.specs.Leaders.{Leader}
 use Rattle.model.proofs.Tests.{cond-true, cond-false}
-use Rattle.storage.specs.Words.{wordAt}
-use Rattle.storage.specs.Lists.{tabulate}
+use Rattle.storage_bytes.specs.Words.{wordAt}
+use Rattle.storage_bytes.specs.Lists.{tabulate}
 use Rattle.storage.specs.Tables.{findingRows, findingsPart}
-use Rattle.storage.proofs.ListLaws.{tabulate-cons, tabulate-none}
+use Rattle.storage_bytes.proofs.ListLaws.{tabulate-cons, tabulate-none}
 use Rattle.lists.specs.declared.leaders.LeaderAnswer.{LeaderAnswer}
 use Rattle.lists.specs.Leaders.{pair, leaderAs, isBelow, lesser, lesserOf, betterOf, leastIn, nextOf, roundsOf, leaderIn, leaderAnswer}
 use Rattle.lists.proofs.OrderLaws.{key-differs, key-same}

@@ -1,4 +1,3 @@
-pub mod PickLaws
 pub mod Whole
 pub mod OrderLaws
 pub mod Ordered

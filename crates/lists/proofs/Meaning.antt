@@ -9,23 +9,23 @@ use lib.Dec.{eqb}
 use Rattle.model.specs.Sizes.{Bytes}
 use Rattle.model.specs.History.{Finding, History}
 use Rattle.model.specs.Lists.{ordered, findingList, leadersOf, leaderList, marksFrom, unseenList, unknownFrom, unknownList, committedOwner}
-use Rattle.storage.specs.Words.{wordAt}
+use Rattle.storage_bytes.specs.Words.{wordAt}
 use Rattle.storage.specs.Tables.{nodesPart, termsPart, findingRows, findingsPart, tablesIn}
 use Rattle.storage.specs.Decode.{decode}
 use Rattle.storage.specs.Values.{committedEnd}
 use Rattle.storage.proofs.Meanings.{Stands, owner-read, end-is, findings-stored}
-use Rattle.lists.specs.declared.unseen.UnseenAnswer.{UnseenAnswer}
-use Rattle.lists.specs.declared.unknown.UnknownAnswer.{UnknownAnswer}
-use Rattle.lists.specs.Picked.{nth}
-use Rattle.lists.specs.Committed.{ownerIn}
+use Rattle.index_lists.specs.declared.unseen.UnseenAnswer.{UnseenAnswer}
+use Rattle.index_lists.specs.declared.unknown.UnknownAnswer.{UnknownAnswer}
+use Rattle.index_lists.specs.Picked.{nth}
+use Rattle.index_lists.specs.Committed.{ownerIn}
 use Rattle.lists.specs.declared.findings.FindingAnswer.{FindingAnswer}
 use Rattle.lists.specs.Findings.{findingOf, findingAnswer}
 use Rattle.lists.specs.declared.leaders.LeaderAnswer.{LeaderAnswer}
 use Rattle.lists.specs.Leaders.{leaderAs, leaderAnswer}
-use Rattle.lists.specs.Unseen.{markOf, markIn, unseenAnswer}
-use Rattle.lists.specs.Unknown.{isKnown, indexOf, indexIn, unknownAnswer}
+use Rattle.index_lists.specs.Unseen.{markOf, markIn, unseenAnswer}
+use Rattle.index_lists.specs.Unknown.{isKnown, indexOf, indexIn, unknownAnswer}
 use Rattle.lists.proofs.Ordered.{ordered-picked}
-use Rattle.storage.proofs.ListLaws.{tabulate-length}
+use Rattle.storage_bytes.proofs.ListLaws.{tabulate-length}
 use Rattle.model.specs.Leaders.{ascending}
 use Rattle.lists.proofs.Printed.{marks-picked, known-read, indexes-picked, leaders-all}
 

@@ -9,8 +9,8 @@ use lib.Dec.{ltb, eqb}
 use borrow.Author.Tests.{eq-eqb, ne-eqb, lt-ltb, le-ltb}
 use Rattle.model.specs.History.{Finding}
 use Rattle.model.proofs.Tests.{cond-true, cond-false}
-use Rattle.storage.specs.Lists.{tabulate}
-use Rattle.storage.proofs.ListLaws.{tabulate-cons, tabulate-none}
+use Rattle.storage_bytes.specs.Lists.{tabulate}
+use Rattle.storage_bytes.proofs.ListLaws.{tabulate-cons, tabulate-none}
 use Rattle.lists.specs.declared.findings.FindingAnswer.{FindingAnswer}
 use Rattle.lists.specs.Findings.{comesBefore, countFirst, findingOf, pickOrdered}
 

@@ -15,8 +15,8 @@ use borrow.Author.Tests.{eq-eqb, ne-eqb, lt-ltb, le-ltb, ltb-true, ltb-false, eq
 use Rattle.model.specs.History.{Finding}
 use Rattle.model.specs.Lists.{insert, ordered}
 use Rattle.model.proofs.Tests.{cond-true, cond-false, either, or-cases, and-left, and-right, or-false-left, and-both}
-use Rattle.storage.specs.Lists.{every}
-use Rattle.storage.proofs.ListLaws.{both, every-weaker, every-insert, map-insert}
+use Rattle.storage_bytes.specs.Lists.{every}
+use Rattle.storage_bytes.proofs.ListLaws.{both, every-weaker, every-insert, map-insert}
 use Rattle.lists.specs.declared.findings.FindingAnswer.{FindingAnswer}
 use Rattle.lists.specs.Findings.{comesBefore, countFirst, findingOf, pickOrdered}
 use Rattle.lists.proofs.OrderLaws.{key-differs, key-same}

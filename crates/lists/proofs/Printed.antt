@@ -13,18 +13,18 @@ use Rattle.model.specs.Sizes.{Bytes}
 use Rattle.model.specs.History.{Finding}
 use Rattle.model.specs.Lists.{leadersOf, marksFrom, unknownFrom}
 use Rattle.model.proofs.Tests.{cond-true, cond-false}
-use Rattle.storage.specs.Words.{wordAt}
-use Rattle.storage.specs.Lists.{tabulate}
+use Rattle.storage_bytes.specs.Words.{wordAt}
+use Rattle.storage_bytes.specs.Lists.{tabulate}
 use Rattle.storage.specs.Tables.{NodeRow, nodeRow, termRow, termsPart}
 use Rattle.storage.specs.Decode.{decode}
 use Rattle.storage.proofs.Meanings.{terms-read, term-read}
-use Rattle.lists.specs.declared.unseen.UnseenAnswer.{UnseenAnswer}
-use Rattle.lists.specs.declared.unknown.UnknownAnswer.{UnknownAnswer}
-use Rattle.lists.specs.Picked.{nth, pickFrom}
+use Rattle.index_lists.specs.declared.unseen.UnseenAnswer.{UnseenAnswer}
+use Rattle.index_lists.specs.declared.unknown.UnknownAnswer.{UnknownAnswer}
+use Rattle.index_lists.specs.Picked.{nth, pickFrom}
 use Rattle.lists.specs.declared.leaders.LeaderAnswer.{LeaderAnswer}
 use Rattle.lists.specs.Leaders.{leaderAs, leaderIn}
-use Rattle.lists.specs.Unseen.{markOf, unmarked, markAt}
-use Rattle.lists.specs.Unknown.{isKnown, indexOf}
+use Rattle.index_lists.specs.Unseen.{markOf, unmarked, markAt}
+use Rattle.index_lists.specs.Unknown.{isKnown, indexOf}
 use Rattle.lists.proofs.Ascents.{leaders-picked, leaders-few}
 use Rattle.model.specs.Leaders.{ascending}
 

@@ -7,7 +7,7 @@ use lib.Dec.{leb, eqb}
 use Rattle.model.specs.Sizes.{Bytes}
 use Rattle.model.specs.History.{Finding}
 use Rattle.model.specs.Leaders.{Leader, below}
-use Rattle.storage.specs.Words.{wordAt}
+use Rattle.storage_bytes.specs.Words.{wordAt}
 use Rattle.storage.specs.Tables.{findingRows, findingsPart}
 use Rattle.lists.specs.declared.leaders.LeaderAnswer.{LeaderAnswer}
 

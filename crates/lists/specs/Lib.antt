@@ -1,6 +1,2 @@
-pub mod Picked
-pub mod Committed
-pub mod Unseen
-pub mod Unknown
 pub mod Findings
 pub mod Leaders

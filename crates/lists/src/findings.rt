@@ -4,17 +4,17 @@ ghost use mathlib.Core.Path.{_≡_};
 ghost use mathlib.Core.Bool.{true};
 ghost use Prim.Native.Nat.{_-_, _≤_};
 ghost use lib.ListN.{length};
-ghost use Rattle.storage.specs.Lists.{tabulate};
+ghost use Rattle.storage_bytes.specs.Lists.{tabulate};
 ghost use Rattle.storage.specs.Rules.{wellFormed};
 ghost use Rattle.storage.specs.Tables.{findingRow, findingRows};
-ghost use Rattle.storage.specs.Values.{findingValue};
+ghost use Rattle.table_rows.specs.Values.{findingValue};
 ghost use Rattle.lists.specs.Findings.{comesBefore, countFirst, pickOrdered, findingAnswer};
-use storage::findings::Found;
-use storage::findings::finding_at as row_at;
 use storage::head::finding_count;
-use storage::layout::FINDINGS_LENGTH;
-use storage::layout::FINDINGS_START;
-use storage::layout::part;
+use storage_bytes::layout::FINDINGS_LENGTH;
+use storage_bytes::layout::FINDINGS_START;
+use storage_bytes::layout::part;
+use table_rows::findings::Found;
+use table_rows::findings::finding_at as row_at;
 
 pub enum FindingAnswer {
     // The finding asked for.

@@ -1,14 +1,3 @@
-pub mod PrefixLaws
-pub mod ComparisonLaws
-pub mod SliceLaws
-pub mod Extend
-pub mod Judge
-pub mod TableLaws
-pub mod Loops
-pub mod ViolationLaws
-pub mod Turns
-pub mod Written
-pub mod Rest
 pub mod Whole
 pub mod Stored
 pub mod Writing

@@ -20,25 +20,27 @@ use Rattle.model.specs.Record.{Shown, view, front, lastFrom, lastIndex}
 use Rattle.model.specs.History.{Finding, History, noted}
 use Rattle.model.specs.Answer.{Answer, accepted, refused}
 use Rattle.model.specs.View.{begunBy, mismatches, stored, viewFindings, viewRefusal, viewEffect}
-use Rattle.records.specs.Places.{Walk, firstEntry, indexAt, nextAt, shownAt, entriesAt}
-use Rattle.records.proofs.Walks.{entries-none, entries-next, next-walk, walk-entered}
-use Rattle.storage.specs.Lists.{every}
-use Rattle.storage.specs.Words.{wordAt}
+use Rattle.record_scan.specs.Places.{Walk, firstEntry, indexAt, nextAt, shownAt, entriesAt}
+use Rattle.record_walk.proofs.Walks.{entries-none, entries-next, next-walk, walk-entered}
+use Rattle.storage_bytes.specs.Lists.{every}
+use Rattle.storage_bytes.specs.Words.{wordAt}
 use Rattle.storage.specs.Tables.{PrefixRow, NodeRow, prefixRow, prefixesPart, nodeRow, nodesPart, findingRow, findingRows, findingsPart, tablesIn, tablesOf}
 use Rattle.storage.specs.Decode.{prefixAt}
 use Rattle.storage.specs.Rules.{nodeRight, findingRight}
-use Rattle.storage.proofs.ListLaws.{tabulate-length, tabulate-at, every-at}
+use Rattle.storage_bytes.proofs.ListLaws.{tabulate-length, tabulate-at, every-at}
 use Rattle.storage.proofs.DecodeLaws.{NodeNamed, node-named, FindingNamed}
 use Rattle.storage.proofs.RowFacts.{resolve-count}
 use Rattle.storage.proofs.WellFormed.{rows-count, formed}
 use Rattle.storage.proofs.Meanings.{Stands, withPrefixes, withFront, withNoted, prefixes-is, findings-stored, findings-right, noted-right, kept, unseen-read, node-written, findings-taken}
 use Rattle.storage.proofs.Answered.{Means, accepts, refuses}
-use Rattle.logical_log.specs.Observation.{nextNumber, counted, missingFrom, noteOf, notesFrom, other, writtenBytes, writtenCount, writtenNumber, viewReplaced, viewWritten, missingIn, notesIn, heldIn, tableIn, observed, observedBytes}
-use Rattle.logical_log.specs.Violation.{heldAll, bytesAll, findingsKept}
+use Rattle.logical_log.specs.Observation.{viewReplaced, viewWritten, observed, observedBytes}
+use Rattle.view_judging.specs.Judging.{nextNumber, counted, missingFrom, noteOf, notesFrom, other, missingIn, notesIn, heldIn, tableIn}
+use Rattle.log_prefix.specs.Extension.{writtenBytes, writtenCount, writtenNumber}
+use Rattle.log_violation.specs.Violation.{heldAll, bytesAll, findingsKept}
 use Rattle.logical_log.specs.declared.observation.Observed.{Observed}
-use Rattle.logical_log.proofs.Extend.{Fits, extendAll, extends-all}
-use Rattle.logical_log.proofs.Judge.{missing-made, notes-are}
-use Rattle.logical_log.proofs.ViolationLaws.{Holds, all-hold, findings-long}
+use Rattle.log_prefix.proofs.Extend.{Fits, extendAll, extends-all}
+use Rattle.view_judging.proofs.Judge.{missing-made, notes-are}
+use Rattle.log_violation.proofs.ViolationLaws.{Holds, all-hold, findings-long}
 use Rattle.logical_log.proofs.Whole.{written-count, table-length}
 use Rattle.logical_log.proofs.Stored.{Sound, front-sound, rows-good, rows-by-place, Whole, front-stands}
 

@@ -17,10 +17,10 @@ use Rattle.model.specs.Record.{frontFrom}
 use Rattle.model.specs.History.{History}
 use Rattle.model.specs.View.{begun}
 use Rattle.model.proofs.Tests.{either, cond-true, cond-false}
-use Rattle.records.specs.Places.{Walk, indexAt, lengthAt, nextAt, entriesAt}
+use Rattle.record_scan.specs.Places.{Walk, indexAt, lengthAt, nextAt, entriesAt}
 use Rattle.bit_fields.proofs.Widths.{field-lt, bytes-length}
-use Rattle.records.proofs.Walks.{next-walk, walk-entered}
-use Rattle.storage.specs.Words.{wordAt}
+use Rattle.record_walk.proofs.Walks.{next-walk, walk-entered}
+use Rattle.storage_bytes.specs.Words.{wordAt}
 use Rattle.storage.specs.Tables.{prefixRow, prefixesPart, headPart, tablesIn, tablesOf}
 use Rattle.storage.specs.Writes.{prefixAppended, PrefixFits, prefixOf}
 use Rattle.storage.specs.Rules.{prefixRight}
@@ -30,14 +30,14 @@ use Rattle.storage.proofs.RowFacts.{rowAt, resolve-snoc, resolve-count}
 use Rattle.storage.proofs.DecodeLaws.{row-facts}
 use Rattle.storage.proofs.WellFormed.{rows-count}
 use Rattle.storage.proofs.Meanings.{Stands, withPrefixes, prefix-written, prefixes-read, prefixes-is, kept}
-use Rattle.logical_log.specs.Prefix.{rowOf, find}
-use Rattle.logical_log.specs.Observation.{extensionIn, storedContent, extendedBytes, extendedCount, extendedNumber, writtenBytes, writtenCount, writtenNumber}
-use Rattle.logical_log.proofs.PrefixLaws.{Rows}
-use Rattle.logical_log.proofs.TableLaws.{rows-at}
-use Rattle.logical_log.proofs.Extend.{Good, Extended, extendRows, extendNumber, extends-rows, right-row}
-use Rattle.logical_log.proofs.Judge.{find-ext, find-index}
-use Rattle.logical_log.proofs.Turns.{front-more, front-stop, front-none}
-use Rattle.logical_log.proofs.Written.{number-found, number-made, count-found, count-made, bytes-found, bytes-made, count-grows, written-cons}
+use Rattle.log_prefix.specs.Prefix.{rowOf, find}
+use Rattle.log_prefix.specs.Extension.{extensionIn, storedContent, extendedBytes, extendedCount, extendedNumber, writtenBytes, writtenCount, writtenNumber}
+use Rattle.log_prefix.proofs.PrefixLaws.{Rows}
+use Rattle.log_prefix.proofs.TableLaws.{rows-at}
+use Rattle.log_prefix.proofs.Extend.{Good, Extended, extendRows, extendNumber, extends-rows, right-row}
+use Rattle.view_judging.proofs.Judge.{find-ext, find-index}
+use Rattle.view_judging.proofs.Turns.{front-more, front-stop, front-none}
+use Rattle.log_prefix.proofs.Written.{number-found, number-made, count-found, count-made, bytes-found, bytes-made, count-grows, written-cons}
 
 -- ---- entries within the limits
 

@@ -2,7 +2,7 @@
 -- Assumes nothing.
 use Prim.Native.Nat.{ℕ, zero, suc, _+_, _-_, _*_, _<_, _≤_}
 use native.Mathlib.Omega.{arith}
-use mathlib.Core.Path.{_≡_, refl, sym, _∙_, ap, subst, subst₂}
+use mathlib.Core.Path.{_≡_, refl, sym, _∙_, ap, subst}
 use mathlib.Core.Bool.{true, false}
 use mathlib.Core.List.{List, [], _∷_}
 use lib.Dec.{ltb, eqb}
@@ -12,36 +12,21 @@ use Rattle.model.specs.Sizes.{Bytes}
 use Rattle.model.specs.Entry.{Entry}
 use Rattle.model.specs.Record.{front}
 use Rattle.model.proofs.Tests.{cond-true, cond-false}
-use Rattle.records.specs.Places.{firstEntry, entriesAt}
-use Rattle.storage.specs.Words.{wordAt}
+use Rattle.record_scan.specs.Places.{firstEntry, entriesAt}
+use Rattle.storage_bytes.specs.Words.{wordAt}
 use Rattle.storage.specs.Tables.{prefixRow, prefixesPart, findingsPart}
 use Rattle.storage.specs.Rules.{wellFormed}
-use Rattle.storage.proofs.WordLaws.{put-length}
-use Rattle.logical_log.specs.Prefix.{searchFrom, find}
-use Rattle.logical_log.specs.Violation.{heldAll, bytesAll, findingsKept}
-use Rattle.logical_log.specs.Observation.{nextNumber, counted, missingFrom, notesFrom, JudgedAs, extensionIn, extendedBytes, extendedCount, extendedNumber, writtenBytes, writtenCount, frontAt, lastAt, Stand, Rest, Storing, StoredAs, viewReplaced, viewWritten, restWritten, missingIn, notesIn, heldIn, tableIn, observed, observedBytes, Observing, ViewJudged}
-use Rattle.logical_log.proofs.Judge.{lost}
-use Rattle.logical_log.proofs.Written.{number-found, number-made, count-found, count-made, bytes-found, bytes-length-one}
-use Rattle.logical_log.proofs.ViolationLaws.{all-length, findings-long, kept-length}
+use Rattle.storage_bytes.proofs.WordLaws.{put-length}
+use Rattle.log_prefix.specs.Prefix.{searchFrom, find}
+use Rattle.log_violation.specs.Violation.{findingsKept}
+use Rattle.logical_log.specs.Observation.{Storing, StoredAs, viewReplaced, viewWritten, restWritten, observed, observedBytes}
+use Rattle.view_judging.specs.Judging.{nextNumber, counted, missingFrom, frontAt, lastAt, Stand, Rest, missingIn, notesIn, heldIn, tableIn, Observing, ViewJudged}
+use Rattle.log_prefix.specs.Extension.{extensionIn, extendedBytes, extendedCount, extendedNumber, writtenBytes, writtenCount}
+use Rattle.view_judging.proofs.Judge.{lost}
+use Rattle.log_prefix.proofs.Written.{number-found, number-made, count-found, count-made, bytes-found, bytes-length-one}
+use Rattle.log_violation.proofs.ViolationLaws.{all-length, findings-long, kept-length}
 use Rattle.logical_log.specs.declared.observation.Observed.{Observed}
-use Rattle.logical_log.specs.declared.observation.Place.{Place}
-
--- ---- judging
-
-pub view-judged : (h s : Bytes) (m node : ℕ) (q t₁ : Bytes) (count held missing held′ : ℕ) (r : Place) (t′ : Bytes)
-    → count ≡ wordAt h 0 2 → held ≡ wordAt h 7 1 → q ≡ prefixesPart h → t₁ ≡ findingsPart h
-    → JudgedAs q count s m node t₁ held missing held′ r t′ → ViewJudged h s m node missing held′ r t′
-unfolding missingIn heldIn tableIn notesIn
-view-judged h s m node q t₁ count held missing held′ r t′ ec eh eq et j =
-    let F = front (entriesAt s firstEntry m) in
-    record {
-      lack = j .lack ∙ (λ i. missingFrom (prefixRow (eq i)) (ec i) 0 0 1 F);
-      most = j .most;
-      holds = j .holds ∙ (λ i. heldAll (et i) (eh i) (notesFrom (prefixRow (eq i)) (ec i) node 0 0 1 F));
-      few = j .few;
-      table = j .table ∙ (λ i. bytesAll (et i) (eh i) (notesFrom (prefixRow (eq i)) (ec i) node 0 0 1 F));
-      rest = subst₂ (λ (ps : Bytes) (n : ℕ). Rest ps n s m missing r) eq ec (j .rest);
-    }
+use Rattle.view_judging.specs.declared.judging.Place.{Place}
 
 -- ---- room: as many are made as are missing
 

@@ -11,21 +11,22 @@ use Rattle.model.specs.Sizes.{Bytes}
 use Rattle.model.specs.Entry.{Entry}
 use Rattle.model.specs.Record.{frontFrom}
 use Rattle.bit_fields.proofs.Widths.{field-lt, bytes-length}
-use Rattle.records.specs.declared.walk.ShownEntry.{ShownEntry}
-use Rattle.records.specs.Places.{Walk, lengthAt, contentAt, entriesAt}
-use Rattle.records.specs.Values.{Here, shownEntry}
-use Rattle.records.proofs.Walks.{next-walk, walk-entered, here}
-use Rattle.storage.specs.Words.{wordAt}
+use Rattle.record_walk.specs.declared.walk.ShownEntry.{ShownEntry}
+use Rattle.record_scan.specs.Places.{Walk, lengthAt, contentAt, entriesAt}
+use Rattle.record_walk.specs.Values.{Here, shownEntry}
+use Rattle.record_walk.proofs.Walks.{next-walk, walk-entered, here}
+use Rattle.storage_bytes.specs.Words.{wordAt}
 use Rattle.storage.specs.Decode.{prefixAt, decode}
 use Rattle.storage.specs.Rules.{wellFormed}
 use Rattle.storage.proofs.WellFormed.{formed}
 use Rattle.storage.proofs.Meanings.{Stands, number-length}
-use Rattle.logical_log.specs.Table.{entryValue}
-use Rattle.logical_log.specs.Observation.{storedContent, nextIndex, extended, extendedBytes, extendedCount, extendedNumber, Extending, writtenBytes, writtenCount, writtenNumber, Storing, StoredAs}
-use Rattle.logical_log.specs.declared.observation.Place.{Place}
-use Rattle.logical_log.specs.declared.prefix.Extended.{Extended}
-use Rattle.logical_log.proofs.Turns.{entry-read, front-shown, front-stop, front-none}
-use Rattle.logical_log.proofs.Written.{value-length, count-grows, written-cons}
+use Rattle.log_prefix.specs.Table.{entryValue}
+use Rattle.logical_log.specs.Observation.{Storing, StoredAs}
+use Rattle.log_prefix.specs.Extension.{storedContent, nextIndex, extended, extendedBytes, extendedCount, extendedNumber, Extending, writtenBytes, writtenCount, writtenNumber}
+use Rattle.view_judging.specs.declared.judging.Place.{Place}
+use Rattle.log_prefix.specs.declared.prefix.Extended.{Extended}
+use Rattle.view_judging.proofs.Turns.{entry-read, front-shown, front-stop, front-none}
+use Rattle.log_prefix.proofs.Written.{value-length, count-grows, written-cons}
 use Rattle.logical_log.proofs.Stored.{Step, extension-step}
 
 -- an entry as it is read has zeros after its content

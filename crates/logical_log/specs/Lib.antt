@@ -1,5 +1,1 @@
-pub mod Table
-pub mod Prefix
-pub mod Comparison
-pub mod Violation
 pub mod Observation

@@ -1,6 +1,2 @@
-// Logs as prefixes, after logical_log of the Rust: prefixes stored once and told by number, their comparison, and the
-// observation of a view. Stands on records and storage.
-pub mod comparison;
+// Kind 1, after logical_log of the Rust: the observation of a view (observation.rs). Stands on view_judging.
 pub mod observation;
-pub mod prefix;
-pub mod violation;

@@ -17,10 +17,10 @@ use Rattle.model.proofs.Bridge as bridge
 use Rattle.storage.specs.Rules.{wellFormed}
 use Rattle.storage.specs.Decode.{decode}
 use Rattle.storage.specs.Fresh.{freshHistory}
-use Rattle.lists.specs.Picked.{nth}
-use Rattle.history.specs.declared.numbers.Reply.{Reply}
+use Rattle.index_lists.specs.Picked.{nth}
+use Rattle.answers.specs.declared.numbers.Reply.{Reply}
 use Rattle.history.specs.declared.exports.FindingReply.{FindingReply}
-use Rattle.history.specs.Replies.{submitAnswer}
+use Rattle.record_kinds.specs.Replies.{submitAnswer}
 use Rattle.history.specs.Exports.{aFinding, noFinding, findingOut, aLeader, noLeader}
 use Rattle.history.proofs.Handed.{reply-alike, number-refused}
 use Rattle.promises.specs.Run.{bytesOf, ledgerOf}

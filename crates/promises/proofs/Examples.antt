@@ -17,7 +17,7 @@ use Rattle.model.proofs.Completeness as completeness
 use Rattle.model.proofs.Completeness.{leader, checked, LeadersAfter, late, late-leaders, zeroTerm, toldLater}
 use Rattle.storage.specs.Rules.{wellFormed}
 use Rattle.storage.specs.Fresh.{freshHistory}
-use Rattle.lists.specs.Picked.{nth}
+use Rattle.index_lists.specs.Picked.{nth}
 use Rattle.history.specs.Exports.{aLeader, noLeader, leaderOut}
 use Rattle.promises.specs.Run.{bytesOf, ledgerOf}
 use Rattle.promises.proofs.Machine.{submitting, ledgers-are}

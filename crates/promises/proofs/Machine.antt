@@ -18,10 +18,10 @@ use Rattle.storage.specs.Decode.{decode}
 use Rattle.storage.specs.Fresh.{freshHistory}
 use Rattle.storage.proofs.Meanings.{Stands, fresh-stands}
 use Rattle.completeness.proofs.Fits.{TermsFit}
-use Rattle.history.specs.declared.answer.Answer.{Answer}
-use Rattle.history.specs.Numbers.{replyOf}
-use Rattle.history.specs.Replies.{submitAnswer, submitBytes}
-use Rattle.history.proofs.Meaning.{modelled, Means, submit-means}
+use Rattle.answers.specs.declared.answer.Answer.{Answer}
+use Rattle.answers.specs.Numbers.{replyOf}
+use Rattle.record_kinds.specs.Replies.{submitAnswer, submitBytes}
+use Rattle.submission.proofs.Meaning.{modelled, Means, submit-means}
 use Rattle.promises.specs.Run.{bytesFrom, accepts, ledgerFrom}
 use Rattle.promises.proofs.Fits.{fresh-fit, after-fit}
 

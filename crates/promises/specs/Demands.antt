@@ -18,9 +18,9 @@ use Rattle.model.proofs.Matching.{Matching}
 use Rattle.model.proofs.Committed.{Agreeing, committedSeen}
 use Rattle.storage.specs.Rules.{wellFormed}
 use Rattle.storage.specs.Decode.{decode}
-use Rattle.lists.specs.Picked.{nth}
-use Rattle.history.specs.Numbers.{modelReply}
-use Rattle.history.specs.Replies.{submitBytes}
+use Rattle.index_lists.specs.Picked.{nth}
+use Rattle.answers.specs.Numbers.{modelReply}
+use Rattle.record_kinds.specs.Replies.{submitBytes}
 use Rattle.history.specs.Exports.{findingOut, aLeader, noLeader, leaderOut}
 use Rattle.promises.specs.Run.{bytesOf, replyTo, accepts, ledgerOf, KnownAtChecks}
 

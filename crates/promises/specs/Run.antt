@@ -11,9 +11,9 @@ use Rattle.model.specs.Reading.{readable, read}
 use Rattle.model.specs.Ledger.{Ledger, empty, fed}
 use Rattle.model.proofs.Completeness.{Known}
 use Rattle.storage.specs.Fresh.{freshHistory}
-use Rattle.history.specs.declared.numbers.Reply.{Reply}
-use Rattle.history.specs.Numbers.{replyOf}
-use Rattle.history.specs.Replies.{submitAnswer, submitBytes}
+use Rattle.answers.specs.declared.numbers.Reply.{Reply}
+use Rattle.answers.specs.Numbers.{replyOf}
+use Rattle.record_kinds.specs.Replies.{submitAnswer, submitBytes}
 
 -- the bytes after a list of records
 unfoldable pub bytesFrom : Bytes → List Bytes → Bytes

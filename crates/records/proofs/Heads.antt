@@ -10,9 +10,9 @@ use Rattle.model.specs.Reading.{readable, unreadable, got, filled, finish}
 use Rattle.bit_fields.specs.declared.bits.Fault.{Fault}
 use Rattle.records.specs.declared.head.Head.{Head}
 use Rattle.bit_fields.specs.Answers.{refusalOf}
-use Rattle.records.specs.Places.{shownAt, nextAt, rowAt, afterRow, firstEntry, firstRow}
+use Rattle.record_scan.specs.Places.{shownAt, nextAt, rowAt, afterRow, firstEntry, firstRow}
 use Rattle.records.specs.Heads.{readingOf, finished, headOf, faultOf}
-use Rattle.records.proofs.Listed.{items-length}
+use Rattle.record_scan.proofs.Listed.{items-length}
 
 -- the last test of a record is the code's
 pub finish-head : (s : Bytes) (r : Record) (k : ℕ) (h : Head) → readable r ≡ readingOf s h

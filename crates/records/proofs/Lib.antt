@@ -1,6 +1,3 @@
-pub mod Given
-pub mod Listed
-pub mod Walks
 pub mod Heads
 pub mod Readable
 pub mod Faults

@@ -17,12 +17,13 @@ use Rattle.model.specs.Reading.{fieldAt, readable, unreadable, Part, got, fault
 use Rattle.units.specs.declared.NodeId.{NodeId}
 use Rattle.records.specs.declared.head.Head.{Head}
 use Rattle.records.specs.Heads.{readingOf, headOf, Within, Told}
-use Rattle.records.specs.Places.{indexOf, nodeOf, shownAt, nextAt, entriesAt, rowAt, afterRow, rowsAt, Walk, RowWalk, firstEntry, firstRow}
+use Rattle.record_scan.specs.Places.{indexOf, nodeOf, shownAt, nextAt, entriesAt, rowAt, afterRow, rowsAt, Walk, RowWalk, firstEntry, firstRow}
 use Rattle.bit_fields.proofs.Widths.{field-lt}
-use Rattle.records.proofs.Given.{fault≢got, got-same, went, field-is, field-below, limited-is, governed-within}
-use Rattle.records.proofs.Listed.{many-is, walk-read}
+use Rattle.record_scan.proofs.Given.{fault≢got, got-same, went, field-is, field-below, limited-is, governed-within}
+use Rattle.record_scan.proofs.Listed.{many-is, walk-read}
 use Rattle.records.proofs.Heads.{head-back}
-use Rattle.records.proofs.Walks.{entry-stands, row-stands, entries-length, rows-length}
+use Rattle.record_walk.proofs.Walks.{entries-length, rows-length}
+use Rattle.record_scan.proofs.Scanned.{entry-stands, row-stands}
 
 -- the kind of a record
 abbrev kindOf : Record → ℕ

@@ -11,7 +11,7 @@ use Rattle.model.specs.Reading.{Reader, Reading, readable, unreadable, filled, 
 use Rattle.bit_fields.specs.declared.bits.Fault.{Fault}
 use Rattle.records.specs.declared.head.Head.{Head}
 use Rattle.bit_fields.specs.Answers.{refusalOf}
-use Rattle.records.specs.Places.{entriesAt, rowsAt, firstEntry, firstRow}
+use Rattle.record_scan.specs.Places.{entriesAt, rowsAt, firstEntry, firstRow}
 
 -- the record that an answer stands for: the entries and rows are those in the bytes
 abbrev pub readingOf : Bytes → Head → Reading

@@ -1,4 +1,1 @@
-pub mod Scans
-pub mod Places
 pub mod Heads
-pub mod Values

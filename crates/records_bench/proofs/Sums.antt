@@ -8,8 +8,8 @@ use native.Mathlib.Numerals.{add-one}
 use lib.ListN.{length, getD, take, drop, drop-of-length-le}
 use lib.Seq.{drop-cons, getD-take, length-take-le}
 use Rattle.model.specs.Sizes.{Bytes}
-use Rattle.records.specs.Places.{entriesAt, nextAt, contentAt}
-use Rattle.records.proofs.Walks.{entries-next, entries-none}
+use Rattle.record_scan.specs.Places.{entriesAt, nextAt, contentAt}
+use Rattle.record_walk.proofs.Walks.{entries-next, entries-none}
 use Rattle.records_bench.specs.Used.{sumOf, contentsOf}
 
 -- the first n bytes of a content, from the i-th on

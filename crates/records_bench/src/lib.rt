@@ -3,12 +3,12 @@ ghost use mathlib.Core.Path.{_≡_};
 ghost use Prim.Native.Nat.{_≤_};
 ghost use lib.ListN.{length, take};
 ghost use Rattle.model.specs.Reading as reading;
-ghost use Rattle.records.specs.Places as places;
+ghost use Rattle.record_scan.specs.Places as places;
 ghost use Rattle.records_bench.specs.Used.{sumOf, contentsOf, usedOf, countOf};
+use record_walk::walk::FIRST_ENTRY;
+use record_walk::walk::entry_at;
 use records::head::Head;
 use records::head::read;
-use records::walk::FIRST_ENTRY;
-use records::walk::entry_at;
 
 fn wide(x: u8) -> u64
     ensures { λ r. ⌜ (r ≡ x) × (r ≤ 255) ⌝ }

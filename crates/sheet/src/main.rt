@@ -5,12 +5,12 @@ ghost use mathlib.Core.Path.{_≡_};
 ghost use Prim.Native.Nat.{_≤_};
 ghost use lib.ListN.{length};
 use libc::STDOUT_FILENO;
-use sheet_text::closing::put_lists;
-use sheet_text::split::move_down;
+use sheet_lists::closing::put_lists;
+use sheet_pieces::split::move_down;
 use sheet_text::taking::SOME;
 use sheet_text::taking::put_cut;
 use sheet_text::taking::take_some;
-use storage::layout::part;
+use storage_bytes::layout::part;
 
 // No recording has so many records, and none takes so many blocks.
 const LAST: u64 = 18446744073709551000;

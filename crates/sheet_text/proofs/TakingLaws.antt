@@ -7,14 +7,14 @@ use mathlib.Core.Path.{_≡_, refl, ap, sym, _∙_}
 use mathlib.Core.List.{List, [], _∷_, _++_, append-assoc, append-nil}
 use lib.ListN.{length, take, drop}
 use Rattle.model.specs.Sizes.{Bytes}
-use Rattle.storage.specs.Words.{putBytes}
-use Rattle.storage.specs.Layout.{part}
-use Rattle.sheet_text.specs.declared.split.Piece as code
-use Rattle.sheet_text.specs.Decimal.{Put}
-use Rattle.sheet_text.specs.Pieces.{Piece, whole, cut, pieces, pieceAt, piecesBy, Split}
+use Rattle.storage_bytes.specs.Words.{putBytes}
+use Rattle.storage_bytes.specs.Layout.{part}
+use Rattle.sheet_pieces.specs.declared.split.Piece as code
+use Rattle.sheet_numbers.specs.Decimal.{Put}
+use Rattle.sheet_pieces.specs.Pieces.{Piece, whole, cut, pieces, pieceAt, piecesBy, Split}
 use Rattle.sheet_text.specs.Sheet.{cutLine, lineFor, bytesAfter, recordLines, bytesThrough, HandedOver, Taken}
-use Rattle.sheet_text.proofs.PutLaws.{put-then, put-as}
-use Rattle.sheet_text.proofs.SplitLaws.{whole-within, piece-joined}
+use Rattle.sheet_numbers.proofs.PutLaws.{put-then, put-as}
+use Rattle.sheet_pieces.proofs.SplitLaws.{whole-within, piece-joined}
 
 -- ---- one more piece at the end
 

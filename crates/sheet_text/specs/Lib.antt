@@ -1,4 +1,1 @@
-pub mod Decimal
-pub mod Lines
-pub mod Pieces
 pub mod Sheet

@@ -1,4 +1,4 @@
--- Document 01, "The printed sheet": what a piece is answered, and what follows the records.
+-- Document 01, "The printed sheet": what a piece is answered.
 -- Assumes nothing.
 use Prim.Native.Nat.{ℕ, _+_, _/_, _≤_, _<_}
 use mathlib.Core.Path.{_≡_}
@@ -7,20 +7,13 @@ use mathlib.Core.List.{List, [], _∷_, _++_}
 use lib.Dec.{eqb}
 use lib.ListN.{length, getD, take, drop}
 use Rattle.model.specs.Sizes.{Bytes}
-use Rattle.model.specs.History.{Finding, History}
-use Rattle.model.specs.Leaders.{Leader}
-use Rattle.model.specs.Lists.{Unseen, findingList, leaderList, unseenList, unknownList, committedLength, committedOwner}
-use Rattle.storage.specs.Rules.{wellFormed}
-use Rattle.storage.specs.Decode.{decode}
-use Rattle.history.specs.Numbers.{refusalIn, replyOf}
-use Rattle.history.specs.Replies.{submitAnswer, submitBytes}
+use Rattle.answers.specs.Numbers.{refusalIn, replyOf}
+use Rattle.record_kinds.specs.Replies.{submitAnswer, submitBytes}
 use Rattle.sheet_text.specs.declared.taking.Progress.{Progress}
-use Rattle.sheet_text.specs.declared.split.Piece as code
-use Rattle.sheet_text.specs.Pieces.{Piece, whole, cut, pieces, pieceAt}
-use Rattle.sheet_text.specs.Decimal.{Put}
-use Rattle.sheet_text.specs.Lines.{recordLine, findingLine, leaderLine, unseenLine, unknownLine, committedLine}
-
--- ---- the records
+use Rattle.sheet_pieces.specs.declared.split.Piece as code
+use Rattle.sheet_pieces.specs.Pieces.{Piece, whole, cut, pieces, pieceAt}
+use Rattle.sheet_numbers.specs.Decimal.{Put}
+use Rattle.sheet_lines.specs.Lines.{recordLine}
 
 -- "kind (its first four bits)", 0 where there is none
 abbrev pub kindOf : Bytes → ℕ
@@ -70,32 +63,3 @@ pub record Taken (h block t : Bytes) (first start : ℕ) (p : Progress) (h′ t�
   -- at most 600, and fewer only where no whole piece is left
   pub most : p .count ≤ 600
   pub stopped : p .count < 600 → (body size : ℕ) → pieceAt block (p .from) ≡ code.Piece.Whole body size → ⊥
-
--- ---- the lists
-
-unfoldable pub linesOf : {A : Type 0} → (A → Bytes) → List A → Bytes
-linesOf line [] = []
-linesOf line (x ∷ xs) = line x ++ linesOf line xs
-
-abbrev pub ofFinding : Finding → Bytes
-ofFinding f = findingLine (f .name) (f .node) (f .index) (f .term)
-
-abbrev pub ofLeader : Leader → Bytes
-ofLeader l = leaderLine (l .term) (l .leader)
-
-abbrev pub ofUnseen : Unseen → Bytes
-ofUnseen u = unseenLine (u .node) (u .index)
-
--- "Then findings ..; `leader` term node; `unseen` node index; `unknown` index; `committed` length owner"
-unfoldable pub closing : History → Bytes
-unfolding linesOf
-closing h =
-    linesOf ofFinding (findingList h)
-    ++ linesOf ofLeader (leaderList h)
-    ++ linesOf ofUnseen (unseenList h)
-    ++ linesOf unknownLine (unknownList h)
-    ++ committedLine (committedLength h) (committedOwner h)
-
--- the lists of the history that bytes stand for, nothing where they break the storage rules
-abbrev pub closingOf : Bytes → Bytes
-closingOf h = cond (wellFormed h) (closing (decode h)) []

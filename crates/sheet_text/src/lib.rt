@@ -1,7 +1,3 @@
-// The text of a sheet: a recording split into records, the line of each, and the lists of the history, put into lent bytes.
-// `sheet` reads and writes around it.
-pub mod closing; // closing.rt: the lists of a history
-pub mod decimal; // decimal.rt: numbers in decimal digits
-pub mod lines; // lines.rt: each line of a sheet
-pub mod split; // split.rt: the records of a recording
-pub mod taking; // taking.rt: records in turn, each with its line
+// The records of a block handed to a history in turn, and the line of each, put into lent bytes. `sheet` reads and writes around it.
+// Stands on sheet_pieces, sheet_lines and submission.
+pub mod taking;

@@ -1,14 +1,14 @@
 // Pieces taken in turn: each record is handed to the history and its line put into the output.
 ghost use Prim.Native.Nat.{_+_, _≤_};
 ghost use lib.ListN.{length};
-ghost use Rattle.sheet_text.specs.Decimal.{Put};
+ghost use Rattle.sheet_numbers.specs.Decimal.{Put};
 ghost use Rattle.sheet_text.specs.Sheet.{cutLine, HandedOver, Taken};
-use crate::lines::put_record;
-use crate::split::Piece;
-use crate::split::piece_at;
+use answers::numbers::Reply;
 use history::exports::gamiwhoru_submit;
-use history::numbers::Reply;
-use storage::layout::part;
+use sheet_lines::lines::put_record;
+use sheet_pieces::split::Piece;
+use sheet_pieces::split::piece_at;
+use storage_bytes::layout::part;
 
 // So many records are taken at a time: their lines have room in the output.
 pub const SOME: usize = 600;

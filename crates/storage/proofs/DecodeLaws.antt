@@ -12,12 +12,12 @@ use borrow.Author.Tests.{leb-true, eqb-true, le-leb, eq-eqb}
 use Rattle.model.specs.Sizes.{Bytes}
 use Rattle.model.specs.Entry.{Prefix}
 use Rattle.model.specs.History.{Finding}
-use Rattle.storage.specs.Lists.{every}
-use Rattle.storage.specs.Words.{wordAt}
+use Rattle.storage_bytes.specs.Lists.{every}
+use Rattle.storage_bytes.specs.Words.{wordAt}
 use Rattle.storage.specs.Tables.{PrefixRow, NodeRow, CertificateRow, Tables, tablesIn, tablesOf, headPart, prefixesPart, withRow, withNode, withCommitted, withTerms, withCertificates, withFindings}
 use Rattle.storage.specs.Decode.{prefixAt, extended, resolve, frontIn, certificateIn, historyIn, decode}
 use Rattle.storage.specs.Rules.{nodeRight, certificateRight, findingRight, numbered, prefixRight, prefixesRightAfter, withinLimits, committedRight, tablesRight, wellFormed}
-use Rattle.storage.proofs.ListLaws.{both, every-weaker, every-set, map-set, map-every}
+use Rattle.storage_bytes.proofs.ListLaws.{both, every-weaker, every-set, map-set, map-every}
 use Rattle.storage.proofs.RuleLaws.{Limited, within, pass}
 use Rattle.storage.proofs.RowFacts.{Facts, facts-of, rows-sized, number-kept, resolve-snoc, resolve-count, right-snoc}
 

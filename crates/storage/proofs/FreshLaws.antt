@@ -10,15 +10,15 @@ use lib.ListN.{length, getD, take, drop, replicate, length-replicate, length-tak
 use borrow.Author.Tests.{eq-eqb}
 use Rattle.model.specs.Sizes.{Bytes}
 use Rattle.model.specs.History.{fresh}
-use Rattle.storage.specs.Lists.{tabulate}
-use Rattle.storage.specs.Words.{wordAt}
-use Rattle.storage.specs.Layout.{part, historyLength}
+use Rattle.storage_bytes.specs.Lists.{tabulate}
+use Rattle.storage_bytes.specs.Words.{wordAt}
+use Rattle.storage_bytes.specs.Layout.{part, historyLength}
 use Rattle.storage.specs.Tables.{Tables, NodeRow, prefixRow, nodeRow, termRow, certificateRow, findingRow, headPart, nodesPart, termsPart, certificatesPart, findingsPart, prefixesPart, tablesIn, tablesOf}
 use Rattle.storage.specs.Decode.{historyIn, resolveFrom, decode}
 use Rattle.storage.specs.Rules.{tablesRight, wellFormed}
 use Rattle.storage.specs.Fresh.{zeros, freshHistory}
-use Rattle.storage.proofs.ListLaws.{tabulate-replicate}
-use Rattle.storage.proofs.PartLaws.{part-at}
+use Rattle.storage_bytes.proofs.ListLaws.{tabulate-replicate}
+use Rattle.storage_bytes.proofs.PartLaws.{part-at}
 
 -- a loop that has stored a zero at each place
 pub fill-all : (d : Bytes) (n : ℕ) → n ≤ length d → length d ≤ n → replicate n 0 ++ drop n d ≡ zeros (length d)

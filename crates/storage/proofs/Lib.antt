@@ -1,6 +1,3 @@
-pub mod ListLaws
-pub mod WordLaws
-pub mod PartLaws
 pub mod RuleLaws
 pub mod FreshLaws
 pub mod RowLaws

@@ -12,16 +12,16 @@ use Rattle.model.specs.Sizes.{Bytes}
 use Rattle.model.specs.Entry.{Prefix, isIn, with, withAll}
 use Rattle.model.specs.History.{fresh, Certificate, Finding, History, sameFinding, noted}
 use Rattle.model.proofs.Tests.{cond-cases}
-use Rattle.storage.specs.Lists.{every}
-use Rattle.storage.specs.Words.{wordAt, wordBytes, putBytes}
+use Rattle.storage_bytes.specs.Lists.{every}
+use Rattle.storage_bytes.specs.Words.{wordAt, wordBytes, putBytes}
 use Rattle.storage.specs.Tables.{NodeRow, CertificateRow, Tables, nodeRow, termRow, findingRow, prefixRows, termRows, certificateRows, findingRows, headPart, nodesPart, termsPart, certificatesPart, findingsPart, prefixesPart, tablesIn, tablesOf, withRow, withNode, withCommitted, withTerms, withCertificates, withFindings}
 use Rattle.storage.specs.Decode.{prefixAt, extended, resolve, frontIn, certificateIn, historyIn, decode}
 use Rattle.storage.specs.Rules.{certificateRight, findingRight, numbered, prefixRight, wellFormed}
 use Rattle.storage.specs.Values.{numberIndex, committedEnd}
 use Rattle.storage.specs.Writes.{nodeBytes, prefixBytes, prefixOf, CertificateFits, PrefixFits, prefixAppended, termAppended, committedSet, certificateInserted, certificateAdded}
-use Rattle.storage.proofs.ListLaws.{tabulate-length, tabulate-at, every-insert, map-insert, every-snoc}
-use Rattle.storage.proofs.WordLaws.{put-length}
-use Rattle.storage.proofs.PartLaws.{word-part}
+use Rattle.storage_bytes.proofs.ListLaws.{tabulate-length, tabulate-at, every-insert, map-insert, every-snoc}
+use Rattle.storage_bytes.proofs.WordLaws.{put-length}
+use Rattle.storage_bytes.proofs.PartLaws.{word-part}
 use Rattle.storage.proofs.RowFacts.{resolve-count}
 use Rattle.storage.proofs.RuleLaws.{within, pass}
 use Rattle.storage.proofs.TableLaws.{findings-written, set-node, set-term, prefix-appended, term-appended, committed-set, certificate-added}
@@ -38,6 +38,10 @@ pub record Stands (h : Bytes) (x : History) : Type 0 where
 pub stands : (h : Bytes) (t : Tables) (x : History) → length h ≡ 24137 → tablesOf h ≡ t → Kept t → historyIn t ≡ x → Stands h x
 stands h t x l e k q =
     record { right = well-formed-of h l (subst Kept (sym e) k); decodes = decode-is h ∙ ap historyIn e ∙ q }
+
+-- bytes that keep the rules stand for what they decode to
+pub stand : (h : Bytes) → wellFormed h ≡ true → Stands h (decode h)
+stand h w = record { right = w; decodes = refl }
 
 -- ---- what is read
 

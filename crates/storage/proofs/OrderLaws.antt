@@ -19,10 +19,10 @@ use Rattle.model.specs.Election.{held, inOrder}
 use Rattle.storage.specs.Tables.{CertificateRow, tablesOf}
 use Rattle.storage.specs.Decode.{certificateIn}
 use Rattle.storage.specs.Rules.{follows, numberedAfter, numbered}
-use Rattle.storage.specs.Words.{wordAt}
+use Rattle.storage_bytes.specs.Words.{wordAt}
 use Rattle.storage.specs.Writes.{CertificateFits, certificateAdded}
 use Rattle.storage.specs.Order.{placeOf, heldOf}
-use Rattle.storage.proofs.ListLaws.{both}
+use Rattle.storage_bytes.proofs.ListLaws.{both}
 use Rattle.storage.proofs.RuleLaws.{pass}
 use Rattle.storage.proofs.DecodeLaws.{CertificateNamed}
 use Rattle.storage.proofs.Meanings.{Stands, withElections, kept, certificates-is, certificate-inserted}

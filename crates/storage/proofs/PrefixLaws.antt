@@ -12,8 +12,9 @@ use borrow.Author.Tests.{eqb-true}
 use Rattle.model.specs.Sizes.{Bytes}
 use Rattle.storage.specs.Tables.{PrefixRow}
 use Rattle.storage.specs.Decode.{prefixAt, entryOf, extended, resolve}
-use Rattle.storage.specs.Rules.{sameBytes, sameRow, isAmong, prefixRight}
-use Rattle.storage.proofs.ListLaws.{both}
+use Rattle.storage.specs.Rules.{sameRow, isAmong, prefixRight}
+use Rattle.storage_bytes.specs.Words.{sameBytes}
+use Rattle.storage_bytes.proofs.ListLaws.{both}
 use Rattle.storage.proofs.RowFacts.{Facts, rowAt, row-right-test}
 
 -- ---- what the tests say

@@ -17,10 +17,10 @@ use borrow.Author.Tests.{leb-true, eqb-true, le-leb, eq-eqb, not-true}
 use Rattle.model.specs.Sizes.{Bytes}
 use Rattle.model.specs.Entry.{Entry, Prefix}
 use Rattle.storage.specs.Tables.{PrefixRow, prefixRow, prefixRows}
-use Rattle.storage.specs.Words.{bytesAt, wordAt}
+use Rattle.storage_bytes.specs.Words.{bytesAt, wordAt, sameBytes}
 use Rattle.storage.specs.Decode.{prefixAt, entryOf, extended, resolveFrom, resolve}
-use Rattle.storage.specs.Rules.{indexAmong, sameBytes, sameRow, isAmong, prefixRight, prefixesRightAfter}
-use Rattle.storage.proofs.ListLaws.{both, tabulate-length, tabulate-at}
+use Rattle.storage.specs.Rules.{indexAmong, sameRow, isAmong, prefixRight, prefixesRightAfter}
+use Rattle.storage_bytes.proofs.ListLaws.{both, tabulate-length, tabulate-at}
 
 -- ---- lists numbered from 1, 0 standing for the default
 

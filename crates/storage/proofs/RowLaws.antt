@@ -12,12 +12,12 @@ use lib.ListN.{length, getD, set, take, drop}
 use lib.Seq.{ext-getD, getD-take, length-take-le, getD-append-add}
 use Rattle.model.specs.Sizes.{Bytes}
 use Rattle.model.specs.History.{Finding}
-use Rattle.storage.specs.Lists.{tabulate}
-use Rattle.storage.specs.Words.{wordAt, wordBytes, bytesAt, putBytes}
+use Rattle.storage_bytes.specs.Lists.{tabulate}
+use Rattle.storage_bytes.specs.Words.{wordAt, wordBytes, bytesAt, putBytes}
 use Rattle.storage.specs.Tables.{NodeRow, CertificateRow, nodeRow, termRow, certificateRow, certificateRows, findingRow, prefixRow}
 use Rattle.storage.specs.Writes.{certificateInserted, nodeBytes, certificateBytes, findingBytes, prefixBytes, prefixOf, NodeFits, CertificateFits, FindingFits, PrefixFits}
-use Rattle.storage.proofs.ListLaws.{tabulate-insert, tabulate-same, tabulate-snoc, tabulate-set, tabulate-length, tabulate-at}
-use Rattle.storage.proofs.WordLaws.{word-shift, put-in, put-length, Agree, word-agree, bytes-agree, word-put, bytes-put, bytes-shift, put-before, put-after, word-bytes-length, word-back}
+use Rattle.storage_bytes.proofs.ListLaws.{tabulate-insert, tabulate-same, tabulate-snoc, tabulate-set, tabulate-length, tabulate-at}
+use Rattle.storage_bytes.proofs.WordLaws.{word-shift, put-in, put-length, Agree, word-agree, bytes-agree, word-put, bytes-put, bytes-shift, put-before, put-after, word-bytes-length, word-back}
 
 -- ---- any table: rows are w wide, and a row depends on its own bytes only
 

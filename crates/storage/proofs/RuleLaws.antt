@@ -1,6 +1,6 @@
--- Laws of the storage rules: bytes compared one by one, tests in a row, the limits, numbering.
+-- Laws of the storage rules: an index by a number, tests in a row, the limits, numbering.
 -- Assumes nothing.
-use Prim.Native.Nat.{ℕ, zero, suc, _+_, _-_, _≤_, _<_}
+use Prim.Native.Nat.{ℕ, zero, suc, _+_, _-_, _≤_}
 use native.Mathlib.Nat.{zero-add}
 use native.Mathlib.Omega.{arith}
 use mathlib.Core.Path.{_≡_, refl, ap, sym, _∙_}
@@ -8,56 +8,12 @@ use mathlib.Core.Bool.{Bool, true, false, cond, _&&_}
 use mathlib.Core.List.{List, [], _∷_}
 use lib.Dec.{leb, ltb, eqb}
 use lib.ListN.{getD, set, List·getD-map}
-use borrow.Author.Tests.{leb-true, eq-eqb, ne-eqb}
+use borrow.Author.Tests.{leb-true, ne-eqb}
 use Rattle.model.specs.Sizes.{Bytes}
-use Rattle.storage.specs.Lists.{tabulate}
-use Rattle.storage.specs.Words.{bytesAt}
 use Rattle.storage.specs.Tables.{PrefixRow, CertificateRow, prefixRow, prefixRows}
-use Rattle.storage.specs.Rules.{follows, numberedAfter, numbered, sameBytes, indexAmong, withinLimits}
+use Rattle.storage.specs.Rules.{follows, numberedAfter, numbered, indexAmong, withinLimits}
 use Rattle.storage.specs.Values.{numberIndex}
-use Rattle.storage.proofs.ListLaws.{both, tabulate-at}
-
--- ---- bytes compared one by one
-
-cons-at : (t : Bytes) (n i o : ℕ) → i < n → bytesAt t (o + i) (n - i) ≡ getD t (o + i) 0 ∷ bytesAt t (o + (i + 1)) (n - (i + 1))
-unfolding bytesAt tabulate
-cons-at t n i o h =
-    let e : n - i ≡ suc (n - (i + 1)) = omega arith in
-    let q : o + i + 1 ≡ o + (i + 1) = omega arith in
-    ap (λ (k : ℕ). bytesAt t (o + i) k) e ∙ ap (λ (k : ℕ). getD t (o + i) 0 ∷ bytesAt t k (n - (i + 1))) q
-
-pub same-start : (t u : Bytes) (a b n : ℕ)
-    → sameBytes (bytesAt t a n) (bytesAt u b n) ≡ sameBytes (bytesAt t (a + 0) (n - 0)) (bytesAt u (b + 0) (n - 0))
-same-start t u a b n =
-    let p : a ≡ a + 0 = omega arith in
-    let q : b ≡ b + 0 = omega arith in
-    let e : n ≡ n - 0 = omega arith in
-    λ i. sameBytes (bytesAt t (p i) (e i)) (bytesAt u (q i) (e i))
-
-module _ (t u : Bytes) (a b n i : ℕ) {r : Bool} where
-  step-bytes : r ≡ sameBytes (bytesAt t (a + i) (n - i)) (bytesAt u (b + i) (n - i)) → i < n
-      → r ≡ (eqb (getD t (a + i) 0) (getD u (b + i) 0) && sameBytes (bytesAt t (a + (i + 1)) (n - (i + 1))) (bytesAt u (b + (i + 1)) (n - (i + 1))))
-  unfolding sameBytes
-  step-bytes inv h = inv ∙ (λ j. sameBytes (cons-at t n i a h j) (cons-at u n i b h j))
-
-  pub same-next : r ≡ sameBytes (bytesAt t (a + i) (n - i)) (bytesAt u (b + i) (n - i)) → i < n
-      → getD t (a + i) 0 ≡ getD u (b + i) 0
-      → r ≡ sameBytes (bytesAt t (a + (i + 1)) (n - (i + 1))) (bytesAt u (b + (i + 1)) (n - (i + 1)))
-  same-next inv h e =
-      step-bytes inv h
-      ∙ ap (λ (v : Bool). v && sameBytes (bytesAt t (a + (i + 1)) (n - (i + 1))) (bytesAt u (b + (i + 1)) (n - (i + 1)))) (eq-eqb _ _ e)
-
-  pub same-stop : r ≡ sameBytes (bytesAt t (a + i) (n - i)) (bytesAt u (b + i) (n - i)) → i < n
-      → (getD t (a + i) 0 ≡ getD u (b + i) 0 → ⊥) → r ≡ false
-  same-stop inv h e =
-      step-bytes inv h
-      ∙ ap (λ (v : Bool). v && sameBytes (bytesAt t (a + (i + 1)) (n - (i + 1))) (bytesAt u (b + (i + 1)) (n - (i + 1)))) (ne-eqb _ _ e)
-
-  pub same-none : r ≡ sameBytes (bytesAt t (a + i) (n - i)) (bytesAt u (b + i) (n - i)) → n ≤ i → r ≡ true
-  unfolding sameBytes bytesAt tabulate
-  same-none inv h =
-      let e : n - i ≡ 0 = omega arith in
-      inv ∙ ap (λ (k : ℕ). sameBytes (bytesAt t (a + i) k) (bytesAt u (b + i) k)) e
+use Rattle.storage_bytes.proofs.ListLaws.{both, tabulate-at}
 
 -- ---- an index by a number
 

@@ -8,12 +8,12 @@ use mathlib.Core.Path.{_≡_, ap, sym, _∙_}
 use mathlib.Core.List.{[], _∷_, _++_}
 use lib.ListN.{length, set, take, drop}
 use Rattle.model.specs.Sizes.{Bytes}
-use Rattle.storage.specs.Words.{wordAt, wordBytes, putBytes}
-use Rattle.storage.specs.Layout.{part}
+use Rattle.storage_bytes.specs.Words.{wordAt, wordBytes, putBytes}
+use Rattle.storage_bytes.specs.Layout.{part}
 use Rattle.storage.specs.Tables.{Tables, NodeRow, CertificateRow, HeadRow, headRow, nodeRow, nodeRows, termRow, termRows, certificateRows, findingRows, prefixRow, prefixRows, headPart, nodesPart, termsPart, certificatesPart, findingsPart, prefixesPart, tablesIn, tablesOf, withRows, withRow, withNodes, withNode, withCommitted, withTerms, withCertificates, withFindings}
 use Rattle.storage.specs.Writes.{prefixAppended, termAppended, committedSet, certificateInserted, certificateAdded, nodeBytes, prefixBytes, prefixOf, NodeFits, CertificateFits, PrefixFits}
-use Rattle.storage.proofs.WordLaws.{put-length, word-bytes-length}
-use Rattle.storage.proofs.PartLaws.{word-part, put-whole, part-length, part-put-same, part-put-before, part-put-after}
+use Rattle.storage_bytes.proofs.WordLaws.{put-length, word-bytes-length}
+use Rattle.storage_bytes.proofs.PartLaws.{word-part, put-whole, part-length, part-put-same, part-put-before, part-put-after}
 use Rattle.storage.proofs.WriteLaws.{inserted-length}
 use Rattle.storage.proofs.RowLaws.{certificates-inserted, rows-set, rows-append, node-own, node-length, node-back, term-own, term-back, prefix-own, prefix-length, prefix-back, word-set, word-before, word-after}
 

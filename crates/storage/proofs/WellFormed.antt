@@ -9,13 +9,13 @@ use mathlib.Core.Bool.{true}
 use mathlib.Core.List.{[]}
 use lib.ListN.{length, getD}
 use Rattle.model.specs.Sizes.{Bytes}
-use Rattle.storage.specs.Words.{wordAt}
+use Rattle.storage_bytes.specs.Words.{wordAt}
 use Rattle.storage.specs.Tables.{NodeRow, CertificateRow, nodeRow, certificateRow, prefixRow, findingRow, termRow, prefixRows, certificateRows, findingRows, termRows, headPart, nodesPart, termsPart, certificatesPart, findingsPart, prefixesPart, tablesIn, tablesOf}
 use Rattle.storage.specs.Values.{numberIndex, committedEnd}
 use Rattle.storage.specs.Decode.{prefixAt, resolve}
 use Rattle.storage.specs.Rules.{nodeRight, certificateRight, prefixesRightAfter, wellFormed}
-use Rattle.storage.proofs.ListLaws.{tabulate-length, tabulate-at, every-at}
-use Rattle.storage.proofs.PartLaws.{word-part}
+use Rattle.storage_bytes.proofs.ListLaws.{tabulate-length, tabulate-at, every-at}
+use Rattle.storage_bytes.proofs.PartLaws.{word-part}
 use Rattle.storage.proofs.RowFacts.{Facts, facts-of, rows-sized, index-small}
 use Rattle.storage.proofs.RuleLaws.{within, index-among}
 use Rattle.storage.proofs.DecodeLaws.{Kept, well-formed-parts, NodeNamed, node-named, CertificateNamed, certificate-named, committed-named}

@@ -1,21 +1,19 @@
 -- A row's fields written side by side are the row's bytes written at once; and a table lent as a part and given back is that
 -- write in the whole.
 -- Assumes nothing.
-use Prim.Native.Nat.{ℕ, suc, _+_, _-_, _*_, _≤_, _<_}
+use Prim.Native.Nat.{ℕ, _+_, _-_, _*_, _≤_}
 use native.Mathlib.Omega.{arith}
-use mathlib.Core.Path.{_≡_, refl, ap, sym, _∙_}
-use mathlib.Core.List.{[], _∷_, _++_, append-assoc}
-use lib.Seq.{drop-drop, length-take-le, take-suc, take-all, set-comm}
-use native.Mathlib.Numerals.{add-one}
-use lib.ListN.{length, getD, set, take, drop}
+use mathlib.Core.Path.{_≡_, ap, sym, _∙_}
+use mathlib.Core.List.{_++_, append-assoc}
+use lib.Seq.{drop-drop}
+use lib.ListN.{length, take, drop}
 use Rattle.model.specs.Sizes.{Bytes}
-use Rattle.storage.specs.Lists.{tabulate}
-use Rattle.storage.specs.Words.{wordAt, wordBytes, bytesAt, putBytes}
+use Rattle.storage_bytes.specs.Words.{wordAt, wordBytes, bytesAt, putBytes}
 use Rattle.storage.specs.Tables.{CertificateRow, certificatesPart}
 use Rattle.storage.specs.Writes.{certificateBytes, certificateInserted, certificateAdded}
-use Rattle.storage.specs.Layout.{part}
-use Rattle.storage.proofs.WordLaws.{put-join, put-length, put-before}
-use Rattle.storage.proofs.PartLaws.{part-length, part-back, put-part}
+use Rattle.storage_bytes.specs.Layout.{part}
+use Rattle.storage_bytes.proofs.WordLaws.{put-join, put-length}
+use Rattle.storage_bytes.proofs.PartLaws.{part-length, part-back, put-part}
 
 -- one more field after those written
 pub field-next : {u : Bytes} (t : Bytes) (o : ℕ) (vs ws : Bytes) (p : ℕ) → u ≡ putBytes t o vs → p ≡ o + length vs
@@ -34,60 +32,12 @@ part-written h ys a k o vs e r w =
     ∙ part-back h a q (omega arith)
     ∙ put-part h a k o vs r w
 
--- a loop that stores one byte a turn
-pub bytes-next : {u : Bytes} (t : Bytes) (o : ℕ) (vs : Bytes) (i : ℕ) → u ≡ putBytes t o (take i vs) → i < length vs
-    → set u (o + i) (getD vs i 0) ≡ putBytes t o (take (i + 1) vs)
-unfolding putBytes
-bytes-next t o vs i e h =
-    let l : length (take i vs) ≡ i = length-take-le i vs (omega arith) in
-    (λ j. set (e j) (o + sym l j) (getD vs i 0))
-    ∙ put-join t o (take i vs) (getD vs i 0 ∷ [])
-    ∙ ap (putBytes t o) (sym (ap (λ (k : ℕ). take k vs) (add-one i) ∙ take-suc vs i 0 h))
-
-pub bytes-all : (t : Bytes) (o : ℕ) (vs : Bytes) (i : ℕ) → length vs ≤ i → putBytes t o (take i vs) ≡ putBytes t o vs
-bytes-all t o vs i h = ap (putBytes t o) (take-all i vs h)
-
 -- a row and then a count, by the count that was read
 pub then-count : {u : Bytes} (h : Bytes) (m n b w : ℕ) (vs : Bytes) → n ≡ m → u ≡ putBytes h (b + n * w) vs
     → (c d : ℕ) → putBytes u c (wordBytes d (n + 1)) ≡ putBytes (putBytes h (b + m * w) vs) c (wordBytes d (m + 1))
 then-count h m n b w vs e q c d =
     (λ i. putBytes (q i) c (wordBytes d (n + 1)))
     ∙ (λ i. putBytes (putBytes h (b + e i * w) vs) c (wordBytes d (e i + 1)))
-
--- ---- bytes moved up, the last one first
-
--- a store below what is written may come first or last
-put-set-below : (t : Bytes) (o : ℕ) (vs : Bytes) (p v : ℕ) → p < o → putBytes (set t p v) o vs ≡ set (putBytes t o vs) p v
-unfolding putBytes
-put-set-below t o [] p v h = refl
-put-set-below t o (x ∷ xs) p v h =
-    ap (λ (u : Bytes). putBytes u (o + 1) xs) (set-comm t p o v x (omega arith)) ∙ put-set-below (set t o x) (o + 1) xs p v (omega arith)
-
-pub move-start : (t : Bytes) (a n w : ℕ) → t ≡ putBytes t (a + w + n) (bytesAt t (a + n) (n - n))
-unfolding putBytes bytesAt tabulate
-move-start t a n w = let e : 0 ≡ n - n = omega arith in ap (λ (k : ℕ). putBytes t (a + w + n) (bytesAt t (a + n) k)) e
-
-pub move-next : {u : Bytes} (t : Bytes) (a n w i : ℕ) → u ≡ putBytes t (a + w + i) (bytesAt t (a + i) (n - i)) → 0 < i → i ≤ n
-    → set u (a + w + (i - 1)) (getD u (a + (i - 1)) 0) ≡ putBytes t (a + w + (i - 1)) (bytesAt t (a + (i - 1)) (n - (i - 1)))
-unfolding putBytes bytesAt tabulate
-move-next t a n w i e h l =
-    let vs = bytesAt t (a + i) (n - i) in
-    let p = a + w + (i - 1) in
-    let q : a + w + i ≡ p + 1 = omega arith in
-    let m : n - (i - 1) ≡ suc (n - i) = omega arith in
-    let s : a + i ≡ a + (i - 1) + 1 = omega arith in
-    (λ j. set (e j) p (getD (e j) (a + (i - 1)) 0))
-    ∙ ap (set (putBytes t (a + w + i) vs) p) (put-before t (a + w + i) vs (a + (i - 1)) (omega arith))
-    ∙ sym (put-set-below t (a + w + i) vs p (getD t (a + (i - 1)) 0) (omega arith))
-    ∙ (λ j. putBytes (set t p (getD t (a + (i - 1)) 0)) (q j) (bytesAt t (s j) (n - i)))
-    ∙ ap (λ (k : ℕ). putBytes t p (bytesAt t (a + (i - 1)) k)) (sym m)
-
-pub move-done : {u : Bytes} (t : Bytes) (a n w i : ℕ) → u ≡ putBytes t (a + w + i) (bytesAt t (a + i) (n - i)) → i ≤ 0 → u ≡ putBytes t (a + w) (bytesAt t a n)
-move-done t a n w i e h =
-    let p : a + w + i ≡ a + w = omega arith in
-    let q : a + i ≡ a = omega arith in
-    let m : n - i ≡ n = omega arith in
-    e ∙ (λ j. putBytes t (p j) (bytesAt t (q j) (m j)))
 
 -- ---- a region written anew
 

@@ -6,7 +6,7 @@ use mathlib.Core.Path.{_≡_}
 use mathlib.Core.Bool.{cond}
 use lib.ListN.{replicate}
 use Rattle.model.specs.Sizes.{Bytes}
-use Rattle.storage.specs.Layout.{historyLength}
+use Rattle.storage_bytes.specs.Layout.{historyLength}
 use Rattle.storage.specs.Rules.{rightLength}
 use Rattle.storage.specs.declared.fresh.Made.{Made}
 use Rattle.storage.specs.declared.fresh.Made.the-variants.{Fresh, WrongLength}

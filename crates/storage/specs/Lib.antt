@@ -1,6 +1,3 @@
-pub mod Lists
-pub mod Words
-pub mod Layout
 pub mod Tables
 pub mod Decode
 pub mod Rules

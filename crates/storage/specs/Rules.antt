@@ -17,8 +17,9 @@ use lib.Dec.{leb, ltb, eqb}
 use lib.ListN.{length, getD, drop}
 use Rattle.model.specs.Sizes.{Bytes, indexLimit, contentLimit, prefixLimit, certificateLimit, findingLimit}
 use Rattle.model.specs.History.{Finding}
-use Rattle.storage.specs.Lists.{every}
-use Rattle.storage.specs.Layout.{historyLength}
+use Rattle.storage_bytes.specs.Lists.{every}
+use Rattle.storage_bytes.specs.Words.{sameBytes}
+use Rattle.storage_bytes.specs.Layout.{historyLength}
 use Rattle.storage.specs.Tables.{PrefixRow, NodeRow, CertificateRow, Tables, tablesIn, tablesOf}
 
 -- ---- every field in range
@@ -72,12 +73,6 @@ indexAmong before p = getD (0 ∷ map (λ r. r .index) before) p 0
 -- the row extends an earlier stored prefix by one index
 abbrev pub extends : List PrefixRow → PrefixRow → Bool
 extends before r = leb (r .parent) (length before) && eqb (r .index) (indexAmong before (r .parent) + 1)
-
-unfoldable pub sameBytes : Bytes → Bytes → Bool
-sameBytes [] [] = true
-sameBytes [] (b ∷ bs) = false
-sameBytes (a ∷ as′) [] = false
-sameBytes (a ∷ as′) (b ∷ bs) = eqb a b && sameBytes as′ bs
 
 -- the same prefix extended by the same entry
 unfoldable pub sameRow : PrefixRow → PrefixRow → Bool

@@ -6,9 +6,9 @@ use mathlib.Core.List.{List, [], _∷_, _++_}
 use lib.ListN.{set}
 use Rattle.model.specs.Sizes.{Bytes, nodes, contentLimit}
 use Rattle.model.specs.History.{Finding}
-use Rattle.storage.specs.Lists.{tabulate}
-use Rattle.storage.specs.Words.{wordAt, bytesAt}
-use Rattle.storage.specs.Layout.{part, headLength, nodesStart, nodesLength, termsStart, termsLength, certificatesStart, certificatesLength, findingsStart, findingsLength, prefixesStart, prefixesLength, nodeWidth, termWidth, certificateWidth, findingWidth, prefixWidth}
+use Rattle.storage_bytes.specs.Lists.{tabulate}
+use Rattle.storage_bytes.specs.Words.{wordAt, bytesAt}
+use Rattle.storage_bytes.specs.Layout.{part, headLength, nodesStart, nodesLength, termsStart, termsLength, certificatesStart, certificatesLength, findingsStart, findingsLength, prefixesStart, prefixesLength, nodeWidth, termWidth, certificateWidth, findingWidth, prefixWidth}
 
 -- a stored prefix: the number of the prefix that it extends, its own index, and its last entry's term and content
 pub record PrefixRow : Type 0 where

@@ -7,7 +7,7 @@ use mathlib.Core.List.{_++_}
 use lib.ListN.{length, take}
 use Rattle.model.specs.Sizes.{Bytes}
 use Rattle.model.specs.History.{Finding}
-use Rattle.storage.specs.Words.{wordAt, wordBytes, bytesAt, putBytes}
+use Rattle.storage_bytes.specs.Words.{wordAt, wordBytes, bytesAt, putBytes}
 use Rattle.storage.specs.Tables.{PrefixRow, NodeRow, CertificateRow, certificatesPart}
 
 unfoldable pub nodeBytes : NodeRow → Bytes

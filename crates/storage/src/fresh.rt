@@ -2,7 +2,7 @@
 ghost use mathlib.Core.Path.{_≡_};
 ghost use lib.ListN.{length};
 ghost use Rattle.storage.specs.Fresh.{zeros, FreshMade};
-use crate::layout::HISTORY_LENGTH;
+use storage_bytes::layout::HISTORY_LENGTH;
 
 pub enum Made {
     // The buffer holds a fresh history.

@@ -3,12 +3,12 @@
 ghost use mathlib.Core.Path.{_≡_};
 ghost use Prim.Native.Nat.{_≤_};
 ghost use lib.ListN.{length};
-ghost use Rattle.storage.specs.Words.{Word, wordBytes, putBytes};
+ghost use Rattle.storage_bytes.specs.Words.{Word, wordBytes, putBytes};
 ghost use Rattle.storage.specs.Writes.{committedSet};
-use crate::words::get8;
-use crate::words::get16;
-use crate::words::put8;
-use crate::words::put16;
+use storage_bytes::words::get8;
+use storage_bytes::words::get16;
+use storage_bytes::words::put8;
+use storage_bytes::words::put16;
 use units::NodeId;
 
 pub fn prefix_count(head: &[u8]) -> usize

@@ -2,7 +2,7 @@
 // answered 12. Bytes that stand for nothing may be anything.
 use libc::STDOUT_FILENO;
 use rules::whole::well_formed;
-use storage::layout::part;
+use storage_bytes::layout::part;
 
 // Three prefixes, two nodes with views, a committed prefix, two commit terms, two certificates of one term, a finding.
 const FILLED: usize = 37;

@@ -2,7 +2,7 @@
 -- Assumes nothing.
 use mathlib.Core.Path.{sym}
 use borrow.Author.Needs.{needs}
-use Rattle.records.proofs.Walks.{entries-length}
+use Rattle.record_walk.proofs.Walks.{entries-length}
 use Rattle.records_bench.proofs.records_bench_scan.Statement.{statement}
 use Rattle.records_bench.proofs.records_bench_scan.Tie as tie
 

@@ -5,9 +5,9 @@ use mathlib.Core.Path.{_≡_, ap, _∙_}
 use native.Mathlib.Omega.{arith}
 use borrow.Author.Needs.{needs}
 use lib.ListN.{length, take}
-use Rattle.records.specs.declared.walk.ShownEntry.{ShownEntry}
-use Rattle.records.proofs.Walks.{here, next-walk, entry-content, entry-length}
-use Rattle.records.specs.Places.{Walk, entriesAt, firstEntry}
+use Rattle.record_walk.specs.declared.walk.ShownEntry.{ShownEntry}
+use Rattle.record_walk.proofs.Walks.{here, next-walk, entry-content, entry-length}
+use Rattle.record_scan.specs.Places.{Walk, entriesAt, firstEntry}
 use Rattle.records_bench.proofs.Sums.{contents-next, contents-end}
 use Rattle.records_bench.specs.Used.{sumOf, contentsOf}
 use Rattle.records_bench.proofs.walk.Statement.{statement}

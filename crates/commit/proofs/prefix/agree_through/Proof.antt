@@ -2,7 +2,7 @@
 -- Assumes nothing.
 use Rattle.commit.proofs.PrefixTurns.{agree-short, agree-short-2, agree-same, slice-kept}
 use Rattle.storage.proofs.WellFormed.{formed}
-use Rattle.logical_log.proofs.TableLaws.{table-lent}
+use Rattle.log_prefix.proofs.TableLaws.{table-lent}
 use Prim.Native.Nat.{ℕ, _≤_}
 use borrow.Author.Needs.{needs}
 use native.Mathlib.Omega.{arith}

@@ -2,7 +2,7 @@
 -- Assumes nothing.
 use Rattle.commit.proofs.PrefixTurns.{unseen-length, note-room, note-full, note-so}
 use Rattle.storage.proofs.WellFormed.{formed}
-use Rattle.logical_log.proofs.ViolationLaws.{findings-long, kept-length}
+use Rattle.log_violation.proofs.ViolationLaws.{findings-long, kept-length}
 use lib.ListN.{length}
 use borrow.Author.Needs.{needs}
 use native.Mathlib.Omega.{arith}

@@ -2,8 +2,8 @@
 -- Assumes nothing.
 use Rattle.commit.proofs.PrefixTurns.{front-within, seen-is}
 use Rattle.storage.proofs.WellFormed.{formed}
-use Rattle.logical_log.proofs.TableLaws.{table-lent}
-use Rattle.storage.specs.Values.{nodeValue}
+use Rattle.log_prefix.proofs.TableLaws.{table-lent}
+use Rattle.table_rows.specs.Values.{nodeValue}
 use Prim.Native.Nat.{ℕ, _≤_}
 use borrow.Author.Needs.{needs}
 use native.Mathlib.Omega.{arith}

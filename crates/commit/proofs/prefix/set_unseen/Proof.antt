@@ -1,7 +1,7 @@
 -- `commit::prefix::set_unseen` meets its contract.
 -- Assumes nothing.
 use Rattle.commit.proofs.PrefixTurns.{unseen-is}
-use Rattle.storage.specs.Values.{nodeValue}
+use Rattle.table_rows.specs.Values.{nodeValue}
 use borrow.Author.Needs.{needs}
 use Rattle.commit.proofs.prefix.set_unseen.Statement.{statement}
 use Rattle.commit.proofs.prefix.set_unseen.Tie as tie

@@ -1,7 +1,7 @@
 -- `completeness::judgement::judge` meets its contract.
 -- Assumes nothing.
 use Rattle.completeness.proofs.JudgementLaws.{noted-length, judged-none, judged-some}
-use Rattle.storage.specs.Values.{certificateValue}
+use Rattle.certificate_rows.specs.Values.{certificateValue}
 use Rattle.completeness.proofs.judgement.judge.Statement.{statement}
 use Rattle.completeness.proofs.judgement.judge.Tie as tie
 

@@ -2,7 +2,7 @@
 -- Assumes nothing.
 use native.Mathlib.Omega.{arith}
 use borrow.Author.Needs.{needs}
-use Rattle.storage.specs.Values.{certificateValue}
+use Rattle.certificate_rows.specs.Values.{certificateValue}
 use Rattle.storage.proofs.WellFormed.{formed}
 use Rattle.commit.proofs.PrefixTurns.{kept-within}
 use Rattle.completeness.proofs.JudgementLaws.{lacks-absent, lacks-nothing, lacks-there}

@@ -1,9 +1,9 @@
 -- `completeness::judgement::note_lacking` meets its contract.
 -- Assumes nothing.
 use Rattle.completeness.proofs.JudgementLaws.{noted-none, noted-one}
-use Rattle.logical_log.proofs.ViolationLaws.{note-length}
+use Rattle.log_violation.proofs.ViolationLaws.{note-length}
 use borrow.Author.Tests.{not-true, not-false}
-use Rattle.storage.specs.Values.{certificateValue}
+use Rattle.certificate_rows.specs.Values.{certificateValue}
 use mathlib.Core.Path.{ap, _∙_}
 use lib.ListN.{length}
 use Rattle.completeness.proofs.judgement.note_lacking.Statement.{statement}

@@ -2,7 +2,7 @@
 -- Assumes nothing.
 use Rattle.completeness.proofs.CheckLaws.{checked-refused, checked-accepted, written-length}
 use Rattle.storage.proofs.WellFormed.{formed}
-use Rattle.logical_log.proofs.ViolationLaws.{findings-long}
+use Rattle.log_violation.proofs.ViolationLaws.{findings-long}
 use mathlib.Core.Path.{ap, _∙_}
 use native.Mathlib.Omega.{arith}
 use lib.ListN.{length}

@@ -1,7 +1,7 @@
 -- `completeness::leader_completeness::write` meets its contract.
 -- Assumes nothing.
 use Rattle.completeness.proofs.CheckLaws.{written-as, written-length}
-use Rattle.completeness.proofs.MarkLaws.{marks-length}
+use Rattle.check_marks.proofs.MarkLaws.{marks-length}
 use mathlib.Core.Path.{ap, _∙_}
 use lib.ListN.{length}
 use borrow.Author.Needs.{needs}

@@ -2,9 +2,9 @@
 -- Assumes nothing.
 use mathlib.Core.List.{List}
 use Rattle.storage.specs.Tables.{prefixRow}
-use Rattle.logical_log.specs.Prefix.{sliceOf}
+use Rattle.log_prefix.specs.Prefix.{sliceOf}
 use Rattle.storage.proofs.WellFormed.{formed}
-use Rattle.logical_log.proofs.TableLaws.{whole-table}
+use Rattle.log_prefix.proofs.TableLaws.{whole-table}
 use Prim.Native.Nat.{ℕ}
 use mathlib.Core.Path.{ap, _∙_}
 use native.Mathlib.Omega.{arith}

@@ -1,8 +1,8 @@
 -- `invariants::commit_safety::first_failing` meets its contract: the first failing row is the first failing one of what is left.
 -- Assumes nothing.
 use Rattle.model.specs.Rows.{failing}
-use Rattle.records.specs.Places.{RowWalk, rowsAt, firstRow}
-use Rattle.records.proofs.Walks.{row-here, next-row-walk}
+use Rattle.record_scan.specs.Places.{RowWalk, rowsAt, firstRow}
+use Rattle.record_walk.proofs.Walks.{row-here, next-row-walk}
 use Rattle.invariants.specs.Rules.{ruleOf}
 use Rattle.invariants.proofs.Passes.{pass-next, pass-stop, pass-end}
 use mathlib.Core.Path.{_≡_, refl}

@@ -1,6 +1,6 @@
 -- `lists::findings::comes_before` meets its contract.
 -- Assumes nothing.
-use Rattle.storage.specs.Values.{findingValue}
+use Rattle.table_rows.specs.Values.{findingValue}
 use Rattle.lists.proofs.OrderLaws.{other-name, other-node, other-term, same-term}
 use Rattle.lists.proofs.findings.comes_before.Statement.{statement}
 use Rattle.lists.proofs.findings.comes_before.Tie as tie

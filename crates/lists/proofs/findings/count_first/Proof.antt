@@ -9,9 +9,9 @@ use borrow.Author.Count.{falls}
 use borrow.Author.Needs.{needs}
 use borrow.Author.Tests.{not-true, not-false}
 use native.Mathlib.Nat.{zero-add, add-zero}
-use Rattle.storage.specs.Lists.{tabulate}
+use Rattle.storage_bytes.specs.Lists.{tabulate}
 use Rattle.storage.specs.Tables.{findingRow}
-use Rattle.storage.specs.Values.{findingValue}
+use Rattle.table_rows.specs.Values.{findingValue}
 use Rattle.lists.specs.Findings.{comesBefore, countFirst}
 use Rattle.lists.proofs.OrderLaws.{count-next, count-done}
 use Rattle.lists.proofs.findings.count_first.Statement.{statement}

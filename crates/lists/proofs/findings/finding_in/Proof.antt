@@ -8,9 +8,9 @@ use mathlib.Core.List.{List}
 use borrow.Author.Count.{falls}
 use borrow.Author.Needs.{needs}
 use Rattle.model.specs.History.{Finding}
-use Rattle.storage.specs.Lists.{tabulate}
+use Rattle.storage_bytes.specs.Lists.{tabulate}
 use Rattle.storage.specs.Tables.{findingRow, findingRows}
-use Rattle.storage.proofs.ListLaws.{from-zero}
+use Rattle.storage_bytes.proofs.ListLaws.{from-zero}
 use Rattle.lists.specs.Findings.{countFirst, findingOf, pickOrdered}
 use Rattle.lists.proofs.OrderLaws.{order-here, order-behind, order-front, order-none}
 use Rattle.lists.proofs.findings.finding_in.Statement.{statement}

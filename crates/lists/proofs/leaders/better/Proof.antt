@@ -2,7 +2,7 @@
 -- Assumes nothing.
 use mathlib.Core.Path.{sym, _∙_}
 use borrow.Author.Needs.{needs}
-use Rattle.storage.specs.Values.{findingValue}
+use Rattle.table_rows.specs.Values.{findingValue}
 use Rattle.lists.specs.Leaders.{pair}
 use Rattle.lists.proofs.LeaderLaws.{better-other, better-low, better-taken}
 use Rattle.lists.proofs.leaders.better.Statement.{statement}

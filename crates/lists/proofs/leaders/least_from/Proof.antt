@@ -4,7 +4,7 @@ use Prim.Native.Nat.{_-_, _≤_}
 use mathlib.Core.Path.{_≡_}
 use native.Mathlib.Omega.{arith}
 use borrow.Author.Needs.{needs}
-use Rattle.storage.specs.Lists.{tabulate}
+use Rattle.storage_bytes.specs.Lists.{tabulate}
 use Rattle.storage.specs.Tables.{findingRow}
 use Rattle.lists.specs.Leaders.{pair, leastIn}
 use Rattle.lists.proofs.LeaderLaws.{least-start, least-next, least-done}

@@ -5,10 +5,10 @@ use mathlib.Core.Path.{ap, _∙_}
 use lib.ListN.{length}
 use borrow.Author.Needs.{needs}
 use Rattle.model.specs.Sizes.{Bytes}
-use Rattle.storage.specs.Words.{putBytes}
+use Rattle.storage_bytes.specs.Words.{putBytes}
 use Rattle.storage.specs.Tables.{NodeRow, nodeRow}
 use Rattle.storage.specs.Writes.{nodeBytes}
-use Rattle.storage.proofs.WordLaws.{put-length}
+use Rattle.storage_bytes.proofs.WordLaws.{put-length}
 use Rattle.logical_log.specs.Observation.{viewReplaced}
 use Rattle.logical_log.proofs.observation.replace_view.Statement.{statement}
 use Rattle.logical_log.proofs.observation.replace_view.Tie as tie

@@ -3,10 +3,10 @@
 use mathlib.Core.Path.{sym, _∙_, ap, subst}
 use lib.ListN.{length}
 use borrow.Author.Needs.{needs}
-use Rattle.records.proofs.Walks.{here}
+use Rattle.record_walk.proofs.Walks.{here}
 use Rattle.storage.proofs.WellFormed.{formed}
 use Rattle.logical_log.specs.Observation.{StoredAs}
-use Rattle.logical_log.proofs.Written.{answer-longer, answer-stays}
+use Rattle.log_prefix.proofs.Written.{answer-longer, answer-stays}
 use Rattle.logical_log.proofs.Writing.{Written, writing-starts, writing-ends, writing-gap, writing-asks, writing-next}
 use Rattle.logical_log.proofs.observation.store.Statement.{statement}
 use Rattle.logical_log.proofs.observation.store.Tie as tie

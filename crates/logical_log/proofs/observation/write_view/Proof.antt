@@ -5,7 +5,7 @@ use lib.ListN.{length}
 use borrow.Author.Needs.{needs}
 use Rattle.storage.proofs.WellFormed.{formed}
 use Rattle.logical_log.proofs.Whole.{view-written, replaced-length}
-use Rattle.logical_log.proofs.ViolationLaws.{kept-length}
+use Rattle.log_violation.proofs.ViolationLaws.{kept-length}
 use Rattle.logical_log.proofs.observation.write_view.Statement.{statement}
 use Rattle.logical_log.proofs.observation.write_view.Tie as tie
 

@@ -5,8 +5,8 @@ use native.Mathlib.Omega.{arith}
 use borrow.Author.Needs.{needs}
 use Rattle.model.specs.Reading.{commitFields}
 use Rattle.records.proofs.Heads.{finish-head}
-use Rattle.bit_fields.proofs.Readers.{limited-within}
-use Rattle.records.proofs.Given.{number-is, field-below}
+use Rattle.record_fields.proofs.LimitLaws.{limited-within}
+use Rattle.record_scan.proofs.Given.{number-is, field-below}
 use Rattle.records.proofs.head.read_commit.Statement.{statement}
 use Rattle.records.proofs.head.read_commit.Tie as tie
 

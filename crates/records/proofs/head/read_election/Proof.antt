@@ -5,7 +5,7 @@ use native.Mathlib.Omega.{arith}
 use borrow.Author.Needs.{needs}
 use Rattle.model.specs.Reading.{electionFields}
 use Rattle.records.proofs.Heads.{finish-head}
-use Rattle.records.proofs.Given.{number-is, field-below}
+use Rattle.record_scan.proofs.Given.{number-is, field-below}
 use Rattle.records.proofs.head.read_election.Statement.{statement}
 use Rattle.records.proofs.head.read_election.Tie as tie
 

@@ -4,11 +4,11 @@ use mathlib.Core.Path.{refl}
 use native.Mathlib.Omega.{arith}
 use borrow.Author.Needs.{needs}
 use Rattle.model.specs.Reading.{many, row, rowsFields}
-use Rattle.records.specs.Places.{nodeOf}
+use Rattle.record_scan.specs.Places.{nodeOf}
 use Rattle.records.proofs.Heads.{finish-head}
-use Rattle.records.proofs.Walks.{rows-scanned}
-use Rattle.records.proofs.Listed.{end-not}
-use Rattle.records.proofs.Given.{number-is, limited-is}
+use Rattle.record_scan.proofs.Scanned.{rows-scanned}
+use Rattle.record_scan.proofs.Listed.{end-not}
+use Rattle.record_scan.proofs.Given.{number-is, limited-is}
 use Rattle.records.proofs.head.read_rows.Statement.{statement}
 use Rattle.records.proofs.head.read_rows.Tie as tie
 

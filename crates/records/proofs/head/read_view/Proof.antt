@@ -4,12 +4,12 @@ use mathlib.Core.Path.{refl}
 use native.Mathlib.Omega.{arith}
 use borrow.Author.Needs.{needs}
 use Rattle.model.specs.Reading.{many, shown, viewFields}
-use Rattle.records.specs.Places.{indexOf}
+use Rattle.record_scan.specs.Places.{indexOf}
 use Rattle.records.proofs.Heads.{finish-head}
-use Rattle.bit_fields.proofs.Readers.{limited-within}
-use Rattle.records.proofs.Walks.{entries-scanned}
-use Rattle.records.proofs.Listed.{end-not}
-use Rattle.records.proofs.Given.{number-is, field-below, limited-is}
+use Rattle.record_fields.proofs.LimitLaws.{limited-within}
+use Rattle.record_scan.proofs.Scanned.{entries-scanned}
+use Rattle.record_scan.proofs.Listed.{end-not}
+use Rattle.record_scan.proofs.Given.{number-is, field-below, limited-is}
 use Rattle.records.proofs.head.read_view.Statement.{statement}
 use Rattle.records.proofs.head.read_view.Tie as tie
 

@@ -2,7 +2,7 @@
 -- Assumes nothing.
 use Rattle.storage.proofs.RuleLaws.{within, Limited, stop, pass}
 use Rattle.rules.proofs.Turns.{wrong-length, rules-in-turn}
-use Rattle.storage.specs.Words.{wordAt}
+use Rattle.storage_bytes.specs.Words.{wordAt}
 use borrow.Author.Tests.{not-true, not-false}
 use Prim.Native.Nat.{_≤_}
 use mathlib.Core.Path.{refl, sym, _∙_}

@@ -6,10 +6,10 @@ use mathlib.Core.Logic.{⊎-elim}
 use native.Mathlib.Omega.{arith}
 use lib.ListN.{length}
 use borrow.Author.Needs.{needs}
-use Rattle.sheet_text.proofs.split.Piece.{the-type}
+use Rattle.sheet_pieces.proofs.split.Piece.{the-type}
 use denote.Enum.Declared.{tagOf}
-use Rattle.sheet_text.proofs.SplitLaws.{whole-within}
-use Rattle.sheet_text.proofs.PutLaws.{put-kept}
+use Rattle.sheet_pieces.proofs.SplitLaws.{whole-within}
+use Rattle.sheet_numbers.proofs.PutLaws.{put-kept}
 use Rattle.sheet_text.proofs.TakingLaws.{Taking, taking-none, taking-next, taking-ends}
 use Rattle.sheet_text.proofs.taking.take_some.Statement.{statement}
 use Rattle.sheet_text.proofs.taking.take_some.Tie as tie

@@ -1,7 +1,7 @@
 -- `storage::head::set_committed` meets its contract.
 -- Assumes nothing.
 use mathlib.Core.List.{List}
-use Rattle.storage.specs.Words.{wordBytes, putBytes}
+use Rattle.storage_bytes.specs.Words.{wordBytes, putBytes}
 use Rattle.storage.specs.Writes.{committedSet}
 use Prim.Native.Nat.{ℕ}
 use mathlib.Core.Path.{ap, _∙_}

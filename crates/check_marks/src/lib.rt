@@ -1,0 +1,2 @@
+// The marks of the certificates that a check moves. Stands on term_marks, which writes a mark.
+pub mod marks;

@@ -1,0 +1,60 @@
+// Checked marks: that of a certificate moves to the committed end where that passes it, with or without a relevant index.
+// Only the mark moves.
+ghost use mathlib.Core.Path.{_≡_};
+ghost use Prim.Native.Nat.{_≤_, _<_};
+ghost use lib.ListN.{length};
+ghost use Rattle.storage_bytes.specs.Words.{wordAt};
+ghost use Rattle.certificate_rows.specs.Values.{certificateValue};
+ghost use Rattle.check_marks.specs.Marks.{markedRow, markMoved, marksMoved};
+use certificate_rows::certificates::Certificate;
+use certificate_rows::certificates::certificate_at;
+use storage::head::certificate_count;
+use storage_bytes::layout::CERTIFICATES_LENGTH;
+use storage_bytes::layout::CERTIFICATES_START;
+use storage_bytes::layout::part;
+use term_marks::marks::set_mark as store_mark;
+use units::LogIndex;
+
+// Sets the mark of a lent certificate. Every other field stays.
+fn set_mark(c: &mut Certificate, through: LogIndex)
+    ensures { λ _. ⌜ certificateValue (now (c .exit)) ≡ markedRow (certificateValue (now (c .entry))) (through .0) ⌝ }
+{
+    c.mark.0 = through.0;
+}
+
+// The same by value: only this function lends a certificate, so its callers need no walk by hand.
+fn with_mark(c: Certificate, through: LogIndex) -> Certificate
+    ensures { λ r. ⌜ certificateValue r ≡ markedRow (certificateValue c) (through .0) ⌝ }
+{
+    let mut moved = c;
+    set_mark(&mut moved, through);
+    moved
+}
+
+// The mark of certificate k.
+pub fn move_mark(history: &mut [u8], k: usize, end: LogIndex)
+    requires { ⌜ (k < 64) × (length (now history) ≡ 24137) ⌝ }
+    ensures { λ r. ⌜ now (history .exit) ≡ markMoved (now (history .entry)) k (end .0) ⌝ }
+{
+    let c = certificate_at(
+        part(&history[..], CERTIFICATES_START, CERTIFICATES_LENGTH),
+        k,
+    );
+    if c.mark.0 < end.0 {
+        let moved = with_mark(c, end);
+        store_mark(&mut history[..], k, moved.mark);
+    }
+}
+
+// The marks of all certificates.
+pub fn move_marks(history: &mut [u8], end: LogIndex)
+    requires { ⌜ (wordAt (now history) 6 1 ≤ 64) × (length (now history) ≡ 24137) ⌝ }
+    ensures { λ r. ⌜ now (history .exit) ≡ marksMoved (now (history .entry)) (end .0) 0 (wordAt (now (history .entry)) 6 1) ⌝ }
+{
+    let m = certificate_count(&history[..]);
+    let mut k = 0;
+    while k < m {
+        move_mark(&mut history[..], k, end);
+        k += 1;
+    }
+}

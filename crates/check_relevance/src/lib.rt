@@ -1,0 +1,2 @@
+// The last committed index after a certificate's mark that is of an earlier term. Stands on table_rows and prefix_rows.
+pub mod relevance;

@@ -1,0 +1,3 @@
+pub mod TermTurns
+pub mod TermLaws
+pub mod Meaning

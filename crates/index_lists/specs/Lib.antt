@@ -1,0 +1,4 @@
+pub mod Picked
+pub mod Committed
+pub mod Unseen
+pub mod Unknown

@@ -1,0 +1,92 @@
+// Findings are noted once (types/violation.rs). They are gathered in a copy of the history's table while a record is judged, so
+// that nothing of the history is written before it is accepted; then the copy is written back.
+ghost use mathlib.Core.Path.{_≡_};
+ghost use Prim.Native.Nat.{_≤_, _<_};
+ghost use lib.ListN.{length};
+ghost use Rattle.storage_bytes.specs.Words.{wordAt};
+ghost use Rattle.storage.specs.Tables.{findingRow, findingsPart};
+ghost use Rattle.table_rows.specs.Values.{findingValue};
+ghost use Rattle.log_violation.specs.Violation.{sameNumbers, notedAt, noteHeld, noteBytes, findingsKept};
+use storage::head::finding_count;
+use storage::head::set_finding_count;
+use storage_bytes::layout::FINDINGS_LENGTH;
+use storage_bytes::layout::FINDINGS_START;
+use storage_bytes::layout::part;
+use storage_bytes::words::put_bytes;
+use table_rows::findings::Found;
+use table_rows::findings::finding_at;
+use table_rows::findings::put_finding;
+use units::FINDING_LIMIT;
+
+// Row k is the finding.
+fn is_finding(findings: &[u8], k: usize, f: Found) -> bool
+    requires { ⌜ (k < 128) × (length (now findings) ≡ 1024) ⌝ }
+    ensures { λ r. ⌜ r ≡ sameNumbers (findingRow (now (findings .entry)) k) (findingValue f) ⌝ }
+{
+    let g = finding_at(findings, k);
+    if g.name != f.name {
+        return false;
+    }
+    if g.node.0 != f.node.0 {
+        return false;
+    }
+    if g.index.0 != f.index.0 {
+        return false;
+    }
+    g.term.0 == f.term.0
+}
+
+// The place of the finding among the first n, one more than it, or 0.
+fn noted_at(findings: &[u8], n: usize, f: Found) -> usize
+    requires { ⌜ (n ≤ 128) × (length (now findings) ≡ 1024) ⌝ }
+    ensures { λ r. ⌜ r ≡ notedAt (now (findings .entry)) n (findingValue f) ⌝ }
+{
+    let mut k = 0;
+    while k < n {
+        if is_finding(findings, k, f) {
+            return k + 1;
+        }
+        k += 1;
+    }
+    0
+}
+
+// The finding is noted among n, once; how many are held then. One more than the limit: there are too many.
+pub fn note(findings: &mut [u8], n: usize, f: Found) -> usize
+    requires { ⌜ (n ≤ 129) × (length (now findings) ≡ 1024) ⌝ }
+    ensures { λ r. ⌜ (r ≡ noteHeld (now (findings .entry)) n (findingValue f)) × (now (findings .exit) ≡ noteBytes (now (findings .entry)) n (findingValue f)) ⌝ }
+{
+    if FINDING_LIMIT < n {
+        return n;
+    }
+    if noted_at(&findings[..], n, f) != 0 {
+        return n;
+    }
+    if n == FINDING_LIMIT {
+        return n + 1;
+    }
+    put_finding(&mut findings[..], n, f);
+    n + 1
+}
+
+// A copy of the history's findings, and how many it holds.
+pub fn copy_findings(history: &[u8], findings: &mut [u8]) -> usize
+    requires { ⌜ (length (now history) ≡ 24137) × (length (now findings) ≡ 1024) ⌝ }
+    ensures { λ r. ⌜ (r ≡ wordAt (now (history .entry)) 7 1) × (now (findings .exit) ≡ findingsPart (now (history .entry))) ⌝ }
+{
+    put_bytes(
+        &mut findings[..],
+        0,
+        part(history, FINDINGS_START, FINDINGS_LENGTH),
+    );
+    finding_count(history)
+}
+
+// The findings that were gathered become the history's.
+pub fn keep_findings(history: &mut [u8], findings: &[u8], held: usize)
+    requires { ⌜ (length (now history) ≡ 24137) × (length (now findings) ≡ 1024) ⌝ }
+    ensures { λ r. ⌜ now (history .exit) ≡ findingsKept (now (history .entry)) (now (findings .entry)) held ⌝ }
+{
+    put_bytes(&mut history[..], FINDINGS_START, findings);
+    set_finding_count(&mut history[..], held);
+}

@@ -1,0 +1,2 @@
+// The storage rules of the prefixes: each extends an earlier one by one index, and none is stored twice. Stands on prefix_rows.
+pub mod prefixes;

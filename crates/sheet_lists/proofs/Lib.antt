@@ -1,0 +1,2 @@
+pub mod ListBounds
+pub mod ClosingLaws

@@ -1,0 +1,49 @@
+// Where each table of a history lies in its lent bytes, and how wide its rows are.
+// A table's functions take only its own region, so that they can touch no other.
+ghost use Prim.Native.Nat.{_+_, _≤_};
+ghost use lib.ListN.{length};
+ghost use Rattle.storage_bytes.specs.Layout.{Part};
+
+// The length of the whole.
+pub const HISTORY_LENGTH: usize = 24137;
+
+pub const HEAD_LENGTH: usize = 9;
+
+pub const NODES_START: usize = 9;
+
+pub const NODES_LENGTH: usize = 384;
+
+pub const TERMS_START: usize = 393;
+
+pub const TERMS_LENGTH: usize = 1024;
+
+pub const CERTIFICATES_START: usize = 1417;
+
+pub const CERTIFICATES_LENGTH: usize = 704;
+
+pub const FINDINGS_START: usize = 2121;
+
+pub const FINDINGS_LENGTH: usize = 1024;
+
+pub const PREFIXES_START: usize = 3145;
+
+pub const PREFIXES_LENGTH: usize = 20992;
+
+pub const NODE_WIDTH: usize = 6;
+
+pub const TERM_WIDTH: usize = 4;
+
+pub const CERTIFICATE_WIDTH: usize = 11;
+
+pub const FINDING_WIDTH: usize = 8;
+
+pub const PREFIX_WIDTH: usize = 41;
+
+// The n bytes from a on.
+pub fn part(h: &[u8], a: usize, n: usize) -> &[u8]
+    requires { ⌜ a + n ≤ length (now h) ⌝ }
+    ensures { λ r. ⌜ Part (now (h .entry)) a n (now r) ⌝ }
+{
+    let e = a + n;
+    &h[a..e]
+}

@@ -1,0 +1,48 @@
+// Any bytes, to any history: 12 first, then reading, then the kind's own refusals, then acceptance with value and node.
+ghost use mathlib.Core.Path.{_≡_};
+ghost use mathlib.Core.Bool.{true};
+ghost use Rattle.records.specs.Heads.{Told};
+ghost use Rattle.storage.specs.Rules.{wellFormed};
+ghost use Rattle.record_kinds.specs.Replies.{Replied, Submitted};
+use answers::answer::Answer;
+use record_kinds::kinds::take_check;
+use record_kinds::kinds::take_commit;
+use record_kinds::kinds::take_election;
+use record_kinds::kinds::take_rows;
+use record_kinds::kinds::take_terms;
+use record_kinds::kinds::take_view;
+use records::head::Head;
+use records::head::read;
+use rules::whole::well_formed;
+
+// The record of that head, to a history that keeps the storage rules.
+fn dispatch(history: &mut [u8], s: &[u8], head: Head) -> Answer
+    requires { ⌜ (wellFormed (now history) ≡ true) × Told (now s) head ⌝ }
+    ensures { λ r. ⌜ Replied (now (history .entry)) (now (s .entry)) head r (now (history .exit)) ⌝ }
+{
+    match head {
+        Head::View { node, count } => take_view(&mut history[..], s, node, count),
+        Head::Commit { node, index } => take_commit(&mut history[..], s, node, index),
+        Head::Terms { old, new, term } => take_terms(&mut history[..], s, old, new, term),
+        Head::Election {
+            leader,
+            term,
+            present,
+            length,
+        } => take_election(&mut history[..], s, leader, term, present, length),
+        Head::Check => take_check(&mut history[..], s),
+        Head::Rows { count } => take_rows(s, count),
+        Head::Unreadable(f) => Answer::Unreadable(f),
+    }
+}
+
+// One record: a refused one leaves every byte.
+pub fn submit(history: &mut [u8], s: &[u8]) -> Answer
+    ensures { λ r. ⌜ Submitted (now (history .entry)) (now (s .entry)) r (now (history .exit)) ⌝ }
+{
+    if !well_formed(&history[..]) {
+        return Answer::StorageBroken;
+    }
+    let head = read(s);
+    dispatch(&mut history[..], s, head)
+}

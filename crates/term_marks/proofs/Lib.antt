@@ -1,0 +1,2 @@
+pub mod MarkTurns
+pub mod MarkLaws

@@ -1,0 +1,61 @@
+-- `term_marks::marks::lower_marks` meets its contract.
+-- Assumes nothing.
+use Rattle.term_marks.proofs.MarkTurns.{Lowering, lowering-starts, lowering-next, lowering-ends}
+use Prim.Native.Nat.{_-_}
+use borrow.Author.Needs.{needs}
+use native.Mathlib.Omega.{arith}
+use mathlib.Core.Path.{sym, _∙_}
+use Rattle.term_marks.proofs.marks.lower_marks.Statement.{statement}
+use Rattle.term_marks.proofs.marks.lower_marks.Tie as tie
+
+abbrev Inv-loop : tie.InvT-loop
+Inv-loop history₀ n term first k₀ history k = Lowering history₀ n (term .0) (first .0) history k
+
+abbrev μ-loop : tie.MeasureT-loop
+μ-loop history₀ n term first k₀ history k = n - k
+
+loop-holds : tie.Need-loop-holds Inv-loop μ-loop
+loop-holds c =
+    let s = c .before in
+    lowering-starts (s .args .history .now) (s .args .n) (s .args .term .0) (s .args .first .0) (s .pre .2)
+
+lower-mark-requires : tie.Need-lower-mark-requires Inv-loop μ-loop
+lower-mark-requires c κs =
+    let l = c .before .before .loop in
+    let s = c .before .before .before .before in
+    (omega arith, s .pre .1, l .inv .long)
+
+add-k : tie.Need-add-k Inv-loop μ-loop
+add-k c = search needs
+
+loop-less : tie.Need-loop-less Inv-loop μ-loop
+loop-less c = search needs
+
+loop-again : tie.Need-loop-again Inv-loop μ-loop
+loop-again c =
+    let l = c .before .before .before .before .before .loop in
+    let s = c .before .before .before .before .before .before .before in
+    lowering-next (s .args .history .now) (s .args .n) (s .args .term .0) (s .args .first .0) (l .history) (l .k) (l .inv) (c .before .before .before .before .loop-test .taken) _ (c .before .before .lower-mark .ensures)
+
+same-length : tie.Need-same-length Inv-loop μ-loop
+same-length c = c .before .loop .inv .long ∙ sym (c .before .before .before .pre .2)
+
+returns : tie.Need-returns Inv-loop μ-loop
+returns c =
+    let l = c .before .loop in
+    let s = c .before .before .before in
+    lowering-ends (s .args .history .now) (s .args .n) (s .args .term .0) (s .args .first .0) (l .history) (l .k) (l .inv) (c .loop-test .left)
+
+pub lower-marks-spec : {M : Type 1} → statement M
+lower-marks-spec =
+    tie.close
+    (tie.spec
+    Inv-loop
+    μ-loop
+    loop-holds
+    lower-mark-requires
+    add-k
+    loop-less
+    loop-again
+    same-length
+    returns)

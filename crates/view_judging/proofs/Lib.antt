@@ -1,0 +1,4 @@
+pub mod Judge
+pub mod Turns
+pub mod Rest
+pub mod Judged
