@@ -4,11 +4,12 @@ ghost use lib.ListN.{length};
 ghost use Rattle.sheet_numbers.specs.Decimal.{Put};
 ghost use Rattle.sheet_text.specs.Sheet.{cutLine, HandedOver, Taken};
 use answers::numbers::Reply;
-use history::exports::gamiwhoru_submit;
+use answers::numbers::reply_of;
 use sheet_lines::lines::put_record;
 use sheet_pieces::split::Piece;
 use sheet_pieces::split::piece_at;
 use storage_bytes::layout::part;
+use submission::submit::submit;
 
 // So many records are taken at a time: their lines have room in the output.
 pub const SOME: usize = 600;
@@ -43,7 +44,8 @@ fn hand_over(history: &mut [u8], s: &[u8], out: &mut [u8], at: usize, number: u6
         return put_cut(&mut out[..], at, number);
     }
     let kind = s[0] / 16;
-    let r = gamiwhoru_submit(&mut history[..], s);
+    let a = submit(&mut history[..], s);
+    let r = reply_of(a);
     put_record(&mut out[..], at, number, kind, r)
 }
 
