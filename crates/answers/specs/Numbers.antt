@@ -7,6 +7,10 @@ use Rattle.bit_fields.specs.Answers.{refusalOf}
 use Rattle.answers.specs.declared.answer.Answer.{Answer}
 use Rattle.answers.specs.declared.numbers.Reply.{Reply}
 
+-- accepted with a value, and no row that fails
+abbrev pub acceptedWith : ℕ → Answer
+acceptedWith v = Answer.Accepted v (record { 0 = 0 })
+
 -- a refusal: value and node are 0
 abbrev pub refusalIn : ℕ → Reply
 refusalIn n = record { refusal = n; value = 0; node = 0 }

@@ -12,7 +12,8 @@ use Rattle.storage_bytes.specs.Words.{wordAt}
 use Rattle.storage.specs.Tables.{CertificateRow, certificateRow, certificatesPart}
 use Rattle.term_marks.specs.Marks.{markSet, certificateOf}
 use Rattle.term_marks.proofs.MarkTurns.{mark-length}
-use Rattle.check_marks.specs.Marks.{markedRow, markMoved, marksMoved}
+use Rattle.certificate_mark.specs.Marks.{markedRow}
+use Rattle.check_marks.specs.Marks.{markMoved, marksMoved}
 
 -- ---- one certificate
 

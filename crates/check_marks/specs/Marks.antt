@@ -5,13 +5,7 @@ use mathlib.Core.Bool.{cond}
 use lib.Dec.{ltb}
 use Rattle.model.specs.Sizes.{Bytes}
 use Rattle.storage_bytes.specs.Words.{wordAt}
-use Rattle.storage.specs.Tables.{CertificateRow}
 use Rattle.term_marks.specs.Marks.{markSet, certificateOf}
-
--- a certificate with another mark
-abbrev pub markedRow : CertificateRow → ℕ → CertificateRow
-markedRow c m =
-    record { term = c .term; log = c .log; mark = m; leader = c .leader; number = c .number; present = c .present }
 
 -- the mark of certificate k at the end, where that passes it
 unfoldable pub markMoved : Bytes → ℕ → ℕ → Bytes

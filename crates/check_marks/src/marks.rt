@@ -4,9 +4,8 @@ ghost use mathlib.Core.Path.{_≡_};
 ghost use Prim.Native.Nat.{_≤_, _<_};
 ghost use lib.ListN.{length};
 ghost use Rattle.storage_bytes.specs.Words.{wordAt};
-ghost use Rattle.certificate_rows.specs.Values.{certificateValue};
-ghost use Rattle.check_marks.specs.Marks.{markedRow, markMoved, marksMoved};
-use certificate_rows::certificates::Certificate;
+ghost use Rattle.check_marks.specs.Marks.{markMoved, marksMoved};
+use certificate_mark::mark::with_mark;
 use certificate_rows::certificates::certificate_at;
 use storage::head::certificate_count;
 use storage_bytes::layout::CERTIFICATES_LENGTH;
@@ -14,22 +13,6 @@ use storage_bytes::layout::CERTIFICATES_START;
 use storage_bytes::layout::part;
 use term_marks::marks::set_mark as store_mark;
 use units::LogIndex;
-
-// Sets the mark of a lent certificate. Every other field stays.
-fn set_mark(c: &mut Certificate, through: LogIndex)
-    ensures { λ _. ⌜ certificateValue (now (c .exit)) ≡ markedRow (certificateValue (now (c .entry))) (through .0) ⌝ }
-{
-    c.mark.0 = through.0;
-}
-
-// The same by value: only this function lends a certificate, so its callers need no walk by hand.
-fn with_mark(c: Certificate, through: LogIndex) -> Certificate
-    ensures { λ r. ⌜ certificateValue r ≡ markedRow (certificateValue c) (through .0) ⌝ }
-{
-    let mut moved = c;
-    set_mark(&mut moved, through);
-    moved
-}
 
 // The mark of certificate k.
 pub fn move_mark(history: &mut [u8], k: usize, end: LogIndex)

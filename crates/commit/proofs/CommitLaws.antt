@@ -22,15 +22,16 @@ use Rattle.storage_bytes.proofs.ListLaws.{tabulate-length}
 use Rattle.storage.proofs.RuleLaws.{pass, stop}
 use Rattle.storage.proofs.DecodeLaws.{FindingNamed}
 use Rattle.storage.proofs.Meanings.{Stands, withNoted, findings-right, noted-right}
-use Rattle.log_prefix.specs.declared.prefix.Slice.{Slice}
+use Rattle.prefix_lookup.specs.declared.lookup.Slice.{Slice}
 use Rattle.log_violation.specs.Violation.{findingsKept}
-use Rattle.log_prefix.specs.Prefix.{sliceOf}
-use Rattle.commit.specs.Prefix.{keptOf, rowsOf, nodeOf, seenOf, longerIn, endIn, agreeIn, flagsOf, unseenSet, keepBytes, difference, heldWith, tableWith, noteAnswer, noteLeaves, commitAnswer, commitBytes, Inserted, Observed}
-use Rattle.commit.specs.declared.prefix.Kept.{Kept}
-use Rattle.commit.specs.declared.prefix.CommitAnswer.{CommitAnswer}
+use Rattle.prefix_lookup.specs.Prefix.{sliceOf}
+use Rattle.committed_prefix.specs.Prefix.{keptOf, rowsOf, nodeOf, seenOf, longerIn, endIn, agreeIn, unseenSet, keepBytes, difference, heldWith, tableWith, noteAnswer, noteLeaves}
+use Rattle.commit.specs.Prefix.{flagsOf, commitAnswer, commitBytes, Inserted, Observed}
+use Rattle.committed_prefix.specs.declared.committed.Kept.{Kept}
+use Rattle.committed_prefix.specs.declared.committed.CommitAnswer.{CommitAnswer}
 use Rattle.storage.proofs.WellFormed.{formed}
 use Rattle.commit.proofs.PrefixTurns.{insert-differs, insert-longer, insert-shorter, observe-unseen, observe-zero, observe-first, observe-later}
-use Rattle.commit.proofs.PrefixLaws.{changed, at, committed-is, owner-is, front-is, findings-held, empty-is, Part, slice-is, longer-means, end-means, agree-means, end-limit, unseen-written, noted-written, difference-holds, table-length, keep-written}
+use Rattle.committed_prefix.proofs.PrefixLaws.{changed, at, committed-is, owner-is, front-is, findings-held, empty-is, Part, slice-is, longer-means, end-means, agree-means, end-limit, unseen-written, noted-written, difference-holds, table-length, keep-written}
 
 -- ---- of the model alone
 

@@ -1,4 +1,3 @@
 pub mod PrefixTurns
-pub mod PrefixLaws
 pub mod CommitLaws
 pub mod Meaning

@@ -1,130 +1,31 @@
--- What the functions on committed prefixes answer and leave, by what they read.
+-- What `insert_committed_prefix` and `observe_committed_prefixes` answer and leave, by what they read.
 -- Assumes nothing.
-use Prim.Native.Nat.{ℕ, zero, suc, _+_, _*_, _≤_, _<_}
-use native.Mathlib.Omega.{arith}
-use mathlib.Core.Path.{_≡_, refl, sym, _∙_, ap, subst}
+use Prim.Native.Nat.{ℕ, _≤_, _<_}
+use mathlib.Core.Path.{_≡_, refl, sym, _∙_, ap}
 use mathlib.Core.Bool.{Bool, true, false}
 use lib.Dec.{ltb, eqb}
 use lib.ListN.{length}
-use borrow.Author.Tests.{eq-eqb, ne-eqb, lt-ltb, le-ltb}
+use borrow.Author.Tests.{eq-eqb, ne-eqb}
 use Rattle.model.specs.Sizes.{Bytes}
 use Rattle.model.proofs.Tests.{cond-cases, cond-true, cond-false}
-use Rattle.storage_bytes.specs.Words.{wordAt, wordBytes, putBytes}
-use Rattle.storage.specs.Tables.{NodeRow, nodeRow, prefixRow, nodesPart, findingsPart, prefixesPart}
-use Rattle.storage.specs.Values.{numberIndex}
-use Rattle.storage.specs.Rules.{wellFormed}
-use Rattle.storage.specs.Writes.{nodeBytes, committedSet}
-use Rattle.storage_bytes.proofs.WordLaws.{put-length}
-use Rattle.log_prefix.specs.Prefix.{sliceOf}
-use Rattle.log_comparison.specs.Comparison.{sameFrom}
-use Rattle.log_violation.specs.Violation.{noteHeld, noteBytes, findingsKept}
-use Rattle.log_prefix.specs.declared.prefix.Slice.{Slice}
-use Rattle.log_prefix.proofs.TableLaws.{whole-table, slice-within}
-use Rattle.log_violation.proofs.ViolationLaws.{note-length, findings-long, kept-length}
-use Rattle.commit.specs.Prefix.{rowsOf, keptOf, nodeOf, seenOf, longerIn, endIn, sameSlices, agreeIn, flagsOf, unseenSet, keepBytes, difference, heldWith, tableWith, noteAnswer, noteLeaves, insertAnswer, insertLeaves, keptAnswer, keptLeaves, seenAnswer, seenLeaves, commitAnswer, commitBytes, Noted, Inserted, Observed}
-use Rattle.commit.specs.declared.prefix.Kept.{Kept}
-use Rattle.commit.specs.declared.prefix.CommitAnswer.{CommitAnswer}
+use Rattle.storage_bytes.specs.Words.{wordAt}
+use Rattle.log_violation.specs.Violation.{findingsKept}
+use Rattle.prefix_lookup.specs.declared.lookup.Slice.{Slice}
+use Rattle.log_violation.proofs.ViolationLaws.{kept-length}
+use Rattle.committed_prefix.specs.Prefix.{keptOf, nodeOf, seenOf, longerIn, endIn, agreeIn, unseenSet, keepBytes, heldWith, tableWith, noteAnswer, noteLeaves, Noted}
+use Rattle.commit.specs.Prefix.{flagsOf, insertAnswer, insertLeaves, keptAnswer, keptLeaves, seenAnswer, seenLeaves, commitAnswer, commitBytes, Inserted, Observed}
+use Rattle.committed_prefix.specs.declared.committed.Kept.{Kept}
+use Rattle.committed_prefix.specs.declared.committed.CommitAnswer.{CommitAnswer}
 use Rattle.storage.proofs.WellFormed.{Formed}
-
--- a part of a stored prefix is stored
-stored-within : (h : Bytes) (p i q : ℕ) → Formed h → p ≤ wordAt h 0 2 → sliceOf (rowsOf h) p i ≡ Slice.Prefix q → q ≤ wordAt h 0 2
-stored-within h p i q f l e = slice-within (prefixesPart h) (wordAt h 0 2) p i q (whole-table h f) l e
-
--- the committed prefix, where one is kept, is stored
-pub kept-within : (h : Bytes) → Formed h → (k : Kept) → k ≡ keptOf (wordAt h 4 2) → (c : ℕ) → k ≡ Kept.Prefix c → c ≤ wordAt h 0 2
-kept-within h f k ek c g = within (wordAt h 4 2) c (f .committed) (sym ek ∙ g)
-  where
-    within : (x y : ℕ) → x ≤ wordAt h 0 2 → keptOf x ≡ Kept.Prefix y → y ≤ wordAt h 0 2
-    within zero y l q = absurd (let v : _≡_ {A = ℕ} 0 1 = cc in omega arith)
-    within (suc x) y l q =
-        let d : Kept.Prefix (suc x) ≡ Kept.Prefix y = sym (cond-false (eqb (suc x) 0) Kept.Nothing (Kept.Prefix (suc x)) (ne-eqb (suc x) 0 (λ o. omega arith))) ∙ q in
-        let same : suc x ≡ y = cc in
-        omega arith
+use Rattle.committed_prefix.proofs.PrefixTurns.{stored-within, unseen-length, keep-length}
 
 -- ---- seen
-
-module _ (h : Bytes) (n : ℕ) (q : Bytes) (eq : q ≡ nodesPart h) (x : NodeRow) (ex : x ≡ nodeRow q n) where
-  node-read : x ≡ nodeOf h n
-  node-read = ex ∙ ap (λ (r : Bytes). nodeRow r n) eq
-
-  pub front-within : Formed h → n < 64 → x .front ≤ wordAt h 0 2
-  front-within f l = subst (λ (y : NodeRow). y .front ≤ wordAt h 0 2) (sym node-read) (f .node n l .front)
-
-  pub seen-is : (u : Bytes) → u ≡ prefixesPart h → (i : ℕ) (r : Slice) → r ≡ sliceOf (prefixRow u) (x .front) i → r ≡ seenOf h n i
-  unfolding seenOf
-  seen-is u eu i r e =
-      e ∙ ap (λ (y : Bytes). sliceOf (prefixRow y) (x .front) i) eu ∙ ap (λ (y : NodeRow). sliceOf (rowsOf h) (y .front) i) node-read
-
-  pub unseen-is : (m : ℕ) (u : Bytes) → u ≡ putBytes h (9 + n * 6) (nodeBytes (record { front = x .front; last = x .last; unseen = m })) → u ≡ unseenSet h n m
-  unfolding unseenSet
-  unseen-is m u e =
-      e ∙ ap (λ (y : NodeRow). putBytes h (9 + n * 6) (nodeBytes (record { front = y .front; last = y .last; unseen = m }))) node-read
 
 pub seen-within : (h : Bytes) (n i p : ℕ) → Formed h → n < 64 → seenOf h n i ≡ Slice.Prefix p → p ≤ wordAt h 0 2
 unfolding seenOf
 seen-within h n i p f l e = stored-within h (nodeOf h n .front) i p f (f .node n l .front) e
 
--- ---- compared
-
-module _ (h : Bytes) (a b : ℕ) (q : Bytes) (eq : q ≡ prefixesPart h) (i : ℕ) (ei : i ≡ numberIndex q a) (j : ℕ) (ej : j ≡ numberIndex q b) where
-  pub longer-is : ltb i j ≡ longerIn h a b
-  unfolding longerIn numberIndex
-  longer-is = (λ z. ltb (ei z) (ej z)) ∙ ap (λ (u : Bytes). ltb (numberIndex u a) (numberIndex u b)) eq
-
-  first-end : i ≡ numberIndex (prefixesPart h) a
-  first-end = ei ∙ ap (λ (u : Bytes). numberIndex u a) eq
-
-  second-end : j ≡ numberIndex (prefixesPart h) b
-  second-end = ej ∙ ap (λ (u : Bytes). numberIndex u b) eq
-
-  pub end-first : i < j → i ≡ endIn h a b
-  unfolding endIn numberIndex
-  end-first l = first-end ∙ sym (cond-true (longerIn h a b) _ _ (sym longer-is ∙ lt-ltb i j l))
-
-  pub end-second : j ≤ i → j ≡ endIn h a b
-  unfolding endIn numberIndex
-  end-second l = second-end ∙ sym (cond-false (longerIn h a b) _ _ (sym longer-is ∙ le-ltb i j l))
-
-module _ (h : Bytes) (a b i : ℕ) (q : Bytes) (eq : q ≡ prefixesPart h) (r : Slice) (er : r ≡ sliceOf (prefixRow q) a i) where
-  first-slice : sliceOf (rowsOf h) a i ≡ r
-  first-slice = sym (er ∙ ap (λ (u : Bytes). sliceOf (prefixRow u) a i) eq)
-
-  none-first : (s : Slice) → sameSlices (rowsOf h) Slice.Beyond s ≡ false
-  none-first (Slice.Prefix p) = refl
-  none-first Slice.Beyond = refl
-
-  pub agree-short : r ≡ Slice.Beyond → false ≡ agreeIn h a b i
-  unfolding agreeIn
-  agree-short e =
-      sym (ap (λ (x : Slice). sameSlices (rowsOf h) x (sliceOf (rowsOf h) b i)) (first-slice ∙ e) ∙ none-first (sliceOf (rowsOf h) b i))
-
-  pub slice-kept : (p : ℕ) → Formed h → a ≤ wordAt h 0 2 → r ≡ Slice.Prefix p → p ≤ wordAt h 0 2
-  slice-kept p f l e = stored-within h a i p f l (first-slice ∙ e)
-
-  module _ (p : ℕ) (e : r ≡ Slice.Prefix p) (s : Slice) (es : s ≡ sliceOf (prefixRow q) b i) where
-    both-slices : agreeIn h a b i ≡ sameSlices (rowsOf h) (Slice.Prefix p) s
-    unfolding agreeIn
-    both-slices =
-        ap (λ (x : Slice). sameSlices (rowsOf h) x (sliceOf (rowsOf h) b i)) (first-slice ∙ e)
-        ∙ ap (sameSlices (rowsOf h) (Slice.Prefix p)) (sym (es ∙ ap (λ (u : Bytes). sliceOf (prefixRow u) b i) eq))
-
-    pub agree-short-2 : s ≡ Slice.Beyond → false ≡ agreeIn h a b i
-    agree-short-2 g = sym (both-slices ∙ ap (sameSlices (rowsOf h) (Slice.Prefix p)) g)
-
-    pub agree-same : (p′ : ℕ) → s ≡ Slice.Prefix p′ → (v : Bool) → v ≡ sameFrom (prefixRow q) p p p′ → v ≡ agreeIn h a b i
-    agree-same p′ g v w =
-        w ∙ ap (λ (u : Bytes). sameFrom (prefixRow u) p p p′) eq ∙ sym (both-slices ∙ ap (sameSlices (rowsOf h) (Slice.Prefix p)) g)
-
 -- ---- lengths
-
-pub unseen-length : (h : Bytes) (n m : ℕ) → length (unseenSet h n m) ≡ length h
-unfolding unseenSet
-unseen-length h n m = put-length h (9 + n * 6) (nodeBytes (record { front = nodeOf h n .front; last = nodeOf h n .last; unseen = m }))
-
-pub keep-length : (h : Bytes) (n p : ℕ) → length (keepBytes h n p) ≡ length h
-unfolding keepBytes committedSet
-keep-length h n p =
-    put-length (putBytes (unseenSet h n 0) 4 (wordBytes 2 p)) 8 (wordBytes 1 n) ∙ put-length (unseenSet h n 0) 4 (wordBytes 2 p) ∙ unseen-length h n 0
 
 pub note-leaves-length : (h : Bytes) (n i : ℕ) → length (noteLeaves h n i) ≡ length h
 unfolding noteLeaves
@@ -138,38 +39,6 @@ insert-leaves-length h n c p =
     cond-cases (λ (u : Bytes). length u ≡ length h) (agreeIn h c p (endIn h c p)) _ _
     (λ _. cond-cases (λ (u : Bytes). length u ≡ length h) (longerIn h c p) _ _ (λ _. keep-length h n p) (λ _. unseen-length h n 0))
     (λ _. note-leaves-length h n (endIn h c p))
-
--- ---- a difference noted
-
-module _ (h : Bytes) (n i : ℕ) (held : ℕ) (t : Bytes) (et : (held ≡ wordAt h 7 1) × (t ≡ findingsPart h))
-    (m : ℕ) (u : Bytes) (em : (m ≡ noteHeld t held (difference n i)) × (u ≡ noteBytes t held (difference n i))) where
-  held-is : m ≡ heldWith h n i
-  unfolding heldWith
-  held-is = em .0 ∙ (λ y. noteHeld (et .1 y) (et .0 y) (difference n i))
-
-  noted-is : u ≡ tableWith h n i
-  unfolding tableWith
-  noted-is = em .1 ∙ (λ y. noteBytes (et .1 y) (et .0 y) (difference n i))
-
-  pub note-room : wellFormed h ≡ true → length u ≡ 1024
-  note-room right = ap length (em .1) ∙ note-length t held (difference n i) ∙ ap length (et .1) ∙ findings-long h right
-
-  pub note-full : 128 < m → Noted h n i CommitAnswer.FindingsFull h
-  unfolding noteAnswer noteLeaves
-  note-full l =
-      let f : ltb 128 (heldWith h n i) ≡ true = ap (ltb 128) (sym held-is) ∙ lt-ltb 128 m l in
-      record { answers = sym (cond-true (ltb 128 (heldWith h n i)) _ _ f); leaves = sym (cond-true (ltb 128 (heldWith h n i)) h _ f) }
-
-  pub note-so : m ≤ 128 → (v : Bytes) → v ≡ findingsKept h u m → (w : Bytes) → w ≡ unseenSet v n 0 → Noted h n i (CommitAnswer.Accepted 0) w
-  unfolding noteAnswer noteLeaves
-  note-so l v ev w ew =
-      let f : ltb 128 (heldWith h n i) ≡ false = ap (ltb 128) (sym held-is) ∙ le-ltb 128 m l in
-      record {
-        answers = sym (cond-false (ltb 128 (heldWith h n i)) _ _ f);
-        leaves =
-            ew ∙ ap (λ (y : Bytes). unseenSet y n 0) (ev ∙ (λ y. findingsKept h (noted-is y) (held-is y)))
-            ∙ sym (cond-false (ltb 128 (heldWith h n i)) h _ f);
-      }
 
 -- ---- held against the committed prefix
 

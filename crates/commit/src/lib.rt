@@ -1,2 +1,2 @@
-// Kind 2, after commit/prefix.rs of the Rust: the committed prefix. Stands on log_prefix, log_comparison and log_violation.
+// Kind 2, after commit/prefix.rs of the Rust: the committed prefix. Stands on committed_prefix.
 pub mod prefix;

@@ -14,7 +14,7 @@ use Rattle.log_violation.specs.Violation.{heldAll, bytesAll, findingsKept}
 use Rattle.log_violation.proofs.ViolationLaws.{kept-length}
 use Rattle.completeness.specs.declared.leader_completeness.Checked.{Checked}
 use Rattle.storage.specs.Values.{certificatesOf, committedEnd}
-use Rattle.completeness.specs.Judgement.{lackingsIn, JudgedAll}
+use Rattle.certificate_judgement.specs.Judgement.{lackingsIn, JudgedAll}
 use Rattle.check_marks.specs.Marks.{marksMoved}
 use Rattle.completeness.specs.Check.{valueOf, checkHeld, checkTable, checkWritten, checkAnswer, checkBytes, CheckedAs}
 use Rattle.check_marks.proofs.MarkLaws.{marks-length}

@@ -29,14 +29,14 @@ use Rattle.log_violation.specs.Violation.{findingsKept}
 use Rattle.log_violation.proofs.ViolationLaws.{Holds, all-hold, all-length, findings-long}
 use Rattle.completeness.specs.declared.leader_completeness.Checked.{Checked}
 use Rattle.storage.specs.Values.{certificatesOf, committedEnd}
-use Rattle.completeness.specs.Judgement.{lackingsIn, flagsIn}
+use Rattle.certificate_judgement.specs.Judgement.{lackingsIn, flagsIn}
 use Rattle.check_marks.specs.Marks.{marksMoved}
 use Rattle.completeness.specs.Check.{checkReply, valueOf, checkHeld, checkTable, checkWritten, checkAnswer, checkBytes, CheckedAs}
 use Rattle.storage.proofs.WellFormed.{formed, end-small}
-use Rattle.completeness.proofs.Fits.{TermsFit, Stored, stored}
-use Rattle.completeness.proofs.CertificateMeaning.{lackings-mean, flags-mean}
+use Rattle.certificate_judgement.proofs.Fits.{TermsFit, Stored, stored}
+use Rattle.certificate_judgement.proofs.CertificateMeaning.{lackings-mean, flags-mean}
 use Rattle.check_marks.proofs.MarkMeaning.{raised, marks-mean}
-use Rattle.completeness.proofs.FindingMeaning.{Fitting, fitting, lackings-fit}
+use Rattle.certificate_judgement.proofs.FindingMeaning.{Fitting, fitting, lackings-fit}
 
 module _ (h : Bytes) (x : History) (s : Stands h x) (f : TermsFit x) where
   rows : (c : CertificateRow) → List·Memᴰ c (certificatesOf h) → Stored (wordAt h 0 2) c

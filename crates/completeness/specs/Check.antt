@@ -12,7 +12,7 @@ use Rattle.storage_bytes.specs.Words.{wordAt}
 use Rattle.storage.specs.Tables.{findingsPart}
 use Rattle.log_violation.specs.Violation.{heldAll, bytesAll, findingsKept}
 use Rattle.storage.specs.Values.{certificatesOf, committedEnd}
-use Rattle.completeness.specs.Judgement.{lackingsIn, flagsIn}
+use Rattle.certificate_judgement.specs.Judgement.{lackingsIn, flagsIn}
 use Rattle.check_marks.specs.Marks.{marksMoved}
 use Rattle.completeness.specs.declared.leader_completeness.Checked.{Checked}
 use Rattle.completeness.specs.declared.leader_completeness.Checked.the-variants.{Accepted, FindingsFull}

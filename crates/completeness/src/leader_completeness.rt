@@ -3,7 +3,7 @@ ghost use mathlib.Core.Path.{_≡_};
 ghost use mathlib.Core.Bool.{true};
 ghost use Rattle.storage.specs.Rules.{wellFormed};
 ghost use Rattle.completeness.specs.Check.{valueOf, Writing, checkWritten, CheckedAs};
-use crate::judgement::judge_all;
+use certificate_judgement::judgement::judge_all;
 use check_marks::marks::move_marks;
 use log_violation::violation::copy_findings;
 use log_violation::violation::keep_findings;

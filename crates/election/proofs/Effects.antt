@@ -29,13 +29,14 @@ use Rattle.storage.proofs.DecodeLaws.{CertificateNamed}
 use Rattle.storage.proofs.WellFormed.{certificates-are, formed, formed-rows}
 use Rattle.storage.proofs.Meanings.{Stands, withElections, front-read, prefixes-stored, certificates-stored}
 use Rattle.storage.proofs.OrderLaws.{held-is, election-written}
-use Rattle.log_prefix.specs.declared.prefix.Slice.{Slice}
-use Rattle.log_prefix.proofs.TableLaws.{rows-length, rows-at}
-use Rattle.log_prefix.proofs.SliceLaws.{slice-cases}
-use Rattle.election.specs.declared.certificate.ElectionAnswer.{ElectionAnswer}
+use Rattle.prefix_lookup.specs.declared.lookup.Slice.{Slice}
+use Rattle.prefix_lookup.proofs.TableLaws.{rows-length, rows-at}
+use Rattle.prefix_lookup.proofs.SliceLaws.{slice-cases}
+use Rattle.election_judging.specs.declared.judging.ElectionAnswer.{ElectionAnswer}
 use Rattle.certificate_order.specs.Order.{takenOf}
-use Rattle.election.specs.Certify.{roomOf, isAccepted, logOf, heldIn, frontIn, sliceIn, judgedOf, kept, keptIn, answerIn, bytesIn}
-use Rattle.election.proofs.Turns.{room-left}
+use Rattle.election_judging.specs.Certify.{roomOf, isAccepted, judgedOf}
+use Rattle.election.specs.Certify.{logOf, heldIn, frontIn, sliceIn, kept, keptIn, answerIn, bytesIn}
+use Rattle.election_judging.proofs.Turns.{room-left}
 
 -- the model's refusal, or none
 abbrev pub refusalOf : ElectionAnswer → Option Refusal

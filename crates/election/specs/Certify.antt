@@ -1,45 +1,17 @@
--- What an election answers and writes, on the bytes of a history: 9, then 10, then 11; else a certificate in its place.
+-- What an election answers and writes, on the bytes of a history: as it is judged; accepted, a certificate in its place.
 -- Assumes nothing.
 use Prim.Native.Nat.{ℕ}
 use mathlib.Core.Path.{_≡_}
-use mathlib.Core.Bool.{Bool, true, false, cond}
-use mathlib.Core.List.{List}
-use lib.Dec.{leb}
-use lib.ListN.{length}
-use Rattle.model.specs.Sizes.{Bytes, certificateLimit}
+use mathlib.Core.Bool.{Bool, cond}
+use Rattle.model.specs.Sizes.{Bytes}
 use Rattle.storage.specs.Values.{certificatesOf}
 use Rattle.storage.specs.Tables.{CertificateRow, nodeRow, nodesPart, prefixRow, prefixesPart}
 use Rattle.storage.specs.Order.{placeOf, heldOf}
 use Rattle.storage.specs.Writes.{certificateAdded}
-use Rattle.log_prefix.specs.Prefix.{sliceOf}
-use Rattle.log_prefix.specs.declared.prefix.Slice.{Slice}
-use Rattle.election.specs.declared.certificate.ElectionAnswer.{ElectionAnswer}
-use Rattle.certificate_order.specs.Order.{takenOf}
-
--- 9 beyond the front
-abbrev pub withinFront : Slice → ElectionAnswer
-withinFront (Slice.Prefix q) = ElectionAnswer.Accepted
-withinFront Slice.Beyond = ElectionAnswer.LengthExceedsFront
-
--- 10, then 11, where the certificates of those rows are held
-unfoldable pub roomOf : ℕ → List CertificateRow → ElectionAnswer
-unfolding takenOf
-roomOf t cs =
-    cond (leb certificateLimit (length cs)) ElectionAnswer.CertificatesFull
-    (cond (takenOf t (heldOf t cs) cs) ElectionAnswer.NumberTaken ElectionAnswer.Accepted)
-
--- the first of two answers that refuses
-abbrev pub earlierOf : ElectionAnswer → ElectionAnswer → ElectionAnswer
-earlierOf ElectionAnswer.Accepted b = b
-earlierOf ElectionAnswer.LengthExceedsFront b = ElectionAnswer.LengthExceedsFront
-earlierOf ElectionAnswer.CertificatesFull b = ElectionAnswer.CertificatesFull
-earlierOf ElectionAnswer.NumberTaken b = ElectionAnswer.NumberTaken
-
-abbrev pub isAccepted : ElectionAnswer → Bool
-isAccepted ElectionAnswer.Accepted = true
-isAccepted ElectionAnswer.LengthExceedsFront = false
-isAccepted ElectionAnswer.CertificatesFull = false
-isAccepted ElectionAnswer.NumberTaken = false
+use Rattle.prefix_lookup.specs.Prefix.{sliceOf}
+use Rattle.prefix_lookup.specs.declared.lookup.Slice.{Slice}
+use Rattle.election_judging.specs.declared.judging.ElectionAnswer.{ElectionAnswer}
+use Rattle.election_judging.specs.Certify.{isAccepted, judgedOf}
 
 -- the number of the log
 abbrev pub logOf : Slice → ℕ
@@ -61,9 +33,6 @@ frontIn h l = nodeRow (nodesPart h) l .front
 -- its first n entries
 abbrev pub sliceIn : Bytes → ℕ → ℕ → Slice
 sliceIn h l n = sliceOf (prefixRow (prefixesPart h)) (frontIn h l) n
-
-abbrev pub judgedOf : Bytes → Slice → ℕ → ElectionAnswer
-judgedOf h s t = earlierOf (withinFront s) (roomOf t (certificatesOf h))
 
 -- a new certificate's row: its mark is zero
 abbrev pub kept : ℕ → ℕ → ℕ → Bool → ℕ → CertificateRow

@@ -5,18 +5,20 @@ ghost use Prim.Native.Nat.{_≤_, _<_};
 ghost use mathlib.Core.Bool.{true, cond};
 ghost use lib.ListN.{length};
 ghost use Rattle.storage.specs.Rules.{wellFormed};
-ghost use Rattle.storage.specs.Tables.{certificateRows, certificatesPart, nodeRow, nodesPart, prefixRow, prefixesPart};
+ghost use Rattle.storage.specs.Tables.{nodeRow, nodesPart, prefixRow, prefixesPart};
 ghost use Rattle.certificate_rows.specs.Values.{certificateValue};
 ghost use Rattle.storage_bytes.specs.Words.{wordAt};
-ghost use Rattle.log_prefix.specs.Prefix.{sliceOf};
-ghost use Rattle.election.specs.Certify.{withinFront, earlierOf, isAccepted, roomOf, heldIn, placeIn, judgedOf, logOf, kept, keptIn, Recorded};
+ghost use Rattle.prefix_lookup.specs.Prefix.{sliceOf};
+ghost use Rattle.election.specs.Certify.{heldIn, placeIn, logOf, kept, keptIn, Recorded};
 use certificate_order::order::held_of;
-use certificate_order::order::is_taken;
 use certificate_order::order::place_of;
 use certificate_rows::certificates::Certificate;
 use certificate_rows::certificates::add_certificate;
-use log_prefix::prefix::Slice;
-use log_prefix::prefix::slice_through;
+use election_judging::judging::ElectionAnswer;
+use election_judging::judging::accepts;
+use election_judging::judging::judge;
+use prefix_lookup::lookup::Slice;
+use prefix_lookup::lookup::slice_through;
 use storage::head::certificate_count;
 use storage::head::prefix_count;
 use storage_bytes::layout::CERTIFICATES_LENGTH;
@@ -27,22 +29,9 @@ use storage_bytes::layout::PREFIXES_LENGTH;
 use storage_bytes::layout::PREFIXES_START;
 use storage_bytes::layout::part;
 use table_rows::nodes::node_at;
-use units::CERTIFICATE_LIMIT;
 use units::LogIndex;
 use units::NodeId;
 use units::Term;
-
-// Accepted, or why not.
-pub enum ElectionAnswer {
-    // The certificate is kept.
-    Accepted,
-    // 9: the length exceeds the leader's front.
-    LengthExceedsFront,
-    // 10: 64 certificates are held.
-    CertificatesFull,
-    // 11: its number within its term is taken.
-    NumberTaken,
-}
 
 // The number of the leader's front; a node without a view has the empty one, 0.
 fn front_of(history: &[u8], leader: NodeId) -> usize
@@ -63,41 +52,6 @@ fn first_entries(history: &[u8], p: usize, length: LogIndex) -> Slice
     slice_through(prefixes, n, p, length)
 }
 
-// 9 where the front has fewer entries than asked for.
-fn within_front(slice: Slice) -> ElectionAnswer
-    ensures { λ r. ⌜ r ≡ withinFront slice ⌝ }
-{
-    let Slice::Prefix(_) = slice else {
-        return ElectionAnswer::LengthExceedsFront;
-    };
-    ElectionAnswer::Accepted
-}
-
-// 10, then 11, over the n certificates held.
-fn room_for(certificates: &[u8], n: usize, term: Term) -> ElectionAnswer
-    requires { ⌜ (n ≤ 64) × (length (now certificates) ≡ 704) ⌝ }
-    ensures { λ r. ⌜ r ≡ roomOf (term .0) (certificateRows (now (certificates .entry)) n) ⌝ }
-{
-    if CERTIFICATE_LIMIT <= n {
-        return ElectionAnswer::CertificatesFull;
-    }
-    let number = held_of(certificates, n, term);
-    if is_taken(certificates, n, term, number) {
-        return ElectionAnswer::NumberTaken;
-    }
-    ElectionAnswer::Accepted
-}
-
-// The same of a whole history.
-fn room_in(history: &[u8], term: Term) -> ElectionAnswer
-    requires { ⌜ wellFormed (now history) ≡ true ⌝ }
-    ensures { λ r. ⌜ r ≡ roomOf (term .0) (certificateRows (certificatesPart (now (history .entry))) (wordAt (now (history .entry)) 6 1)) ⌝ }
-{
-    let n = certificate_count(history);
-    let certificates = part(history, CERTIFICATES_START, CERTIFICATES_LENGTH);
-    room_for(certificates, n, term)
-}
-
 // The number of the next certificate of the term.
 fn number_in(history: &[u8], term: Term) -> usize
     requires { ⌜ wellFormed (now history) ≡ true ⌝ }
@@ -116,39 +70,6 @@ fn place_in(history: &[u8], term: Term) -> usize
     let n = certificate_count(history);
     let certificates = part(history, CERTIFICATES_START, CERTIFICATES_LENGTH);
     place_of(certificates, n, term)
-}
-
-// The earlier of two refusals, or acceptance.
-fn earlier(a: ElectionAnswer, b: ElectionAnswer) -> ElectionAnswer
-    ensures { λ r. ⌜ r ≡ earlierOf a b ⌝ }
-{
-    match a {
-        ElectionAnswer::Accepted => b,
-        ElectionAnswer::LengthExceedsFront => ElectionAnswer::LengthExceedsFront,
-        ElectionAnswer::CertificatesFull => ElectionAnswer::CertificatesFull,
-        ElectionAnswer::NumberTaken => ElectionAnswer::NumberTaken,
-    }
-}
-
-// 9, then 10, then 11.
-fn judge(history: &[u8], slice: Slice, term: Term) -> ElectionAnswer
-    requires { ⌜ wellFormed (now history) ≡ true ⌝ }
-    ensures { λ r. ⌜ r ≡ judgedOf (now (history .entry)) slice (term .0) ⌝ }
-{
-    let front = within_front(slice);
-    let room = room_in(history, term);
-    earlier(front, room)
-}
-
-fn accepts(a: ElectionAnswer) -> bool
-    ensures { λ r. ⌜ r ≡ isAccepted a ⌝ }
-{
-    match a {
-        ElectionAnswer::Accepted => true,
-        ElectionAnswer::LengthExceedsFront => false,
-        ElectionAnswer::CertificatesFull => false,
-        ElectionAnswer::NumberTaken => false,
-    }
 }
 
 // The number of the prefix; nothing asks for it beyond the front.

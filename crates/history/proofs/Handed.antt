@@ -10,11 +10,11 @@ use Rattle.model.specs.Answer.{answer, isAccepted}
 use Rattle.model.proofs.Tests.{either}
 use Rattle.storage.specs.Rules.{wellFormed}
 use Rattle.storage.specs.Decode.{decode}
-use Rattle.completeness.proofs.Fits.{Octets, octets-fit}
+use Rattle.certificate_judgement.proofs.Fits.{Octets, octets-fit}
 use Rattle.answers.specs.declared.answer.Answer.{Answer}
 use Rattle.answers.specs.declared.numbers.Reply.{Reply}
 use Rattle.answers.specs.Numbers.{refusalIn, replyOf, modelReply}
-use Rattle.record_kinds.specs.Replies.{Submitted}
+use Rattle.submission.specs.Replies.{Submitted}
 use Rattle.history.specs.Exports.{Handed}
 use Rattle.submission.proofs.Meaning.{modelled, Means, submit-means, submit-broken}
 use Rattle.storage.proofs.Meanings.{stand}

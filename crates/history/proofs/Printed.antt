@@ -17,8 +17,8 @@ use Rattle.storage.proofs.Meanings.{stand, end-is}
 use Rattle.index_lists.specs.Picked.{nth}
 use Rattle.storage.specs.Values.{committedEnd}
 use Rattle.index_lists.specs.Committed.{ownerIn}
-use Rattle.lists.specs.declared.findings.FindingAnswer.{FindingAnswer}
-use Rattle.lists.specs.Findings.{findingOf, findingAnswer}
+use Rattle.finding_lists.specs.declared.findings.FindingAnswer.{FindingAnswer}
+use Rattle.finding_lists.specs.Findings.{findingOf, findingAnswer}
 use Rattle.lists.specs.declared.leaders.LeaderAnswer.{LeaderAnswer}
 use Rattle.lists.specs.Leaders.{leaderAs, leaderAnswer}
 use Rattle.index_lists.specs.declared.unseen.UnseenAnswer.{UnseenAnswer}

@@ -13,7 +13,7 @@ use Rattle.storage.specs.Rules.{rightLength, wellFormed}
 use Rattle.storage.specs.Decode.{decode}
 use Rattle.storage.specs.Fresh.{freshHistory}
 use Rattle.index_lists.specs.Picked.{nth}
-use Rattle.lists.specs.declared.findings.FindingAnswer.{FindingAnswer}
+use Rattle.finding_lists.specs.declared.findings.FindingAnswer.{FindingAnswer}
 use Rattle.lists.specs.declared.leaders.LeaderAnswer.{LeaderAnswer}
 use Rattle.index_lists.specs.declared.unseen.UnseenAnswer.{UnseenAnswer}
 use Rattle.index_lists.specs.declared.unknown.UnknownAnswer.{UnknownAnswer}
@@ -24,7 +24,7 @@ use Rattle.history.specs.declared.exports.UnseenReply.{UnseenReply}
 use Rattle.history.specs.declared.exports.UnknownReply.{UnknownReply}
 use Rattle.history.specs.declared.exports.CommittedReply.{CommittedReply}
 use Rattle.answers.specs.Numbers.{refusalIn, replyOf, modelReply}
-use Rattle.record_kinds.specs.Replies.{submitAnswer, submitBytes}
+use Rattle.submission.specs.Replies.{submitAnswer, submitBytes}
 
 -- ---- a fresh history
 

@@ -17,7 +17,7 @@ use Rattle.model.proofs.Tests.{cond-true, cond-false, either}
 use Rattle.model.proofs.Leaders.{Before, Ascending, ascending-ascends}
 use Rattle.lists.specs.declared.leaders.LeaderAnswer.{LeaderAnswer}
 use Rattle.lists.specs.Leaders.{pair, leaderAs, isBelow, lesser, betterOf, leastIn, nextOf, roundsOf, leaderIn}
-use Rattle.lists.proofs.OrderLaws.{key-differs, key-same}
+use Rattle.finding_lists.proofs.OrderLaws.{key-differs, key-same}
 use Rattle.lists.proofs.Ordered.{Order, by-number, by-key}
 use Rattle.lists.proofs.LeaderLaws.{better-other, better-low, better-taken, lesser-first}
 

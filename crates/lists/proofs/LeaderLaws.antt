@@ -19,7 +19,7 @@ use Rattle.storage.specs.Tables.{findingRows, findingsPart}
 use Rattle.storage_bytes.proofs.ListLaws.{tabulate-cons, tabulate-none}
 use Rattle.lists.specs.declared.leaders.LeaderAnswer.{LeaderAnswer}
 use Rattle.lists.specs.Leaders.{pair, leaderAs, isBelow, lesser, lesserOf, betterOf, leastIn, nextOf, roundsOf, leaderIn, leaderAnswer}
-use Rattle.lists.proofs.OrderLaws.{key-differs, key-same}
+use Rattle.finding_lists.proofs.OrderLaws.{key-differs, key-same}
 
 -- ---- one leader held against another
 

@@ -1,5 +1,3 @@
-pub mod Whole
-pub mod OrderLaws
 pub mod Ordered
 pub mod LeaderLaws
 pub mod Ascents

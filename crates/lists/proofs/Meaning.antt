@@ -18,8 +18,8 @@ use Rattle.index_lists.specs.declared.unseen.UnseenAnswer.{UnseenAnswer}
 use Rattle.index_lists.specs.declared.unknown.UnknownAnswer.{UnknownAnswer}
 use Rattle.index_lists.specs.Picked.{nth}
 use Rattle.index_lists.specs.Committed.{ownerIn}
-use Rattle.lists.specs.declared.findings.FindingAnswer.{FindingAnswer}
-use Rattle.lists.specs.Findings.{findingOf, findingAnswer}
+use Rattle.finding_lists.specs.declared.findings.FindingAnswer.{FindingAnswer}
+use Rattle.finding_lists.specs.Findings.{findingOf, findingAnswer}
 use Rattle.lists.specs.declared.leaders.LeaderAnswer.{LeaderAnswer}
 use Rattle.lists.specs.Leaders.{leaderAs, leaderAnswer}
 use Rattle.index_lists.specs.Unseen.{markOf, markIn, unseenAnswer}

@@ -17,9 +17,9 @@ use Rattle.model.specs.Lists.{insert, ordered}
 use Rattle.model.proofs.Tests.{cond-true, cond-false, either, or-cases, and-left, and-right, or-false-left, and-both}
 use Rattle.storage_bytes.specs.Lists.{every}
 use Rattle.storage_bytes.proofs.ListLaws.{both, every-weaker, every-insert, map-insert}
-use Rattle.lists.specs.declared.findings.FindingAnswer.{FindingAnswer}
-use Rattle.lists.specs.Findings.{comesBefore, countFirst, findingOf, pickOrdered}
-use Rattle.lists.proofs.OrderLaws.{key-differs, key-same}
+use Rattle.finding_lists.specs.declared.findings.FindingAnswer.{FindingAnswer}
+use Rattle.finding_lists.specs.Findings.{comesBefore, countFirst, findingOf, pickOrdered}
+use Rattle.finding_lists.proofs.OrderLaws.{key-differs, key-same}
 
 -- ---- an order by keys, one after the other
 

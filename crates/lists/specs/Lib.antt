@@ -1,2 +1,1 @@
-pub mod Findings
 pub mod Leaders

@@ -18,7 +18,7 @@ use Rattle.storage.specs.Decode.{prefixAt, entryOf, resolve}
 use Rattle.storage.proofs.RowFacts.{Facts, rowAt}
 use Rattle.storage.proofs.PrefixLaws.{same-bytes-eq}
 use Rattle.log_comparison.specs.Comparison.{sameEntry, sameFrom}
-use Rattle.log_prefix.proofs.PrefixLaws.{Rows}
+use Rattle.prefix_lookup.proofs.PrefixLaws.{Rows}
 
 entry-same : (r s : PrefixRow) → sameEntry r s ≡ true → entryOf r ≡ entryOf s
 unfolding sameEntry

@@ -3,7 +3,7 @@
 ghost use mathlib.Core.Path.{_≡_};
 ghost use Prim.Native.Nat.{_≤_};
 ghost use Rattle.storage.specs.Tables.{prefixRow};
-ghost use Rattle.log_prefix.specs.Table.{Table};
+ghost use Rattle.prefix_lookup.specs.Table.{Table};
 ghost use Rattle.log_comparison.specs.Comparison.{sameFrom};
 use prefix_rows::prefixes::parent_at;
 use prefix_rows::prefixes::size_at;

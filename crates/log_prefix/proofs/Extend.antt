@@ -18,9 +18,9 @@ use Rattle.storage.specs.Decode.{prefixAt, extended, resolve}
 use Rattle.storage.specs.Rules.{prefixRight, prefixesRightAfter}
 use Rattle.storage.proofs.RowFacts.{Facts, rowAt, Sized, resolve-snoc, resolve-count, row-right, facts-snoc, right-snoc, stored-at, number-of, number-kept, number-new}
 use Rattle.storage.proofs.PrefixLaws.{new-right}
-use Rattle.log_prefix.specs.Prefix.{rowOf, find}
+use Rattle.prefix_lookup.specs.Prefix.{rowOf, find}
 use Rattle.log_prefix.specs.Extension.{orNext}
-use Rattle.log_prefix.proofs.PrefixLaws.{Rows, found, missing}
+use Rattle.prefix_lookup.proofs.PrefixLaws.{Rows, found, missing}
 
 -- the rows with the prefix of number p extended by e to index i, found or made, and its number
 unfoldable pub extendRows : List PrefixRow → ℕ → ℕ → Entry → List PrefixRow

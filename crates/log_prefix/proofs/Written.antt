@@ -18,8 +18,8 @@ use Rattle.storage.specs.Tables.{prefixRow, prefixesPart}
 use Rattle.storage.specs.Writes.{prefixBytes, prefixAppended}
 use Rattle.storage_bytes.proofs.ListLaws.{tabulate-length}
 use Rattle.storage_bytes.proofs.WordLaws.{put-length}
-use Rattle.log_prefix.specs.Table.{entryValue}
-use Rattle.log_prefix.specs.Prefix.{rowOf, find}
+use Rattle.prefix_lookup.specs.Table.{entryValue}
+use Rattle.prefix_lookup.specs.Prefix.{rowOf, find}
 use Rattle.log_prefix.specs.Extension.{extensionIn, storedContent, appended, extendedBytes, extendedCount, extendedNumber, extended, nextIndex, extension, extensionBytes, Extending, writtenBytes, writtenCount, writtenNumber}
 use Rattle.log_prefix.specs.declared.prefix.Extended.{Extended}
 use Rattle.log_prefix.specs.declared.prefix.Extension.{Extension}

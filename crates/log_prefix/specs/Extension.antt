@@ -16,8 +16,8 @@ use Rattle.storage.specs.Values.{numberIndex}
 use Rattle.log_prefix.specs.declared.prefix.Extended.{Extended}
 use Rattle.log_prefix.specs.declared.prefix.Extension.{Extension}
 use Rattle.record_walk.specs.declared.walk.ShownEntry.{ShownEntry}
-use Rattle.log_prefix.specs.Table.{entryValue}
-use Rattle.log_prefix.specs.Prefix.{rowOf, find}
+use Rattle.prefix_lookup.specs.Table.{entryValue}
+use Rattle.prefix_lookup.specs.Prefix.{rowOf, find}
 
 -- an extension that is stored has its number, one that is not gets the next
 abbrev pub orNext : ℕ → ℕ → ℕ

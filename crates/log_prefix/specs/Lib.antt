@@ -1,3 +1,1 @@
-pub mod Table
-pub mod Prefix
 pub mod Extension

@@ -1,3 +1,3 @@
-// Logs as prefixes, after logical_log of the Rust: prefixes stored once and told by number, extended, found and sliced
-// (types/prefix.rs). Stands on prefix_rows and record_walk.
+// Logs as prefixes, after logical_log of the Rust: a prefix is stored once, told by number, and extended (types/prefix.rs). Stands
+// on prefix_lookup.
 pub mod prefix;

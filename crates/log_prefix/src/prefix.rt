@@ -1,109 +1,16 @@
 // Prefixes by number (types/prefix.rs): a prefix is a stored row, which extends the prefix of a smaller number by one entry;
 // 0 is the empty prefix.
 ghost use mathlib.Core.Path.{_≡_};
-ghost use Prim.Native.Nat.{_≤_, _<_};
 ghost use lib.ListN.{length};
-ghost use Rattle.storage.specs.Tables.{prefixRow};
-ghost use Rattle.storage.specs.Rules.{sameRow};
-ghost use Rattle.log_prefix.specs.Table.{Table, entryValue};
+ghost use Rattle.prefix_lookup.specs.Table.{entryValue};
 ghost use Rattle.log_prefix.specs.Extension.{nextIndex, Extending, extended, extendedBytes, extension, extensionBytes};
-ghost use Rattle.log_prefix.specs.Prefix.{rowOf, find, isOf, first, sliceOf};
+use prefix_lookup::lookup::find_extension;
 use prefix_rows::prefixes::append_prefix;
-use prefix_rows::prefixes::index_at;
 use prefix_rows::prefixes::index_of;
-use prefix_rows::prefixes::parent_at;
-use prefix_rows::prefixes::size_at;
-use prefix_rows::prefixes::term_at;
 use record_walk::walk::ShownEntry;
-use storage_bytes::layout::PREFIX_WIDTH;
 use storage_bytes::layout::PREFIXES_LENGTH;
 use storage_bytes::layout::PREFIXES_START;
 use storage_bytes::layout::part;
-use storage_bytes::words::same_bytes;
-use units::LogIndex;
-use units::Term;
-
-// A prefix through an index, or that the index is beyond its end.
-pub enum Slice {
-    Prefix(usize),
-    Beyond,
-}
-
-// Row k extends the prefix of number p by the entry (`matches_extension`).
-fn matches_extension(prefixes: &[u8], k: usize, p: usize, e: ShownEntry) -> bool
-    requires { ⌜ (k < 512) × (length (now prefixes) ≡ 20992) × (e .length ≤ 32) ⌝ }
-    ensures { λ r. ⌜ r ≡ sameRow (prefixRow (now (prefixes .entry)) k) (rowOf p 0 (entryValue e)) ⌝ }
-{
-    if parent_at(prefixes, k) != p {
-        return false;
-    }
-    if term_at(prefixes, k).0 != e.term.0 {
-        return false;
-    }
-    let n = e.length;
-    if size_at(prefixes, k) != n {
-        return false;
-    }
-    let content = e.content;
-    same_bytes(prefixes, k * PREFIX_WIDTH + 9, &content, 0, n)
-}
-
-// The number of the stored prefix that extends that of number p by the entry, or 0. It comes after p.
-pub fn find_extension(prefixes: &[u8], count: usize, p: usize, e: ShownEntry) -> usize
-    requires { ⌜ (count ≤ 512) × (p ≤ count) × (length (now prefixes) ≡ 20992) × (e .length ≤ 32) ⌝ }
-    ensures { λ r. ⌜ r ≡ find (prefixRow (now (prefixes .entry))) count (rowOf p 0 (entryValue e)) ⌝ }
-{
-    let mut k = p;
-    while k < count {
-        if matches_extension(prefixes, k, p, e) {
-            return k + 1;
-        }
-        k += 1;
-    }
-    0
-}
-
-// Row k is of the index and term.
-fn is_of(prefixes: &[u8], k: usize, index: LogIndex, term: Term) -> bool
-    requires { ⌜ (k < 512) × (length (now prefixes) ≡ 20992) ⌝ }
-    ensures { λ r. ⌜ r ≡ isOf (index .0) (term .0) (prefixRow (now (prefixes .entry)) k) ⌝ }
-{
-    if index_at(prefixes, k) != index.0 {
-        return false;
-    }
-    term_at(prefixes, k).0 == term.0
-}
-
-// The number of the first stored prefix of the index and term, or 0. A prefix's number is at least its index.
-pub fn first_of(prefixes: &[u8], count: usize, index: LogIndex, term: Term) -> usize
-    requires { ⌜ (count ≤ 512) × (length (now prefixes) ≡ 20992) × (1 ≤ index .0) ⌝ }
-    ensures { λ r. ⌜ r ≡ first (prefixRow (now (prefixes .entry))) count (index .0) (term .0) ⌝ }
-{
-    let mut k = index.0 - 1;
-    while k < count {
-        if is_of(prefixes, k, index, term) {
-            return k + 1;
-        }
-        k += 1;
-    }
-    0
-}
-
-// The prefix of number p through the index: nothing beyond its end, the empty prefix at zero.
-pub fn slice_through(prefixes: &[u8], count: usize, p: usize, through: LogIndex) -> Slice
-    requires { ⌜ Table (now prefixes) count × (p ≤ count) ⌝ }
-    ensures { λ r. ⌜ r ≡ sliceOf (prefixRow (now (prefixes .entry))) p (through .0) ⌝ }
-{
-    let i = through.0;
-    if index_of(prefixes, p) < i {
-        return Slice::Beyond;
-    }
-    let mut q = p;
-    while i < index_of(prefixes, q) {
-        q = parent_at(prefixes, q - 1);
-    }
-    Slice::Prefix(q)
-}
 
 // A prefix that was extended: its number, and how many prefixes are stored.
 pub struct Extended {

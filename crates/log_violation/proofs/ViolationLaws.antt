@@ -24,9 +24,9 @@ use Rattle.storage_bytes.proofs.WordLaws.{put-length}
 use Rattle.storage_bytes.proofs.PartLaws.{part-length, put-whole}
 use Rattle.storage.proofs.WellFormed.{formed}
 use Rattle.storage.proofs.RowLaws.{rows-append, finding-own, finding-length, finding-back}
-use Rattle.log_prefix.specs.Prefix.{searchFrom}
+use Rattle.prefix_lookup.specs.Prefix.{searchFrom}
 use Rattle.log_violation.specs.Violation.{sameNumbers, notedAt, noteHeld, noteBytes, heldAll, bytesAll, findingsKept}
-use Rattle.log_prefix.proofs.PrefixLaws.{Hit, Miss, searched}
+use Rattle.prefix_lookup.proofs.PrefixLaws.{Hit, Miss, searched}
 
 -- ---- a row held against a finding, number by number
 

@@ -10,7 +10,7 @@ use Rattle.model.specs.History.{Finding}
 use Rattle.storage_bytes.specs.Words.{putBytes, wordBytes}
 use Rattle.storage.specs.Tables.{findingRow}
 use Rattle.storage.specs.Writes.{findingBytes}
-use Rattle.log_prefix.specs.Prefix.{searchFrom}
+use Rattle.prefix_lookup.specs.Prefix.{searchFrom}
 
 unfoldable pub sameNumbers : Finding → Finding → Bool
 sameNumbers f g =

@@ -1,4 +1,3 @@
 pub mod Whole
 pub mod Stored
-pub mod Writing
 pub mod Meaning

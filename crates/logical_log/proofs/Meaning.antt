@@ -33,7 +33,8 @@ use Rattle.storage.proofs.RowFacts.{resolve-count}
 use Rattle.storage.proofs.WellFormed.{rows-count, formed}
 use Rattle.storage.proofs.Meanings.{Stands, withPrefixes, withFront, withNoted, prefixes-is, findings-stored, findings-right, noted-right, kept, unseen-read, node-written, findings-taken}
 use Rattle.storage.proofs.Answered.{Means, accepts, refuses}
-use Rattle.logical_log.specs.Observation.{viewReplaced, viewWritten, observed, observedBytes}
+use Rattle.view_writing.specs.Observation.{viewReplaced}
+use Rattle.logical_log.specs.Observation.{viewWritten, observed, observedBytes}
 use Rattle.view_judging.specs.Judging.{nextNumber, counted, missingFrom, noteOf, notesFrom, other, missingIn, notesIn, heldIn, tableIn}
 use Rattle.log_prefix.specs.Extension.{writtenBytes, writtenCount, writtenNumber}
 use Rattle.log_violation.specs.Violation.{heldAll, bytesAll, findingsKept}
@@ -42,7 +43,8 @@ use Rattle.log_prefix.proofs.Extend.{Fits, extendAll, extends-all}
 use Rattle.view_judging.proofs.Judge.{missing-made, notes-are}
 use Rattle.log_violation.proofs.ViolationLaws.{Holds, all-hold, findings-long}
 use Rattle.logical_log.proofs.Whole.{written-count, table-length}
-use Rattle.logical_log.proofs.Stored.{Sound, front-sound, rows-good, rows-by-place, Whole, front-stands}
+use Rattle.view_writing.proofs.Stored.{rows-good, rows-by-place}
+use Rattle.logical_log.proofs.Stored.{Sound, front-sound, Whole, front-stands}
 
 -- ---- statement
 

@@ -1,6 +1,6 @@
 -- A view as a whole: how its parts come together.
 -- Assumes nothing.
-use Prim.Native.Nat.{ℕ, zero, suc, _+_, _-_, _*_, _<_, _≤_}
+use Prim.Native.Nat.{ℕ, zero, suc, _+_, _-_, _<_, _≤_}
 use native.Mathlib.Omega.{arith}
 use mathlib.Core.Path.{_≡_, refl, sym, _∙_, ap, subst}
 use mathlib.Core.Bool.{true, false}
@@ -16,17 +16,18 @@ use Rattle.record_scan.specs.Places.{firstEntry, entriesAt}
 use Rattle.storage_bytes.specs.Words.{wordAt}
 use Rattle.storage.specs.Tables.{prefixRow, prefixesPart, findingsPart}
 use Rattle.storage.specs.Rules.{wellFormed}
-use Rattle.storage_bytes.proofs.WordLaws.{put-length}
-use Rattle.log_prefix.specs.Prefix.{searchFrom, find}
+use Rattle.prefix_lookup.specs.Prefix.{searchFrom, find}
 use Rattle.log_violation.specs.Violation.{findingsKept}
-use Rattle.logical_log.specs.Observation.{Storing, StoredAs, viewReplaced, viewWritten, restWritten, observed, observedBytes}
-use Rattle.view_judging.specs.Judging.{nextNumber, counted, missingFrom, frontAt, lastAt, Stand, Rest, missingIn, notesIn, heldIn, tableIn, Observing, ViewJudged}
+use Rattle.view_writing.specs.Observation.{Storing, viewReplaced, restWritten}
+use Rattle.logical_log.specs.Observation.{viewWritten, observed, observedBytes}
+use Rattle.view_judging.specs.Judging.{nextNumber, counted, missingFrom, frontAt, Stand, Rest, missingIn, notesIn, heldIn, tableIn, Observing, ViewJudged}
 use Rattle.log_prefix.specs.Extension.{extensionIn, extendedBytes, extendedCount, extendedNumber, writtenBytes, writtenCount}
 use Rattle.view_judging.proofs.Judge.{lost}
 use Rattle.log_prefix.proofs.Written.{number-found, number-made, count-found, count-made, bytes-found, bytes-length-one}
 use Rattle.log_violation.proofs.ViolationLaws.{all-length, findings-long, kept-length}
 use Rattle.logical_log.specs.declared.observation.Observed.{Observed}
 use Rattle.view_judging.specs.declared.judging.Place.{Place}
+use Rattle.view_writing.proofs.Whole.{replaced-length}
 
 -- ---- room: as many are made as are missing
 
@@ -85,13 +86,6 @@ written-count (e ∷ es) h n p i =
 
 -- ---- written
 
-pub view-written : (h : Bytes) (n : ℕ) (s : Bytes) (r : Place) (node number last : ℕ) (t : Bytes) (held : ℕ) (h₁ h₂ h₃ : Bytes)
-    → StoredAs h n s r number h₁ → last ≡ lastAt s r → h₂ ≡ viewReplaced h₁ node number last → h₃ ≡ findingsKept h₂ t held
-    → h₃ ≡ restWritten h n s r node t held
-unfolding restWritten
-view-written h n s r node number last t held h₁ h₂ h₃ a b c d =
-    d ∙ ap (λ (x : Bytes). findingsKept x t held) (c ∙ (λ i. viewReplaced (a .bytes i) node (a .is i) (b i)))
-
 -- from the first prefix that is not stored on as from the first entry
 rest-written : (h s : Bytes) (m node missing : ℕ) (r : Place) (t : Bytes) (held : ℕ)
     → Rest (prefixesPart h) (wordAt h 0 2) s m missing r → restWritten h (wordAt h 0 2) s r node t held ≡ viewWritten h (wordAt h 0 2) s m node t held
@@ -99,10 +93,6 @@ unfolding restWritten viewWritten
 rest-written h s m node missing r t held w =
     let a = w .same h refl in
     sym (λ i. findingsKept (viewReplaced (a .bytes i) node (a .number i) (w .last i)) t held)
-
-pub replaced-length : (h : Bytes) (k f l : ℕ) → length (viewReplaced h k f l) ≡ length h
-unfolding viewReplaced
-replaced-length h k f l = put-length h (9 + k * 6) _
 
 -- ---- the answer
 

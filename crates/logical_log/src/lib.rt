@@ -1,2 +1,3 @@
-// Kind 1, after logical_log of the Rust: the observation of a view (observation.rs). Stands on view_judging.
+// Kind 1, after logical_log of the Rust: the observation of a view (observation.rs). Stands on view_judging and
+// view_writing.
 pub mod observation;

@@ -15,7 +15,7 @@ use Rattle.model.specs.Ledger.{Ledger, fed}
 use Rattle.model.specs.Run.{told, Event, eventUnless, eventRead, eventsFrom}
 use Rattle.model.proofs.Completeness as model
 use Rattle.model.proofs.Completeness.{Known}
-use Rattle.record_kinds.specs.Replies.{submitBytes}
+use Rattle.submission.specs.Replies.{submitBytes}
 use Rattle.promises.specs.Run.{bytesFrom, accepts, ledgerFrom, KnownAtChecks}
 use Rattle.promises.proofs.Machine.{StandsFor, submitting, accepts-is}
 

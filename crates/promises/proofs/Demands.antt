@@ -20,7 +20,7 @@ use Rattle.storage.specs.Fresh.{freshHistory}
 use Rattle.index_lists.specs.Picked.{nth}
 use Rattle.answers.specs.declared.numbers.Reply.{Reply}
 use Rattle.history.specs.declared.exports.FindingReply.{FindingReply}
-use Rattle.record_kinds.specs.Replies.{submitAnswer}
+use Rattle.submission.specs.Replies.{submitAnswer}
 use Rattle.history.specs.Exports.{aFinding, noFinding, findingOut, aLeader, noLeader}
 use Rattle.history.proofs.Handed.{reply-alike, number-refused}
 use Rattle.promises.specs.Run.{bytesOf, ledgerOf}

@@ -25,7 +25,7 @@ use Rattle.model.proofs.Tests.{cond-cases}
 use Rattle.model.proofs.CompletenessElection.{order-cases}
 use Rattle.records.specs.Heads.{headOf, Within}
 use Rattle.records.proofs.Faults.{told-always}
-use Rattle.completeness.proofs.Fits.{TermsFit}
+use Rattle.certificate_judgement.proofs.Fits.{TermsFit}
 
 abbrev Fit : Certificate → Type 0
 Fit c = c .term < 4294967296

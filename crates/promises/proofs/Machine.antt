@@ -17,10 +17,10 @@ use Rattle.bit_fields.specs.declared.bits.Fault.{Fault}
 use Rattle.storage.specs.Decode.{decode}
 use Rattle.storage.specs.Fresh.{freshHistory}
 use Rattle.storage.proofs.Meanings.{Stands, fresh-stands}
-use Rattle.completeness.proofs.Fits.{TermsFit}
+use Rattle.certificate_judgement.proofs.Fits.{TermsFit}
 use Rattle.answers.specs.declared.answer.Answer.{Answer}
 use Rattle.answers.specs.Numbers.{replyOf}
-use Rattle.record_kinds.specs.Replies.{submitAnswer, submitBytes}
+use Rattle.submission.specs.Replies.{submitAnswer, submitBytes}
 use Rattle.submission.proofs.Meaning.{modelled, Means, submit-means}
 use Rattle.promises.specs.Run.{bytesFrom, accepts, ledgerFrom}
 use Rattle.promises.proofs.Fits.{fresh-fit, after-fit}

@@ -20,7 +20,7 @@ use Rattle.storage.specs.Rules.{wellFormed}
 use Rattle.storage.specs.Decode.{decode}
 use Rattle.index_lists.specs.Picked.{nth}
 use Rattle.answers.specs.Numbers.{modelReply}
-use Rattle.record_kinds.specs.Replies.{submitBytes}
+use Rattle.submission.specs.Replies.{submitBytes}
 use Rattle.history.specs.Exports.{findingOut, aLeader, noLeader, leaderOut}
 use Rattle.promises.specs.Run.{bytesOf, replyTo, accepts, ledgerOf, KnownAtChecks}
 

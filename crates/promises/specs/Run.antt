@@ -13,7 +13,7 @@ use Rattle.model.proofs.Completeness.{Known}
 use Rattle.storage.specs.Fresh.{freshHistory}
 use Rattle.answers.specs.declared.numbers.Reply.{Reply}
 use Rattle.answers.specs.Numbers.{replyOf}
-use Rattle.record_kinds.specs.Replies.{submitAnswer, submitBytes}
+use Rattle.submission.specs.Replies.{submitAnswer, submitBytes}
 
 -- the bytes after a list of records
 unfoldable pub bytesFrom : Bytes → List Bytes → Bytes

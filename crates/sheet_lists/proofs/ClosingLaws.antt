@@ -22,8 +22,8 @@ use Rattle.storage.proofs.Meanings.{end-is, stand}
 use Rattle.index_lists.specs.Committed.{ownerIn}
 use Rattle.lists.proofs.Meaning.{owner-told}
 use Rattle.index_lists.specs.Picked.{nth}
-use Rattle.lists.specs.declared.findings.FindingAnswer.{FindingAnswer}
-use Rattle.lists.specs.Findings.{findingOf}
+use Rattle.finding_lists.specs.declared.findings.FindingAnswer.{FindingAnswer}
+use Rattle.finding_lists.specs.Findings.{findingOf}
 use Rattle.lists.specs.declared.leaders.LeaderAnswer.{LeaderAnswer}
 use Rattle.lists.specs.Leaders.{leaderAs}
 use Rattle.index_lists.specs.declared.unseen.UnseenAnswer.{UnseenAnswer}

@@ -7,7 +7,7 @@ use borrow.Author.Tests.{eq-eqb, ne-eqb}
 use Rattle.model.specs.Sizes.{Bytes}
 use Rattle.answers.specs.declared.numbers.Reply.{Reply}
 use Rattle.answers.specs.Numbers.{replyOf}
-use Rattle.record_kinds.specs.Replies.{submitAnswer, submitBytes}
+use Rattle.submission.specs.Replies.{submitAnswer, submitBytes}
 use Rattle.sheet_numbers.specs.Decimal.{Put}
 use Rattle.sheet_lines.specs.Lines.{recordLine}
 use Rattle.sheet_text.specs.Sheet.{kindOf, cutLine, lineFor, bytesAfter, HandedOver}

@@ -8,7 +8,7 @@ use lib.Dec.{eqb}
 use lib.ListN.{length, getD, take, drop}
 use Rattle.model.specs.Sizes.{Bytes}
 use Rattle.answers.specs.Numbers.{refusalIn, replyOf}
-use Rattle.record_kinds.specs.Replies.{submitAnswer, submitBytes}
+use Rattle.submission.specs.Replies.{submitAnswer, submitBytes}
 use Rattle.sheet_text.specs.declared.taking.Progress.{Progress}
 use Rattle.sheet_pieces.specs.declared.split.Piece as code
 use Rattle.sheet_pieces.specs.Pieces.{Piece, whole, cut, pieces, pieceAt}

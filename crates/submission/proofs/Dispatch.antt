@@ -17,7 +17,8 @@ use Rattle.records.proofs.Readable.{view-walk}
 use Rattle.storage.specs.Rules.{wellFormed}
 use Rattle.view_judging.specs.Judging.{Observing}
 use Rattle.answers.specs.declared.answer.Answer.{Answer}
-use Rattle.record_kinds.specs.Replies.{ofRows, replyTo, bytesTo, Replied, submitAnswer, submitBytes, Submitted}
+use Rattle.leader_kinds.specs.Kinds.{ofRows}
+use Rattle.submission.specs.Replies.{replyTo, bytesTo, Replied, submitAnswer, submitBytes, Submitted}
 
 module _ (h s : Bytes) (d : Head) (t : Told s d) where
   pub view-asks : (n : NodeId) (c : ℕ) → wellFormed h ≡ true → d ≡ Head.View n c → Observing h s c (n .0)
@@ -32,15 +33,15 @@ module _ (h s : Bytes) (d : Head) (t : Told s d) where
   pub election-asks : (l : NodeId) (k : Term) (p : Bool) (n : ℕ) → d ≡ Head.Election l k p n → l .0 < 64
   election-asks l k p n e = subst Within e (t .within) .0
 
-pub replied : (h s : Bytes) (d d′ : Head) (r : Answer) (h′ : Bytes) → d ≡ d′ → Replied h s d′ r h′ → Replied h s d r h′
-replied h s d d′ r h′ e q = subst (λ (x : Head). Replied h s x r h′) (sym e) q
+pub replied : (h s : Bytes) (d d′ : Head) (r : Answer) (h′ : Bytes) → d ≡ d′ → (r ≡ replyTo h s d′) × (h′ ≡ bytesTo h s d′) → Replied h s d r h′
+replied h s d d′ r h′ e q = subst (λ (x : Head). Replied h s x r h′) (sym e) (record { answer = q .0; bytes = q .1 })
 
 pub rows-replied : (h s : Bytes) (d : Head) (c : ℕ) (r : Answer) → d ≡ Head.Rows c → r ≡ ofRows (rows.verdict (rowsAt s firstRow c))
     → Replied h s d r h
-rows-replied h s d c r e q = replied h s d (Head.Rows c) r h e (record { answer = q; bytes = refl })
+rows-replied h s d c r e q = replied h s d (Head.Rows c) r h e (q, refl)
 
 pub unreadable-replied : (h s : Bytes) (d : Head) (f : Fault) → d ≡ Head.Unreadable f → Replied h s d (Answer.Unreadable f) h
-unreadable-replied h s d f e = replied h s d (Head.Unreadable f) (Answer.Unreadable f) h e (record { answer = refl; bytes = refl })
+unreadable-replied h s d f e = replied h s d (Head.Unreadable f) (Answer.Unreadable f) h e (refl, refl)
 
 -- ---- the whole
 

@@ -25,21 +25,23 @@ use Rattle.storage.proofs.Answered as kinds
 use Rattle.logical_log.specs.declared.observation.Observed.{Observed}
 use Rattle.logical_log.specs.Observation.{observed}
 use Rattle.logical_log.proofs.Meaning as views
-use Rattle.commit.specs.declared.prefix.CommitAnswer.{CommitAnswer}
+use Rattle.committed_prefix.specs.declared.committed.CommitAnswer.{CommitAnswer}
 use Rattle.commit.specs.Prefix.{commitAnswer, commitReply}
 use Rattle.commit_terms.specs.declared.terms.TermsAnswer.{TermsAnswer}
 use Rattle.commit_terms.specs.Terms.{termsAnswer, termsReply}
 use Rattle.commit.proofs.Meaning as commits
 use Rattle.commit_terms.proofs.Meaning as commit-terms
-use Rattle.election.specs.declared.certificate.ElectionAnswer.{ElectionAnswer}
+use Rattle.election_judging.specs.declared.judging.ElectionAnswer.{ElectionAnswer}
 use Rattle.election.specs.Certify.{answerIn}
 use Rattle.election.proofs.Meaning as elections
 use Rattle.completeness.specs.declared.leader_completeness.Checked.{Checked}
 use Rattle.completeness.specs.Check.{checkReply, checkAnswer, checkBytes}
-use Rattle.completeness.proofs.Fits.{TermsFit}
+use Rattle.certificate_judgement.proofs.Fits.{TermsFit}
 use Rattle.completeness.proofs.Meaning as checks
 use Rattle.answers.specs.declared.answer.Answer.{Answer}
-use Rattle.record_kinds.specs.Replies.{ofView, ofCommit, ofTerms, ofElection, ofCheck, replyTo, bytesTo, submitAnswer, submitBytes, Submitted}
+use Rattle.log_kinds.specs.Kinds.{ofView, ofCommit, ofTerms}
+use Rattle.leader_kinds.specs.Kinds.{ofElection, ofCheck}
+use Rattle.submission.specs.Replies.{replyTo, bytesTo, submitAnswer, submitBytes, Submitted}
 
 -- ---- statement
 

@@ -3,14 +3,14 @@ ghost use mathlib.Core.Path.{_≡_};
 ghost use mathlib.Core.Bool.{true};
 ghost use Rattle.records.specs.Heads.{Told};
 ghost use Rattle.storage.specs.Rules.{wellFormed};
-ghost use Rattle.record_kinds.specs.Replies.{Replied, Submitted};
+ghost use Rattle.submission.specs.Replies.{Replied, Submitted};
 use answers::answer::Answer;
-use record_kinds::kinds::take_check;
-use record_kinds::kinds::take_commit;
-use record_kinds::kinds::take_election;
-use record_kinds::kinds::take_rows;
-use record_kinds::kinds::take_terms;
-use record_kinds::kinds::take_view;
+use leader_kinds::kinds::take_check;
+use leader_kinds::kinds::take_election;
+use leader_kinds::kinds::take_rows;
+use log_kinds::kinds::take_commit;
+use log_kinds::kinds::take_terms;
+use log_kinds::kinds::take_view;
 use records::head::Head;
 use records::head::read;
 use rules::whole::well_formed;
@@ -22,15 +22,15 @@ fn dispatch(history: &mut [u8], s: &[u8], head: Head) -> Answer
 {
     match head {
         Head::View { node, count } => take_view(&mut history[..], s, node, count),
-        Head::Commit { node, index } => take_commit(&mut history[..], s, node, index),
-        Head::Terms { old, new, term } => take_terms(&mut history[..], s, old, new, term),
+        Head::Commit { node, index } => take_commit(&mut history[..], node, index),
+        Head::Terms { old, new, term } => take_terms(&mut history[..], old, new, term),
         Head::Election {
             leader,
             term,
             present,
             length,
-        } => take_election(&mut history[..], s, leader, term, present, length),
-        Head::Check => take_check(&mut history[..], s),
+        } => take_election(&mut history[..], leader, term, present, length),
+        Head::Check => take_check(&mut history[..]),
         Head::Rows { count } => take_rows(s, count),
         Head::Unreadable(f) => Answer::Unreadable(f),
     }

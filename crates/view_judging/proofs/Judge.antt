@@ -18,11 +18,11 @@ use Rattle.storage.specs.Tables.{PrefixRow}
 use Rattle.storage.specs.Decode.{prefixAt, resolve}
 use Rattle.storage.specs.Rules.{sameRow}
 use Rattle.storage.proofs.RowFacts.{Facts, rowAt, nil≢snoc, snoc-injective}
-use Rattle.log_prefix.specs.Prefix.{rowOf, searchFrom, find, first}
+use Rattle.prefix_lookup.specs.Prefix.{rowOf, searchFrom, find, first}
 use Rattle.log_comparison.specs.Comparison.{sameFrom}
 use Rattle.view_judging.specs.Judging.{nextNumber, differs, other, counted, missingFrom, noteOf, notesFrom}
 use Rattle.log_prefix.specs.Extension.{orNext}
-use Rattle.log_prefix.proofs.PrefixLaws.{Rows, found, missing, first-some, first-none, lastTerm-snoc}
+use Rattle.prefix_lookup.proofs.PrefixLaws.{Rows, found, missing, first-some, first-none, lastTerm-snoc}
 use Rattle.log_comparison.proofs.ComparisonLaws.{same-prefix}
 use Rattle.log_prefix.proofs.Extend.{extendRows, extendNumber, extendAll}
 

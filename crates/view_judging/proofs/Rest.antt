@@ -21,13 +21,13 @@ use Rattle.storage.specs.Tables.{prefixRow, prefixRows, prefixesPart}
 use Rattle.storage.specs.Values.{numberIndex}
 use Rattle.storage.specs.Decode.{prefixAt, resolve}
 use Rattle.storage.proofs.WellFormed.{rows-index}
-use Rattle.log_prefix.specs.Table.{Table}
-use Rattle.log_prefix.specs.Prefix.{rowOf, find}
+use Rattle.prefix_lookup.specs.Table.{Table}
+use Rattle.prefix_lookup.specs.Prefix.{rowOf, find}
 use Rattle.view_judging.specs.Judging.{nextNumber, counted, onward, frontAt, SameWritten, Stand, lastAt, Rest}
 use Rattle.log_prefix.specs.Extension.{extensionIn, writtenBytes, writtenCount, writtenNumber}
 use Rattle.view_judging.specs.declared.judging.Place.{Place}
-use Rattle.log_prefix.proofs.PrefixLaws.{found}
-use Rattle.log_prefix.proofs.TableLaws.{rows-length, rows-at, table-facts}
+use Rattle.prefix_lookup.proofs.PrefixLaws.{found}
+use Rattle.prefix_lookup.proofs.TableLaws.{rows-length, rows-at, table-facts}
 use Rattle.view_judging.proofs.Turns.{next-lost}
 use Rattle.log_prefix.proofs.Written.{number-found, count-found, bytes-found, written-cons}
 

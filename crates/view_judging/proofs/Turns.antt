@@ -21,13 +21,13 @@ use Rattle.record_walk.proofs.Walks.{entries-next, entries-none, next-walk, wal
 use Rattle.model.proofs.Tests.{tf, cond-cases, cond-true, cond-false}
 use Rattle.storage.specs.Tables.{PrefixRow, prefixRow}
 use Rattle.storage.proofs.RowLaws.{bytes-take}
-use Rattle.log_prefix.specs.Table.{entryValue}
+use Rattle.prefix_lookup.specs.Table.{entryValue}
 use Rattle.log_violation.specs.Violation.{noteHeld, noteBytes, heldAll, bytesAll}
-use Rattle.log_prefix.specs.Prefix.{rowOf, searchFrom, find, isOf, first}
+use Rattle.prefix_lookup.specs.Prefix.{rowOf, searchFrom, find, isOf, first}
 use Rattle.log_comparison.specs.Comparison.{sameFrom}
 use Rattle.view_judging.specs.Judging.{nextNumber, differs, other, counted, missingFrom, noteOf, notesFrom, Rest, JudgedAs}
 use Rattle.view_judging.specs.declared.judging.Place.{Place}
-use Rattle.log_prefix.proofs.PrefixLaws.{searched}
+use Rattle.prefix_lookup.proofs.PrefixLaws.{searched}
 use Rattle.log_violation.proofs.ViolationLaws.{all-length, held-append, bytes-append, held-few}
 
 -- ---- the next number

@@ -16,7 +16,7 @@ use Rattle.storage.specs.Tables.{PrefixRow, prefixRow, prefixesPart, findingsPa
 use Rattle.storage.specs.Values.{numberIndex}
 use Rattle.storage.specs.Rules.{wellFormed}
 use Rattle.view_judging.specs.declared.judging.Place.{Place}
-use Rattle.log_prefix.specs.Prefix.{rowOf, find, first}
+use Rattle.prefix_lookup.specs.Prefix.{rowOf, find, first}
 use Rattle.log_comparison.specs.Comparison.{sameFrom}
 use Rattle.log_prefix.specs.Extension.{writtenBytes, writtenCount, writtenNumber}
 use Rattle.log_violation.specs.Violation.{heldAll, bytesAll}

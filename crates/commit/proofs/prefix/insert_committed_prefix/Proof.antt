@@ -1,6 +1,7 @@
 -- `commit::prefix::insert_committed_prefix` meets its contract.
 -- Assumes nothing.
-use Rattle.commit.proofs.PrefixTurns.{unseen-length, keep-length, note-leaves-length, insert-differs, insert-longer, insert-shorter}
+use Rattle.committed_prefix.proofs.PrefixTurns.{unseen-length, keep-length}
+use Rattle.commit.proofs.PrefixTurns.{note-leaves-length, insert-differs, insert-longer, insert-shorter}
 use Rattle.storage.proofs.WellFormed.{formed}
 use lib.ListN.{length}
 use borrow.Author.Tests.{not-true, not-false}

@@ -1,6 +1,7 @@
 -- `commit::prefix::observe_committed_prefixes` meets its contract.
 -- Assumes nothing.
-use Rattle.commit.proofs.PrefixTurns.{unseen-length, keep-length, insert-leaves-length, seen-within, kept-within, observe-unseen, observe-zero, observe-first, observe-later}
+use Rattle.committed_prefix.proofs.PrefixTurns.{unseen-length, keep-length, kept-within}
+use Rattle.commit.proofs.PrefixTurns.{insert-leaves-length, seen-within, observe-unseen, observe-zero, observe-first, observe-later}
 use Rattle.storage.proofs.WellFormed.{formed}
 use lib.ListN.{length}
 use borrow.Author.Needs.{needs}

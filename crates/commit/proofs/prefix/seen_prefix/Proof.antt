@@ -1,8 +1,8 @@
 -- `commit::prefix::seen_prefix` meets its contract.
 -- Assumes nothing.
-use Rattle.commit.proofs.PrefixTurns.{front-within, seen-is}
+use Rattle.committed_prefix.proofs.PrefixTurns.{front-within, seen-is}
 use Rattle.storage.proofs.WellFormed.{formed}
-use Rattle.log_prefix.proofs.TableLaws.{table-lent}
+use Rattle.prefix_lookup.proofs.TableLaws.{table-lent}
 use Rattle.table_rows.specs.Values.{nodeValue}
 use Prim.Native.Nat.{ℕ, _≤_}
 use borrow.Author.Needs.{needs}

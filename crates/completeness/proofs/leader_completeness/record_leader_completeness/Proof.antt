@@ -7,9 +7,7 @@ use mathlib.Core.Path.{ap, _∙_}
 use native.Mathlib.Omega.{arith}
 use lib.ListN.{length}
 use borrow.Author.Needs.{needs}
-use Rattle.completeness.proofs.leader_completeness.record_leader_completeness.Statement.{
-  statement,
-}
+use Rattle.completeness.proofs.leader_completeness.record_leader_completeness.Statement.{statement}
 use Rattle.completeness.proofs.leader_completeness.record_leader_completeness.Tie as tie
 
 slice-aggregate-copy-findings : tie.Need-slice-aggregate-copy-findings

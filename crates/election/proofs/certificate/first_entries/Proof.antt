@@ -2,9 +2,9 @@
 -- Assumes nothing.
 use mathlib.Core.List.{List}
 use Rattle.storage.specs.Tables.{prefixRow}
-use Rattle.log_prefix.specs.Prefix.{sliceOf}
+use Rattle.prefix_lookup.specs.Prefix.{sliceOf}
 use Rattle.storage.proofs.WellFormed.{formed}
-use Rattle.log_prefix.proofs.TableLaws.{whole-table}
+use Rattle.prefix_lookup.proofs.TableLaws.{whole-table}
 use Prim.Native.Nat.{ℕ}
 use mathlib.Core.Path.{ap, _∙_}
 use native.Mathlib.Omega.{arith}

@@ -11,8 +11,8 @@ use Rattle.storage_bytes.specs.Words.{bytesAt, sameBytes}
 use Rattle.storage.specs.Tables.{prefixRow}
 use Rattle.storage_bytes.proofs.ByteTurns.{same-next, same-stop, same-none}
 use Rattle.log_comparison.specs.Comparison.{sameEntry, sameFrom}
-use Rattle.log_prefix.proofs.TableLaws.{table-parent, table-size}
-use Rattle.log_prefix.proofs.Loops.{place-before, parent-within, parent-below, content-within}
+use Rattle.prefix_lookup.proofs.TableLaws.{table-parent, table-size}
+use Rattle.prefix_lookup.proofs.Loops.{place-before, parent-within, parent-below, content-within}
 use Rattle.log_comparison.proofs.Turns.{Compared, compare-equal, compare-first-empty, compare-second-empty, compare-differs, compare-next, entry-term, entry-size, entry-content}
 use Rattle.log_comparison.proofs.comparison.same_prefix.Statement.{statement}
 use Rattle.log_comparison.proofs.comparison.same_prefix.Tie as tie

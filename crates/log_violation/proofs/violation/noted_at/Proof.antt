@@ -7,9 +7,9 @@ use borrow.Author.Count.{falls}
 use borrow.Author.Needs.{needs}
 use Rattle.storage.specs.Tables.{findingRow}
 use Rattle.table_rows.specs.Values.{findingValue}
-use Rattle.log_prefix.specs.Prefix.{searchFrom}
+use Rattle.prefix_lookup.specs.Prefix.{searchFrom}
 use Rattle.log_violation.specs.Violation.{sameNumbers, notedAt}
-use Rattle.log_prefix.proofs.Loops.{search-next, search-stop, search-none}
+use Rattle.prefix_lookup.proofs.Loops.{search-next, search-stop, search-none}
 use Rattle.log_violation.proofs.violation.noted_at.Statement.{statement}
 use Rattle.log_violation.proofs.violation.noted_at.Tie as tie
 

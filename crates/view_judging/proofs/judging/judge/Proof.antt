@@ -5,7 +5,7 @@ use mathlib.Core.Path.{sym, subst}
 use borrow.Author.Needs.{needs}
 use Rattle.record_walk.proofs.Walks.{here}
 use Rattle.view_judging.proofs.Turns.{Judging, judging-starts, judging-ends, judging-gap, judging-next, entry-short, next-within, front-shown}
-use Rattle.log_prefix.specs.Table.{entryValue}
+use Rattle.prefix_lookup.specs.Table.{entryValue}
 use Rattle.log_prefix.proofs.Written.{value-length}
 use Rattle.view_judging.proofs.Rest.{Placed, placed-starts, placed-ends, placed-next, last-shown}
 use Rattle.view_judging.proofs.judging.judge.Statement.{statement}

@@ -5,7 +5,7 @@ use native.Mathlib.Omega.{arith}
 use lib.ListN.{length}
 use Rattle.storage.proofs.WellFormed.{formed}
 use Rattle.log_violation.proofs.ViolationLaws.{all-length, findings-long}
-use Rattle.log_prefix.proofs.TableLaws.{table-lent}
+use Rattle.prefix_lookup.proofs.TableLaws.{table-lent}
 use Rattle.view_judging.proofs.Judged.{view-judged}
 use Rattle.view_judging.proofs.judging.judge_view.Statement.{statement}
 use Rattle.view_judging.proofs.judging.judge_view.Tie as tie

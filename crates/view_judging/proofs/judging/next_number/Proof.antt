@@ -2,7 +2,7 @@
 -- Assumes nothing.
 use borrow.Author.Needs.{needs}
 use Rattle.storage.specs.Tables.{prefixRow}
-use Rattle.log_prefix.specs.Table.{entryValue}
+use Rattle.prefix_lookup.specs.Table.{entryValue}
 use Rattle.view_judging.proofs.Turns.{next-lost, next-found}
 use Rattle.view_judging.proofs.judging.next_number.Statement.{statement}
 use Rattle.view_judging.proofs.judging.next_number.Tie as tie

@@ -1,0 +1,85 @@
+-- `certificate_judgement::judgement::judge_all` meets its contract. The invariant: what is left gives the rest of the answer.
+-- Assumes nothing.
+use Rattle.certificate_judgement.proofs.JudgementLaws.{row-here, row-stored, Walking, walking-starts, walking-next, walking-ends}
+use borrow.Author.Count.{falls}
+use Rattle.storage.proofs.WellFormed.{formed}
+use Prim.Native.Nat.{_-_}
+use mathlib.Core.Path.{sym, _∙_}
+use native.Mathlib.Omega.{arith}
+use borrow.Author.Needs.{needs}
+use Rattle.certificate_judgement.proofs.judgement.judge_all.Statement.{statement}
+use Rattle.certificate_judgement.proofs.judgement.judge_all.Tie as tie
+
+abbrev Inv-loop : tie.InvT-loop
+Inv-loop history findings₀ held m certificates earlier₀ k₀ findings earlier k = Walking history findings₀ held m findings (earlier .relevant) (earlier .held) k
+
+abbrev μ-loop : tie.MeasureT-loop
+μ-loop history findings₀ held m certificates earlier₀ k₀ findings earlier k = m - k
+
+certificate-count-requires : tie.Need-certificate-count-requires Inv-loop μ-loop
+certificate-count-requires c κs = let l = formed _ (c .before .before .pre .right) .long in omega arith
+
+part-requires : tie.Need-part-requires Inv-loop μ-loop
+part-requires c κs = let l = formed _ (c .before .before .before .pre .right) .long in omega arith
+
+loop-holds : tie.Need-loop-holds Inv-loop μ-loop
+loop-holds c =
+    let s = c .before .before .before .before in
+    walking-starts (s .args .history .now) (s .args .findings .now) (s .args .held) _ (c .before .certificate-count .ensures .is) (s .pre .few) (s .pre .long)
+
+certificate-at-requires : tie.Need-certificate-at-requires Inv-loop μ-loop
+certificate-at-requires c κs =
+    let o = formed _ (c .before .before .before .before .before .before .pre .right) .certificates in
+    let n = c .before .before .before .certificate-count .ensures .is in
+    let l = c .loop-test .taken in
+    (omega arith, c .before .before .part .ensures .long)
+
+judge-requires : tie.Need-judge-requires Inv-loop μ-loop
+judge-requires c κs =
+    let s = c .before .before .before .before .before .before .before .before in
+    let n = c .before .before .before .before .before .certificate-count .ensures .is in
+    let l = c .before .before .loop-test .taken in
+    record {
+      right = s .pre .right;
+      stored = row-stored (s .args .history .now) _ _ (formed _ (s .pre .right)) (omega arith) _ (c .before .before .before .before .part .ensures .is) (c .before .certificate-at .ensures);
+      long = c .before .before .before .loop .inv .long;
+      few = c .before .before .before .loop .inv .few;
+    }
+
+add-k : tie.Need-add-k Inv-loop μ-loop
+add-k c = search needs
+
+loop-less : tie.Need-loop-less Inv-loop μ-loop
+loop-less c = falls _ _ (c .before .before .before .before .before .loop-test .taken)
+
+loop-again : tie.Need-loop-again Inv-loop μ-loop
+loop-again c =
+    let l = c .before .before .before .before .before .before in
+    let s = l .before .before .before .before .before .args in
+    walking-next (s .history .now) (s .findings .now) (s .held) _ (l .loop .findings) (l .loop .earlier .relevant) (l .loop .earlier .held) (l .loop .k) (l .loop .inv) (c .before .before .before .before .before .loop-test .taken) _ (row-here (s .history .now) _ _ _ (l .before .part .ensures .is) (c .before .before .before .before .certificate-at .ensures)) _ _ _ (c .before .before .judge .ensures)
+
+same-length : tie.Need-same-length Inv-loop μ-loop
+same-length c = c .before .loop .inv .long ∙ sym (c .before .before .before .before .before .before .pre .long)
+
+returns : tie.Need-returns Inv-loop μ-loop
+returns c =
+    let l = c .before in
+    let s = l .before .before .before .before .before .args in
+    walking-ends (s .history .now) (s .findings .now) (s .held) _ (l .loop .findings) (l .loop .earlier .relevant) (l .loop .earlier .held) (l .loop .k) (l .loop .inv) (c .loop-test .left)
+
+pub judge-all-spec : {M : Type 1} → statement M
+judge-all-spec =
+    tie.close
+    (tie.spec
+    Inv-loop
+    μ-loop
+    certificate-count-requires
+    part-requires
+    loop-holds
+    certificate-at-requires
+    judge-requires
+    add-k
+    loop-less
+    loop-again
+    same-length
+    returns)

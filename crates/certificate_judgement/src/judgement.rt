@@ -1,0 +1,108 @@
+// A certificate judged: flag 4 where it has a relevant index, LG-05 where its log is absent, shorter or different through
+// it. Nothing of the history is written; findings are noted in a copy of its table.
+ghost use mathlib.Core.Path.{_≡_};
+ghost use Prim.Native.Nat.{_≤_};
+ghost use mathlib.Core.Bool.{true};
+ghost use Rattle.storage_bytes.specs.Words.{wordAt};
+ghost use Rattle.storage.specs.Rules.{wellFormed};
+ghost use Rattle.certificate_rows.specs.Values.{certificateValue};
+ghost use Rattle.certificate_judgement.specs.Judgement.{lacksThrough, Noting, NotedAs, Judging, JudgedAs, JudgedAll};
+use certificate_rows::certificates::Certificate;
+use certificate_rows::certificates::certificate_at;
+use check_relevance::relevance::relevant_index;
+use committed_prefix::committed::Kept;
+use committed_prefix::committed::agree_through;
+use committed_prefix::committed::committed_prefix;
+use log_violation::violation::note;
+use storage::head::certificate_count;
+use storage_bytes::layout::CERTIFICATES_LENGTH;
+use storage_bytes::layout::CERTIFICATES_START;
+use storage_bytes::layout::part;
+use table_rows::findings::Found;
+use units::LogIndex;
+
+// How far the judging has come: whether an index was relevant, and how many findings are held.
+pub struct Judged {
+    pub relevant: bool,
+    pub held: usize,
+}
+
+// The certificate's log is absent, or shorter than the committed prefix through the index, or different. Where none is kept, nothing
+// is lacking but an absent log.
+fn lacks_through(history: &[u8], c: Certificate, through: LogIndex) -> bool
+    requires { ⌜ (wellFormed (now history) ≡ true) × (c .log ≤ wordAt (now history) 0 2) ⌝ }
+    ensures { λ r. ⌜ r ≡ lacksThrough (now (history .entry)) (certificateValue c) (through .0) ⌝ }
+{
+    if c.present == 0 {
+        return true;
+    }
+    let Kept::Prefix(committed) = committed_prefix(history) else {
+        return false;
+    };
+    let log = c.log;
+    !agree_through(history, log, committed, through)
+}
+
+// LG-05 is noted where the log lacks the committed prefix through the index.
+fn note_lacking(
+    history: &[u8],
+    c: Certificate,
+    through: LogIndex,
+    findings: &mut [u8],
+    held: usize,
+) -> usize
+    requires { ⌜ Noting (now history) (certificateValue c) (now findings) held ⌝ }
+    ensures { λ r. ⌜ NotedAs (now (history .entry)) (certificateValue c) (through .0) (now (findings .entry)) held r (now (findings .exit)) ⌝ }
+{
+    if !lacks_through(history, c, through) {
+        return held;
+    }
+    let node = c.leader;
+    let term = c.term;
+    note(
+        &mut findings[..],
+        held,
+        Found {
+            name: 5,
+            node,
+            index: through,
+            term,
+        },
+    )
+}
+
+// One certificate.
+pub fn judge(history: &[u8], c: Certificate, findings: &mut [u8], earlier: Judged) -> Judged
+    requires { ⌜ Noting (now history) (certificateValue c) (now findings) (earlier .held) ⌝ }
+    ensures { λ r. ⌜ JudgedAs (now (history .entry)) (certificateValue c) (now (findings .entry)) (earlier .relevant) (earlier .held) (r .relevant) (r .held) (now (findings .exit)) ⌝ }
+{
+    let through = relevant_index(history, c);
+    if through.0 == 0 {
+        return earlier;
+    }
+    let held = note_lacking(history, c, through, &mut findings[..], earlier.held);
+    Judged {
+        relevant: true,
+        held,
+    }
+}
+
+// Every certificate, by term, then arrival, as they are stored.
+pub fn judge_all(history: &[u8], findings: &mut [u8], held: usize) -> Judged
+    requires { ⌜ Judging (now history) (now findings) held ⌝ }
+    ensures { λ r. ⌜ JudgedAll (now (history .entry)) (now (findings .entry)) held (r .relevant) (r .held) (now (findings .exit)) ⌝ }
+{
+    let m = certificate_count(history);
+    let certificates = part(history, CERTIFICATES_START, CERTIFICATES_LENGTH);
+    let mut earlier = Judged {
+        relevant: false,
+        held,
+    };
+    let mut k = 0;
+    while k < m {
+        let c = certificate_at(certificates, k);
+        earlier = judge(history, c, &mut findings[..], earlier);
+        k += 1;
+    }
+    earlier
+}

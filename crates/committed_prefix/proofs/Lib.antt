@@ -1,0 +1,2 @@
+pub mod PrefixTurns
+pub mod PrefixLaws

@@ -1,0 +1,244 @@
+-- What the numbers of prefixes mean where bytes stand for a history, and what each write of this kind means.
+-- Assumes nothing.
+use Prim.Native.Nat.{ℕ, zero, suc, _-_, _≤_, _<_, min}
+use native.Mathlib.Omega.{arith}
+use mathlib.Core.Path.{_≡_, refl, sym, _∙_, ap, subst}
+use mathlib.Core.Bool.{true, false, cond}
+use mathlib.Core.Logic.{_⊎_, inl, inr, ⊎-elim}
+use mathlib.Core.List.{List, [], _∷_}
+use lib.Dec.{ltb, eqb}
+use lib.ListN.{length, getD, set, take}
+use lib.Seq.{set-getD}
+use borrow.Author.Tests.{ltb-true, ltb-false}
+use Rattle.model.specs.Sizes.{Bytes}
+use Rattle.model.specs.Entry.{Prefix, same, agree, withAll}
+use Rattle.model.specs.History.{Finding, History, frontOf, noted}
+use Rattle.model.proofs.Tests.{cond-cases}
+use Rattle.storage_bytes.specs.Words.{wordAt}
+use Rattle.storage.specs.Values.{indexOf}
+use Rattle.storage_bytes.specs.Lists.{every}
+use Rattle.storage.specs.Tables.{PrefixRow, NodeRow, findingRows, prefixRows, findingsPart, prefixesPart}
+use Rattle.storage.specs.Decode.{prefixAt, resolve}
+use Rattle.storage.specs.Rules.{findingRight}
+use Rattle.storage.proofs.RowFacts.{Facts}
+use Rattle.storage.proofs.Meanings.{Stands, withNoted, prefixes-read, findings-read, owner-read, front-read, last-read, node-written, committed-written, prefixes-stored, findings-stored, committed-stored, findings-taken}
+use Rattle.log_violation.specs.Violation.{findingsKept}
+use Rattle.prefix_lookup.specs.Prefix.{sliceOf}
+use Rattle.log_comparison.specs.Comparison.{sameFrom}
+use Rattle.prefix_lookup.specs.declared.lookup.Slice.{Slice}
+use Rattle.prefix_lookup.proofs.TableLaws.{rows-length, rows-at}
+use Rattle.prefix_lookup.proofs.SliceLaws.{index-length, slice-cases}
+use Rattle.log_comparison.proofs.ComparisonLaws.{same-prefix}
+use Rattle.log_violation.proofs.ViolationLaws.{Holds, note-holds, note-length, findings-long}
+use Rattle.committed_prefix.specs.Prefix.{rowsOf, nodeOf, longerIn, endIn, sameSlices, agreeIn, unseenSet, keepBytes, difference, heldWith, tableWith}
+use Rattle.storage.proofs.WellFormed.{Formed, formed, formed-rows}
+
+-- the history with a node's unseen mark, the committed prefix with its owner, and the findings anew
+abbrev pub changed : History → ℕ → ℕ → Prefix → ℕ → List Finding → History
+changed x n m c o fs =
+    record {
+      prefixes = x .prefixes;
+      fronts = x .fronts;
+      lasts = x .lasts;
+      unseen = set (x .unseen) n m;
+      committed = c;
+      owner = o;
+      terms = x .terms;
+      certificates = x .certificates;
+      findings = fs;
+    }
+
+-- the lesser of two by the code's test
+lesser : (a b : ℕ) → cond (ltb a b) a b ≡ min a b
+lesser a b =
+    cond-cases (λ (z : ℕ). z ≡ min a b) (ltb a b) a b (λ e. let l = ltb-true a b e in omega arith) (λ e. let l = ltb-false a b e in omega arith)
+
+module _ (h : Bytes) (x : History) (s : Stands h x) where
+  -- the prefix of a number
+  abbrev pub at : ℕ → Prefix
+  at p = prefixAt (x .prefixes) p
+
+  facts : Formed h
+  facts = formed h (s .right)
+
+  abbrev rows : List PrefixRow
+  rows = prefixRows (prefixesPart h) (wordAt h 0 2)
+
+  count : length rows ≡ wordAt h 0 2
+  count = rows-length (prefixesPart h) (wordAt h 0 2)
+
+  known : Facts rows
+  known = formed-rows h facts
+
+  resolves : resolve rows ≡ x .prefixes
+  resolves = prefixes-stored h x s
+
+  number : (p : ℕ) → p ≤ wordAt h 0 2 → p ≤ length rows
+  number p l = subst (λ (m : ℕ). p ≤ m) (sym count) l
+
+  -- ---- what is read
+
+  pub committed-is : x .committed ≡ at (wordAt h 4 2)
+  committed-is = sym (committed-stored h x s)
+
+  pub owner-is : x .owner ≡ wordAt h 8 1
+  owner-is = ap (λ (y : History). y .owner) (sym (s .decodes)) ∙ owner-read h
+
+  pub front-is : (n : ℕ) → n < 64 → frontOf x n ≡ at (nodeOf h n .front)
+  front-is n l =
+      ap (λ (y : History). frontOf y n) (sym (s .decodes)) ∙ front-read h n l ∙ ap (λ (y : History). prefixAt (y .prefixes) (nodeOf h n .front)) (s .decodes)
+
+  last-is : (n : ℕ) → n < 64 → getD (x .lasts) n 0 ≡ nodeOf h n .last
+  last-is n l = ap (λ (y : History). getD (y .lasts) n 0) (sym (s .decodes)) ∙ last-read h n l
+
+  pub prefixes-held : length (x .prefixes) ≡ wordAt h 0 2
+  prefixes-held = ap (λ (y : History). length (y .prefixes)) (sym (s .decodes)) ∙ prefixes-read h
+
+  pub findings-held : length (x .findings) ≡ wordAt h 7 1
+  findings-held = ap (λ (y : History). length (y .findings)) (sym (s .decodes)) ∙ findings-read h
+
+  pub empty-is : (p : ℕ) → p ≤ wordAt h 0 2 → at p ≡ [] → p ≡ 0
+  empty-is p l e =
+      known .distinct p 0 (number p l) (omega arith) (ap (λ (ps : List Prefix). prefixAt ps p) resolves ∙ e)
+
+  pub index-is : (p : ℕ) → p ≤ wordAt h 0 2 → indexOf (rowsOf h) p ≡ length (at p)
+  index-is p l =
+      index-length (rowsOf h) rows known (rows-at (prefixesPart h) (wordAt h 0 2)) p (number p l)
+      ∙ ap (λ (ps : List Prefix). length (prefixAt ps p)) resolves
+
+  same-is : (p q : ℕ) → p ≤ wordAt h 0 2 → q ≤ wordAt h 0 2 → sameFrom (rowsOf h) p p q ≡ same (at p) (at q)
+  same-is p q l m =
+      same-prefix (rowsOf h) rows known (rows-at (prefixesPart h) (wordAt h 0 2)) p q (number p l) (number q m)
+      ∙ ap (λ (ps : List Prefix). same (prefixAt ps p) (prefixAt ps q)) resolves
+
+  -- a part of a stored prefix, by number
+  pub record Part (p i : ℕ) : Type 0 where
+    pub part : ℕ
+    pub told : sliceOf (rowsOf h) p i ≡ Slice.Prefix part
+    pub reaches : i ≤ length (at p)
+    pub within : part ≤ wordAt h 0 2
+    pub first : at part ≡ take i (at p)
+
+  pub slice-is : (p i : ℕ) → p ≤ wordAt h 0 2 → ((sliceOf (rowsOf h) p i ≡ Slice.Beyond) × (length (at p) < i)) ⊎ Part p i
+  slice-is p i l =
+      ⊎-elim
+      (λ b. inl (b .0, subst (λ (ps : List Prefix). length (prefixAt ps p) < i) resolves (b .1)))
+      (λ b.
+      inr (record {
+        part = b .0;
+        told = b .1;
+        reaches = subst (λ (ps : List Prefix). i ≤ length (prefixAt ps p)) resolves (b .2);
+        within = subst (λ (m : ℕ). b .0 ≤ m) count (b .3);
+        first = subst (λ (ps : List Prefix). prefixAt ps (b .0) ≡ take i (prefixAt ps p)) resolves (b .4);
+      }))
+      (slice-cases (rowsOf h) rows known (rows-at (prefixesPart h) (wordAt h 0 2)) p i (number p l))
+
+  part-of : (p i : ℕ) → p ≤ wordAt h 0 2 → i ≤ length (at p) → Part p i
+  part-of p i l r = ⊎-elim (λ b. absurd (let z = b .1 in omega arith)) (λ b. b) (slice-is p i l)
+
+  -- ---- two stored prefixes compared
+
+  module _ (c p : ℕ) (lc : c ≤ wordAt h 0 2) (lp : p ≤ wordAt h 0 2) where
+    pub longer-means : longerIn h c p ≡ ltb (length (at c)) (length (at p))
+    unfolding longerIn
+    longer-means = λ j. ltb (index-is c lc j) (index-is p lp j)
+
+    pub end-means : endIn h c p ≡ min (length (at c)) (length (at p))
+    unfolding endIn longerIn
+    end-means = lesser (indexOf (rowsOf h) c) (indexOf (rowsOf h) p) ∙ (λ j. min (index-is c lc j) (index-is p lp j))
+
+    -- through an index that both reach, and through one that the first does not
+    pub agree-at : (i : ℕ) → i ≤ length (at c) → i ≤ length (at p) → agreeIn h c p i ≡ same (take i (at c)) (take i (at p))
+    unfolding agreeIn
+    agree-at i rc rp =
+        let a = part-of c i lc rc in
+        let b = part-of p i lp rp in
+        (λ j. sameSlices (rowsOf h) (a .told j) (b .told j))
+        ∙ same-is (a .part) (b .part) (a .within) (b .within)
+        ∙ (λ j. same (a .first j) (b .first j))
+
+    pub agree-beyond : (i : ℕ) → length (at c) < i → agreeIn h c p i ≡ false
+    unfolding agreeIn
+    agree-beyond i l =
+        ⊎-elim (λ b. ap (λ (y : Slice). sameSlices (rowsOf h) y (sliceOf (rowsOf h) p i)) (b .0) ∙ none-first (sliceOf (rowsOf h) p i))
+        (λ b. absurd (let z = b .reaches in omega arith)) (slice-is c i lc)
+      where
+        none-first : (y : Slice) → sameSlices (rowsOf h) Slice.Beyond y ≡ false
+        none-first (Slice.Prefix q) = refl
+        none-first Slice.Beyond = refl
+
+    pub agree-means : agreeIn h c p (endIn h c p) ≡ agree (at c) (at p)
+    unfolding agree
+    agree-means =
+        let e = end-means in
+        agree-at (endIn h c p) (omega arith) (omega arith) ∙ ap (λ (k : ℕ). same (take k (at c)) (take k (at p))) e
+
+    -- an end is an index
+    pub end-limit : endIn h c p ≤ 256
+    end-limit = (let e = end-means in let b = index-is c lc in let d = index-limit c lc in omega arith)
+      where
+        index-limit : (k : ℕ) → k ≤ wordAt h 0 2 → indexOf (rowsOf h) k ≤ 256
+        index-limit zero l = omega arith
+        index-limit (suc k) l =
+            let r : rowsOf h k .index ≤ 256 =
+            subst (λ (y : PrefixRow). y .index ≤ 256) (sym (rows-at (prefixesPart h) (wordAt h 0 2) k (number (suc k) l))) (known .small k (number (suc k) l) .0) in
+            cond-cases (λ (z : ℕ). z ≤ 256) (eqb (suc k) 0) 0 (rowsOf h (suc k - 1) .index) (λ _. omega arith)
+            (λ _. subst (λ (j : ℕ). rowsOf h j .index ≤ 256) (let q : k ≡ suc k - 1 = omega arith in q) r)
+
+  -- ---- what is written
+
+  -- a node's unseen mark
+  pub unseen-written : (n m : ℕ) → n < 64 → m ≤ 256 → Stands (unseenSet h n m) (changed x n m (x .committed) (x .owner) (x .findings))
+  unfolding unseenSet
+  unseen-written n m l b =
+      let r = facts .node n l in
+      let row : NodeRow = record { front = nodeOf h n .front; last = nodeOf h n .last; unseen = m } in
+      let fronts : set (x .fronts) n (at (nodeOf h n .front)) ≡ x .fronts =
+      ap (λ (p : Prefix). set (x .fronts) n p) (sym (front-is n l)) ∙ set-getD (x .fronts) n [] in
+      let lasts : set (x .lasts) n (nodeOf h n .last) ≡ x .lasts =
+      ap (λ (k : ℕ). set (x .lasts) n k) (sym (last-is n l)) ∙ set-getD (x .lasts) n 0 in
+      subst (Stands (unseenSet h n m))
+      (λ j.
+      record {
+        prefixes = x .prefixes;
+        fronts = fronts j;
+        lasts = lasts j;
+        unseen = set (x .unseen) n m;
+        committed = x .committed;
+        owner = x .owner;
+        terms = x .terms;
+        certificates = x .certificates;
+        findings = x .findings;
+      })
+      (node-written h x s n row l (record { front = r .front; last = r .last; unseen = b }))
+
+  -- the findings and their count
+  pub noted-written : (t : Bytes) (m : ℕ) (fs : List Finding) → length t ≡ 1024 → m ≤ 128 → findingRows t m ≡ fs → every findingRight fs ≡ true
+      → Stands (findingsKept h t m) (withNoted x fs)
+  unfolding findingsKept
+  noted-written t m fs lt lm e r =
+      subst (λ (gs : List Finding). Stands (findingsKept h t m) (withNoted x gs)) e
+      (findings-taken h x s t m lt lm (ap (every findingRight) e ∙ r))
+
+  -- the table of findings with a difference stands for the findings with it, or there are too many
+  pub difference-holds : (n i : ℕ) → n < 64 → i ≤ 256 → Holds (tableWith h n i) (heldWith h n i) (noted (x .findings) (difference n i ∷ []))
+  unfolding tableWith heldWith noted withAll
+  difference-holds n i l b =
+      note-holds (findingsPart h) (wordAt h 7 1) (difference n i) (x .findings) (findings-long h (s .right))
+      (record { name = omega arith; node = omega arith; index = omega arith; term = omega arith })
+      (inl (facts .findings, findings-stored h x s))
+
+  pub table-length : (n i : ℕ) → length (tableWith h n i) ≡ 1024
+  unfolding tableWith
+  table-length n i = note-length (findingsPart h) (wordAt h 7 1) (difference n i) ∙ findings-long h (s .right)
+
+-- the committed prefix and its owner, with the mark cleared
+pub keep-written : (h : Bytes) (x : History) (s : Stands h x) (n p : ℕ) → n < 64 → p ≤ wordAt h 0 2
+    → Stands (keepBytes h n p) (changed x n 0 (prefixAt (x .prefixes) p) n (x .findings))
+unfolding keepBytes
+keep-written h x s n p l b =
+    let y = changed x n 0 (x .committed) (x .owner) (x .findings) in
+    let w = unseen-written h x s n 0 l (omega arith) in
+    let here = prefixes-held h x s in
+    let there = prefixes-held (unseenSet h n 0) y w in
+    committed-written (unseenSet h n 0) y w p n (omega arith) (omega arith)

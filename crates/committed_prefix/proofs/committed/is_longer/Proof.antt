@@ -1,0 +1,23 @@
+-- `committed_prefix::committed::is_longer` meets its contract.
+-- Assumes nothing.
+use Rattle.committed_prefix.proofs.PrefixTurns.{longer-is}
+use borrow.Author.Needs.{needs}
+use Rattle.committed_prefix.proofs.committed.is_longer.Statement.{statement}
+use Rattle.committed_prefix.proofs.committed.is_longer.Tie as tie
+
+part-requires : tie.Need-part-requires
+part-requires c κs = search needs
+
+index-of-requires : tie.Need-index-of-requires
+index-of-requires c κs = search needs
+
+index-of-requires-2 : tie.Need-index-of-requires-2
+index-of-requires-2 c κs = search needs
+
+returns : tie.Need-returns
+returns c =
+    let s = c .before .before .before .before .args in
+    longer-is (s .history .now) (s .a) (s .b) _ (c .before .before .part .ensures .is) _ (c .before .index-of .ensures .is) _ (c .index-of2 .ensures .is)
+
+pub is-longer-spec : {M : Type 1} → statement M
+is-longer-spec = tie.close (tie.spec part-requires index-of-requires index-of-requires-2 returns)

@@ -1,0 +1,4 @@
+pub mod PrefixLaws
+pub mod SliceLaws
+pub mod TableLaws
+pub mod Loops

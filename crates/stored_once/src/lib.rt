@@ -1,0 +1,2 @@
+// No prefix is stored twice. Stands on prefix_rows.
+pub mod once;

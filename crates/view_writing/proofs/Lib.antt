@@ -1,0 +1,3 @@
+pub mod Whole
+pub mod Stored
+pub mod WritingTurns
