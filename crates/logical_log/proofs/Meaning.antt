@@ -67,6 +67,14 @@ ViewsMean =
     (limit : ℕ) (h : Bytes) (x : History) (s : Bytes) (m node : ℕ)
     → Stands h x → Walk s firstEntry m → node < 64 → limit ≤ 512 → ViewMeans limit h x s m node
 
+-- ---- no refusal
+
+-- a view that is not refused passed both tests
+neither-full : (a b : Bool) → cond a (some prefixesFull) (cond b (some findingsFull) none) ≡ none → (a ≡ false) × (b ≡ false)
+neither-full true b e = absurd (let z : _≡_ {A = ℕ} 0 1 = cc in omega arith)
+neither-full false true e = absurd (let z : _≡_ {A = ℕ} 0 1 = cc in omega arith)
+neither-full false false e = (refl, refl)
+
 -- ---- lists
 
 sound-fits : (es : List Entry) (i : ℕ) → Sound i es → Fits i es
@@ -216,18 +224,13 @@ module _ (limit : ℕ) (h : Bytes) (x : History) (s : Bytes) (m node : ℕ) (st 
 
   fine : viewRefusal limit x node E ≡ none → Fine
   unfolding viewRefusal observedBytes
-  fine e = go (ltb limit (length (stored (x .prefixes) F))) (ltb 128 (length (viewFindings x node F))) refl refl e
-    where
-      go : (a b : Bool) → ltb limit (length (stored (x .prefixes) F)) ≡ a → ltb 128 (length (viewFindings x node F)) ≡ b
-          → cond a (some prefixesFull) (cond b (some findingsFull) none) ≡ none → Fine
-      go true b p q r = absurd (let z : _≡_ {A = ℕ} 0 1 = cc in omega arith)
-      go false true p q r = absurd (let z : _≡_ {A = ℕ} 0 1 = cc in omega arith)
-      go false false p q r =
-          record {
-            few = ltb-false limit (length (stored (x .prefixes) F)) p;
-            fewFindings = ltb-false 128 (length (viewFindings x node F)) q;
-            bytes = (λ j. cond ((ap (ltb limit) total ∙ p) j) h (cond ((same-seven ∙ q) j) h (viewWritten h (wordAt h 0 2) s m node (tableIn h s m node) (heldIn h s m node))));
-          }
+  fine e =
+      let p = neither-full (ltb limit (length (stored (x .prefixes) F))) (ltb 128 (length (viewFindings x node F))) e in
+      record {
+        few = ltb-false limit (length (stored (x .prefixes) F)) (p .0);
+        fewFindings = ltb-false 128 (length (viewFindings x node F)) (p .1);
+        bytes = (λ j. cond ((ap (ltb limit) total ∙ p .0) j) h (cond ((same-seven ∙ p .1) j) h (viewWritten h (wordAt h 0 2) s m node (tableIn h s m node) (heldIn h s m node))));
+      }
 
   module _ (ok : Fine) where
     held-few : (heldIn h s m node ≤ 128) × (findingRows (tableIn h s m node) (heldIn h s m node) ≡ viewFindings x node F)

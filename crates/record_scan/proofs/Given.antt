@@ -2,9 +2,10 @@
 -- number of its bits, and is within its limit.
 -- Assumes nothing.
 use Prim.Native.Nat.{ℕ, _+_, _-_, _*_, _^_, _≤_, _<_}
-use mathlib.Core.Path.{_≡_, refl, ap, sym, _∙_}
+use mathlib.Core.Path.{_≡_, refl, ap, sym, _∙_, subst}
 use mathlib.Core.Bool.{Bool, true, false, cond}
 use mathlib.Core.List.{List}
+use native.Mathlib.Nat.{add-assoc}
 use native.Mathlib.Omega.{arith}
 use borrow.Author.Tests.{leb-true, ltb-true}
 use lib.ListN.{length}
@@ -51,6 +52,12 @@ pub went : {A B : Type 0} (s : Bytes) (p : Part A) (f : A → Reader B) {b : B} 
 went s (got a k) f e = record { value = a; place = k; first = refl; rest = e }
 went s (fault r) f e = absurd (fault≢got e)
 
+-- the same, for a chain of many readers: what each gave stands as a variable for the rest
+after : {A B : Type 0} {G : Type 0} (s : Bytes) (p : Part A) (f : A → Reader B) {b : B} {j : ℕ} → onward s p f ≡ got b j
+    → ((a : A) (k : ℕ) → p ≡ got a k → f a s k ≡ got b j → G) → G
+after s (got a k) f e g = g a k refl e
+after s (fault r) f e g = absurd (fault≢got e)
+
 pub record Required {A : Type 0} (t : Bool) (a b : A) (k j : ℕ) : Type 0 where
   pub test : t ≡ true
   pub same : a ≡ b
@@ -74,6 +81,10 @@ pub record Limited (s : Bytes) (k w m v j : ℕ) : Type 0 where
 
 same-field : {s : Bytes} {k w a b i j : ℕ} → Field s k w a i → a ≡ b → i ≡ j → Field s k w b j
 same-field f p q = record { whole = f .whole; value = sym p ∙ f .value; next = sym q ∙ f .next }
+
+-- a place b bits after one that is a bits after k
+further : (k : ℕ) {i j : ℕ} (a b : ℕ) → j ≡ i + b → i ≡ k + a → j ≡ k + (a + b)
+further k a b p q = p ∙ ap (λ (i : ℕ). i + b) q ∙ add-assoc k a b
 
 module _ (s : Bytes) (k : ℕ) where
   pub field-is : (w : ℕ) {v j : ℕ} → field w s k ≡ got v j → Field s k w v j
@@ -180,31 +191,31 @@ pub record Entered (s : Bytes) (least k : ℕ) (x : Shown) (j : ℕ) : Type 0 wh
 pub shown-is : (s : Bytes) (least k : ℕ) {x : Shown} {j : ℕ} → shown least s k ≡ got x j → Entered s least k x j
 unfolding shown
 shown-is s least k e =
-    let g₁ = went s (entryIndex least s k) _ e in
-    let i = entryIndex-is s k least (g₁ .first) in
-    let g₂ = went s (field 32 s (g₁ .place)) _ (g₁ .rest) in
-    let t = field-is s (g₁ .place) 32 (g₂ .first) in
-    let g₃ = went s (limited 6 32 s (g₂ .place)) _ (g₂ .rest) in
-    let n = limited-is s (g₂ .place) 6 32 (g₃ .first) in
-    let g₄ = went s (content (g₃ .value) s (g₃ .place)) _ (g₃ .rest) in
-    let c = content-is s (g₃ .place) (g₃ .value) (g₄ .first) in
+    after s (entryIndex least s k) _ e (λ a₁ k₁ r₁ e₁.
+    after s (field 32 s k₁) _ e₁ (λ a₂ k₂ r₂ e₂.
+    after s (limited 6 32 s k₂) _ e₂ (λ a₃ k₃ r₃ e₃.
+    after s (content a₃ s k₃) _ e₃ (λ a₄ k₄ r₄ e₄.
+    let i = entryIndex-is s k least r₁ in
+    let t = field-is s k₁ 32 r₂ in
+    let n = limited-is s k₂ 6 32 r₃ in
+    let c = content-is s k₃ a₃ r₄ in
     let p₁ = i .limited .field .next in
-    let p₂ : g₂ .place ≡ k + 42 = omega (arith, t .next, p₁) in
-    let p₃ : g₃ .place ≡ k + 48 = omega (arith, n .field .next, p₂) in
+    let p₂ : k₂ ≡ k + 42 = further k 10 32 (t .next) p₁ in
+    let p₃ : k₃ ≡ k + 48 = further k 42 6 (n .field .next) p₂ in
     let v₁ = i .limited .field .value in
-    let v₂ : g₂ .value ≡ termAt s k = t .value ∙ ap (λ (a : ℕ). fieldAt s a 32) p₁ in
-    let v₃ : g₃ .value ≡ lengthAt s k = n .field .value ∙ ap (λ (a : ℕ). fieldAt s a 6) p₂ in
-    let v₄ : g₄ .value ≡ contentAt s k = c .value ∙ (λ i. bytesAt s (p₃ i) (v₃ i)) in
-    let p₄ : g₄ .place ≡ nextAt s k = c .next ∙ (λ i. p₃ i + 8 * v₃ i) in
+    let v₂ : a₂ ≡ termAt s k = t .value ∙ ap (λ (a : ℕ). fieldAt s a 32) p₁ in
+    let v₃ : a₃ ≡ lengthAt s k = n .field .value ∙ ap (λ (a : ℕ). fieldAt s a 6) p₂ in
+    let v₄ : a₄ ≡ contentAt s k = c .value ∙ (λ i. bytesAt s (p₃ i) (v₃ i)) in
+    let p₄ : k₄ ≡ nextAt s k = c .next ∙ (λ i. p₃ i + 8 * v₃ i) in
     record {
-      value = got-same (g₄ .rest) .0 ∙ (λ i. record { index = v₁ i; entry = record { term = v₂ i; content = v₄ i } });
-      next = got-same (g₄ .rest) .1 ∙ p₄;
-      positive = omega (arith, i .positive, v₁);
-      within = omega (arith, i .limited .within, v₁);
-      above = omega (arith, i .above, v₁);
-      short = omega (arith, n .within, v₃);
-      whole = omega (arith, c .whole, p₃, v₃);
-    }
+      value = got-same e₄ .0 ∙ (λ i. record { index = v₁ i; entry = record { term = v₂ i; content = v₄ i } });
+      next = got-same e₄ .1 ∙ p₄;
+      positive = subst (λ (a : ℕ). 0 < a) v₁ (i .positive);
+      within = subst (λ (a : ℕ). a ≤ 256) v₁ (i .limited .within);
+      above = subst (λ (a : ℕ). least ≤ a) v₁ (i .above);
+      short = subst (λ (a : ℕ). a ≤ 32) v₃ (n .within);
+      whole = subst (λ (j : ℕ). j ≤ 8 * length s) (λ i. p₃ i + 8 * v₃ i) (c .whole);
+    }))))
 
 -- ---- a row
 
@@ -217,23 +228,23 @@ pub configuration-is : (s : Bytes) (k : ℕ) {x : Configuration} {j : ℕ} → c
     → Configured s k x j
 unfolding configuration
 configuration-is s k e =
-    let g₁ = went s (yesNo s k) _ e in
-    let p = yesNo-is s k (g₁ .first) in
-    let g₂ = went s (governed (g₁ .value) 10 256 s (g₁ .place)) _ (g₁ .rest) in
-    let i = governed-is s (g₁ .place) (g₁ .value) 10 256 (g₂ .first) in
-    let g₃ = went s (governed (g₁ .value) 32 (2 ^ 32 - 1) s (g₂ .place)) _ (g₂ .rest) in
-    let d = governed-is s (g₂ .place) (g₁ .value) 32 (2 ^ 32 - 1) (g₃ .first) in
+    after s (yesNo s k) _ e (λ a₁ k₁ r₁ e₁.
+    after s (governed a₁ 10 256 s k₁) _ e₁ (λ a₂ k₂ r₂ e₂.
+    after s (governed a₁ 32 (2 ^ 32 - 1) s k₂) _ e₂ (λ a₃ k₃ r₃ e₃.
+    let p = yesNo-is s k r₁ in
+    let i = governed-is s k₁ a₁ 10 256 r₂ in
+    let d = governed-is s k₂ a₁ 32 (2 ^ 32 - 1) r₃ in
     let p₁ = p .next in
-    let p₂ : g₂ .place ≡ k + 11 = omega (arith, i .next, p₁) in
-    let p₃ : g₃ .place ≡ k + 43 = omega (arith, d .next, p₂) in
+    let p₂ : k₂ ≡ k + 11 = further k 1 10 (i .next) p₁ in
+    let p₃ : k₃ ≡ k + 43 = further k 11 32 (d .next) p₂ in
     let v₁ = p .value in
     let v₂ = i .value ∙ ap (λ (a : ℕ). fieldAt s a 10) p₁ in
     let v₃ = d .value ∙ ap (λ (a : ℕ). fieldAt s a 32) p₂ in
     record {
-      value = got-same (g₃ .rest) .0 ∙ (λ i. record { present = v₁ i; index = v₂ i; identity = v₃ i });
-      next = got-same (g₃ .rest) .1 ∙ p₃;
-      whole = omega (arith, d .whole, p₂);
-    }
+      value = got-same e₃ .0 ∙ (λ i. record { present = v₁ i; index = v₂ i; identity = v₃ i });
+      next = got-same e₃ .1 ∙ p₃;
+      whole = subst (λ (j : ℕ). j ≤ 8 * length s) (sym (d .next) ∙ p₃) (d .whole);
+    })))
 
 -- a row that was read
 pub record Rowed (s : Bytes) (least k : ℕ) (x : Row) (j : ℕ) : Type 0 where
@@ -245,24 +256,24 @@ pub record Rowed (s : Bytes) (least k : ℕ) (x : Row) (j : ℕ) : Type 0 where
 pub row-is : (s : Bytes) (least k : ℕ) {x : Row} {j : ℕ} → row least s k ≡ got x j → Rowed s least k x j
 unfolding row
 row-is s least k e =
-    let g₁ = went s (rowNode least s k) _ e in
-    let n = rowNode-is s k least (g₁ .first) in
-    let g₂ = went s (limited 10 256 s (g₁ .place)) _ (g₁ .rest) in
-    let f = limited-is s (g₁ .place) 10 256 (g₂ .first) .field in
-    let g₃ = went s (limited 10 256 s (g₂ .place)) _ (g₂ .rest) in
-    let c = limited-is s (g₂ .place) 10 256 (g₃ .first) .field in
-    let g₄ = went s (limited 10 256 s (g₃ .place)) _ (g₃ .rest) in
-    let l = limited-is s (g₃ .place) 10 256 (g₄ .first) .field in
-    let g₅ = went s (configuration s (g₄ .place)) _ (g₄ .rest) in
-    let fc = configuration-is s (g₄ .place) (g₅ .first) in
-    let g₆ = went s (configuration s (g₅ .place)) _ (g₅ .rest) in
-    let ac = configuration-is s (g₅ .place) (g₆ .first) in
+    after s (rowNode least s k) _ e (λ a₁ k₁ r₁ e₁.
+    after s (limited 10 256 s k₁) _ e₁ (λ a₂ k₂ r₂ e₂.
+    after s (limited 10 256 s k₂) _ e₂ (λ a₃ k₃ r₃ e₃.
+    after s (limited 10 256 s k₃) _ e₃ (λ a₄ k₄ r₄ e₄.
+    after s (configuration s k₄) _ e₄ (λ a₅ k₅ r₅ e₅.
+    after s (configuration s k₅) _ e₅ (λ a₆ k₆ r₆ e₆.
+    let n = rowNode-is s k least r₁ in
+    let f = limited-is s k₁ 10 256 r₂ .field in
+    let c = limited-is s k₂ 10 256 r₃ .field in
+    let l = limited-is s k₃ 10 256 r₄ .field in
+    let fc = configuration-is s k₄ r₅ in
+    let ac = configuration-is s k₅ r₆ in
     let p₁ = n .field .next in
-    let p₂ : g₂ .place ≡ k + 16 = omega (arith, f .next, p₁) in
-    let p₃ : g₃ .place ≡ k + 26 = omega (arith, c .next, p₂) in
-    let p₄ : g₄ .place ≡ k + 36 = omega (arith, l .next, p₃) in
-    let p₅ : g₅ .place ≡ k + 79 = omega (arith, fc .next, p₄) in
-    let p₆ : g₆ .place ≡ afterRow s k = omega (arith, ac .next, p₅) in
+    let p₂ : k₂ ≡ k + 16 = further k 6 10 (f .next) p₁ in
+    let p₃ : k₃ ≡ k + 26 = further k 16 10 (c .next) p₂ in
+    let p₄ : k₄ ≡ k + 36 = further k 26 10 (l .next) p₃ in
+    let p₅ : k₅ ≡ k + 79 = further k 36 43 (fc .next) p₄ in
+    let p₆ : k₆ ≡ afterRow s k = further k 79 43 (ac .next) p₅ in
     let v₁ = n .field .value in
     let v₂ = f .value ∙ ap (λ (a : ℕ). fieldAt s a 10) p₁ in
     let v₃ = c .value ∙ ap (λ (a : ℕ). fieldAt s a 10) p₂ in
@@ -271,9 +282,9 @@ row-is s least k e =
     let v₆ = ac .value ∙ ap (configurationAt s) p₅ in
     record {
       value =
-          got-same (g₆ .rest) .0
+          got-same e₆ .0
           ∙ (λ i. record { node = v₁ i; floor = v₂ i; commit = v₃ i; last = v₄ i; floorConfiguration = v₅ i; actualConfiguration = v₆ i });
-      next = got-same (g₆ .rest) .1 ∙ p₆;
-      above = omega (arith, n .above, v₁);
-      whole = omega (arith, ac .whole, p₅);
-    }
+      next = got-same e₆ .1 ∙ p₆;
+      above = subst (λ (a : ℕ). least ≤ a) v₁ (n .above);
+      whole = subst (λ (j : ℕ). j ≤ 8 * length s) (sym (ac .next) ∙ p₆) (ac .whole);
+    }))))))

@@ -7,6 +7,7 @@ use lib.ListN.{length}
 use borrow.Author.Count.{falls}
 use borrow.Author.Needs.{needs}
 use native.Mathlib.Nat.{le-refl}
+use native.Mathlib.Numerals.{add-one-le}
 use Rattle.storage_bytes.specs.Words.{bytesAt, sameBytes}
 use Rattle.storage.specs.Tables.{prefixRow}
 use Rattle.storage_bytes.proofs.ByteTurns.{same-next, same-stop, same-none}
@@ -107,7 +108,7 @@ loop-again c =
     let i = c .before .before .before .before in
     let s = i .before .before .before .before .before .before .before .before .before .before .before .before .before .before .args in (
       i .loop .inv .0,
-      search needs,
+      add-one-le (c .before .before .before .loop-test .taken),
       i .loop .inv .2,
       i .loop .inv .3,
       same-next (s .prefixes .now) (s .prefixes .now) _ _ _ (i .loop .k) (i .loop .inv .4) (c .before .before .before .loop-test .taken) (c .if5 .left),
