@@ -1,9 +1,10 @@
 // The storage rules shown at work: a history that holds something is accepted whole, and each rule, broken by one byte, is
-// answered 12. Bytes that stand for nothing may be anything. The cases come from standard input, which says its own form.
+// answered 12 by the library. Bytes that stand for nothing may be anything. The cases come from standard input, which says its
+// own form.
 ghost use Prim.Native.Nat.{_+_, _≤_};
 ghost use lib.ListN.{length};
+use history::exports::gamiwhoru_committed;
 use libc::STDOUT_FILENO;
-use rules::whole::well_formed;
 
 const LENGTH: usize = 24137;
 
@@ -31,16 +32,19 @@ fn up_to(s: &[u8], from: usize, least: u8) -> Piece
     Piece { number: n, end: i }
 }
 
-// The text and the answer. The byte behind the history is 1 where its last byte is left out.
+// The text, and what a reader of the library answers. The byte behind the history is 1 where its last byte is left out.
 fn say(history: &[u8], text: &[u8])
     requires { ⌜ 24138 ≤ length (now history) ⌝ }
 {
     io::write_all(STDOUT_FILENO, text);
     let end = LENGTH - (history[LENGTH] % 2) as usize;
-    if well_formed(&history[0..end]) {
+    let reply = gamiwhoru_committed(&history[0..end]);
+    if reply.state == 0 {
         io::write_all(STDOUT_FILENO, b" accepted\n");
     } else {
-        io::write_all(STDOUT_FILENO, b" 12\n");
+        io::write_all(STDOUT_FILENO, b" ");
+        io::print_decimal(STDOUT_FILENO, reply.state as u64);
+        io::write_all(STDOUT_FILENO, b"\n");
     }
 }
 
