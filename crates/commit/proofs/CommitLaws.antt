@@ -24,8 +24,8 @@ use Rattle.storage.proofs.DecodeLaws.{FindingNamed}
 use Rattle.storage.proofs.Meanings.{Stands, withNoted, findings-right, noted-right}
 use Rattle.prefix_lookup.specs.declared.lookup.Slice.{Slice}
 use Rattle.log_violation.specs.Violation.{findingsKept}
-use Rattle.prefix_lookup.specs.Prefix.{sliceOf}
-use Rattle.committed_prefix.specs.Prefix.{keptOf, rowsOf, nodeOf, seenOf, longerIn, endIn, agreeIn, unseenSet, keepBytes, difference, heldWith, tableWith, noteAnswer, noteLeaves}
+use Rattle.prefix_lookup.specs.Prefix.{sliceOf, frontThrough}
+use Rattle.committed_prefix.specs.Prefix.{keptOf, rowsOf, nodeOf, longerIn, endIn, agreeIn, unseenSet, keepBytes, difference, heldWith, tableWith, noteAnswer, noteLeaves}
 use Rattle.commit.specs.Prefix.{flagsOf, commitAnswer, commitBytes, Inserted, Observed}
 use Rattle.committed_prefix.specs.declared.committed.Kept.{Kept}
 use Rattle.committed_prefix.specs.declared.committed.CommitAnswer.{CommitAnswer}
@@ -255,8 +255,8 @@ module _ (h : Bytes) (x : History) (n i : ℕ) (s : Stands h x) (here : n < 64) 
   from : (r : CommitAnswer) (h′ : Bytes) → Observed h n i r h′ → Outcome x n i h r h′ → Told
   from r h′ o w = subst₂ (Outcome x n i h) (o .answers) (o .leaves) w
 
-  seen-told : (v : Slice) → sliceOf (rowsOf h) (nodeOf h n .front) i ≡ v → seenOf h n i ≡ v
-  unfolding seenOf
+  seen-told : (v : Slice) → sliceOf (rowsOf h) (nodeOf h n .front) i ≡ v → frontThrough h n i ≡ v
+  unfolding frontThrough
   seen-told v e = e
 
   front-length : length (frontOf x n) ≡ length (at h x s (nodeOf h n .front))
@@ -267,7 +267,7 @@ module _ (h : Bytes) (x : History) (n i : ℕ) (s : Stands h x) (here : n < 64) 
   not-reached e l =
       let f = front-length in
       let short = lt-leb i (length (frontOf x n)) (omega arith) in
-      from (CommitAnswer.Accepted 0) (unseenSet h n i) (observe-unseen h n i (seenOf h n i) refl (seen-told Slice.Beyond e) (unseenSet h n i) refl)
+      from (CommitAnswer.Accepted 0) (unseenSet h n i) (observe-unseen h n i (frontThrough h n i) refl (seen-told Slice.Beyond e) (unseenSet h n i) refl)
       (inl (
         0,
         refl,
@@ -286,19 +286,19 @@ module _ (h : Bytes) (x : History) (n i : ℕ) (s : Stands h x) (here : n < 64) 
     shown =
         cond-true (leb i (length (frontOf x n))) (take i (frontOf x n)) [] reaches ∙ ap (take i) (front-is h x s n here) ∙ sym (b .first)
 
-    told : seenOf h n i ≡ Slice.Prefix (b .part)
+    told : frontThrough h n i ≡ Slice.Prefix (b .part)
     told = seen-told (Slice.Prefix (b .part)) (b .told)
 
     index-zero : b .part ≡ 0 → Told
     index-zero z =
-        from (CommitAnswer.Accepted 0) (unseenSet h n 0) (observe-zero h n i (seenOf h n i) refl (b .part) told z (unseenSet h n 0) refl)
+        from (CommitAnswer.Accepted 0) (unseenSet h n 0) (observe-zero h n i (frontThrough h n i) refl (b .part) told z (unseenSet h n 0) refl)
         (inl (0, refl, nothing-seen x n i h s here limit 0 (omega arith) cleared (shown ∙ ap (at h x s) z)))
 
     module _ (some-seen : b .part ≡ 0 → ⊥) where
       first-one : wordAt h 4 2 ≡ 0 → Told
       first-one z =
           from (CommitAnswer.Accepted 0) (keepBytes h n (b .part))
-          (observe-first h n i (seenOf h n i) refl (b .part) told some-seen (keptOf (wordAt h 4 2)) refl
+          (observe-first h n i (frontThrough h n i) refl (b .part) told some-seen (keptOf (wordAt h 4 2)) refl
           (cond-true (eqb (wordAt h 4 2) 0) _ _ (eq-eqb (wordAt h 4 2) 0 z)) (keepBytes h n (b .part)) refl)
           (inl (0, refl, first-seen x n i h s here limit (b .part) (b .within) cleared shown some-seen (committed-is h x s ∙ ap (at h x s) z)))
 
@@ -309,7 +309,7 @@ module _ (h : Bytes) (x : History) (n i : ℕ) (s : Stands h x) (here : n < 64) 
         later : (r : CommitAnswer) (h′ : Bytes) → Inserted h n c (b .part) r h′ → Outcome x n i h r h′ → Told
         later r h′ w o =
             from r h′
-            (observe-later h n i (seenOf h n i) refl (b .part) told some-seen (keptOf c) refl c
+            (observe-later h n i (frontThrough h n i) refl (b .part) told some-seen (keptOf c) refl c
             (cond-false (eqb c 0) Kept.Nothing (Kept.Prefix c) (ne-eqb c 0 some-kept)) r h′ w)
             o
 

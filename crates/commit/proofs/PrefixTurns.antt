@@ -1,6 +1,6 @@
 -- What `insert_committed_prefix` and `observe_committed_prefixes` answer and leave, by what they read.
 -- Assumes nothing.
-use Prim.Native.Nat.{ℕ, _≤_, _<_}
+use Prim.Native.Nat.{ℕ}
 use mathlib.Core.Path.{_≡_, refl, sym, _∙_, ap}
 use mathlib.Core.Bool.{Bool, true, false}
 use lib.Dec.{ltb, eqb}
@@ -10,20 +10,14 @@ use Rattle.model.specs.Sizes.{Bytes}
 use Rattle.model.proofs.Tests.{cond-cases, cond-true, cond-false}
 use Rattle.storage_bytes.specs.Words.{wordAt}
 use Rattle.log_violation.specs.Violation.{findingsKept}
+use Rattle.prefix_lookup.specs.Prefix.{frontThrough}
 use Rattle.prefix_lookup.specs.declared.lookup.Slice.{Slice}
 use Rattle.log_violation.proofs.ViolationLaws.{kept-length}
-use Rattle.committed_prefix.specs.Prefix.{keptOf, nodeOf, seenOf, longerIn, endIn, agreeIn, unseenSet, keepBytes, heldWith, tableWith, noteAnswer, noteLeaves, Noted}
+use Rattle.committed_prefix.specs.Prefix.{keptOf, longerIn, endIn, agreeIn, unseenSet, keepBytes, heldWith, tableWith, noteAnswer, noteLeaves, Noted}
 use Rattle.commit.specs.Prefix.{flagsOf, insertAnswer, insertLeaves, keptAnswer, keptLeaves, seenAnswer, seenLeaves, commitAnswer, commitBytes, Inserted, Observed}
 use Rattle.committed_prefix.specs.declared.committed.Kept.{Kept}
 use Rattle.committed_prefix.specs.declared.committed.CommitAnswer.{CommitAnswer}
-use Rattle.storage.proofs.WellFormed.{Formed}
-use Rattle.committed_prefix.proofs.PrefixTurns.{stored-within, unseen-length, keep-length}
-
--- ---- seen
-
-pub seen-within : (h : Bytes) (n i p : ℕ) → Formed h → n < 64 → seenOf h n i ≡ Slice.Prefix p → p ≤ wordAt h 0 2
-unfolding seenOf
-seen-within h n i p f l e = stored-within h (nodeOf h n .front) i p f (f .node n l .front) e
+use Rattle.committed_prefix.proofs.PrefixTurns.{unseen-length, keep-length}
 
 -- ---- lengths
 
@@ -79,7 +73,7 @@ module _ (h : Bytes) (n c p i : ℕ) (ei : i ≡ endIn h c p) (b : Bool) (eb : b
 
 -- ---- observed
 
-module _ (h : Bytes) (n i : ℕ) (s : Slice) (es : s ≡ seenOf h n i) where
+module _ (h : Bytes) (n i : ℕ) (s : Slice) (es : s ≡ frontThrough h n i) where
   pub observe-unseen : s ≡ Slice.Beyond → (h′ : Bytes) → h′ ≡ unseenSet h n i → Observed h n i (CommitAnswer.Accepted 0) h′
   unfolding commitAnswer commitBytes
   observe-unseen e h′ w =

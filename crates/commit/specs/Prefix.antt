@@ -8,10 +8,11 @@ use Rattle.model.specs.Sizes.{Bytes}
 use Rattle.model.specs.Refusal.{findingsFull}
 use Rattle.model.specs.Answer.{Answer, accepted, refused}
 use Rattle.storage_bytes.specs.Words.{wordAt}
+use Rattle.prefix_lookup.specs.Prefix.{frontThrough}
 use Rattle.prefix_lookup.specs.declared.lookup.Slice.{Slice}
 use Rattle.committed_prefix.specs.declared.committed.Kept.{Kept}
 use Rattle.committed_prefix.specs.declared.committed.CommitAnswer.{CommitAnswer}
-use Rattle.committed_prefix.specs.Prefix.{keptOf, seenOf, longerIn, endIn, agreeIn, unseenSet, keepBytes, noteAnswer, noteLeaves}
+use Rattle.committed_prefix.specs.Prefix.{keptOf, longerIn, endIn, agreeIn, unseenSet, keepBytes, noteAnswer, noteLeaves}
 
 -- ---- judged: nothing is written
 
@@ -52,12 +53,12 @@ seenLeaves h n i (Slice.Prefix p) = cond (eqb p 0) (unseenSet h n 0) (keptLeaves
 
 -- the answer and the bytes after it
 unfoldable pub commitAnswer : Bytes → ℕ → ℕ → CommitAnswer
-unfolding seenOf insertAnswer wordAt
-commitAnswer h n i = seenAnswer h n (seenOf h n i)
+unfolding frontThrough insertAnswer wordAt
+commitAnswer h n i = seenAnswer h n (frontThrough h n i)
 
 unfoldable pub commitBytes : Bytes → ℕ → ℕ → Bytes
-unfolding seenOf unseenSet keepBytes insertLeaves wordAt
-commitBytes h n i = seenLeaves h n i (seenOf h n i)
+unfolding frontThrough unseenSet keepBytes insertLeaves wordAt
+commitBytes h n i = seenLeaves h n i (frontThrough h n i)
 
 -- ---- what each function does
 

@@ -5,7 +5,6 @@ ghost use mathlib.Core.Bool.{true};
 ghost use Prim.Native.Nat.{_≤_, _<_};
 ghost use Rattle.storage_bytes.specs.Words.{wordAt};
 ghost use Rattle.storage.specs.Rules.{wellFormed};
-ghost use Rattle.committed_prefix.specs.Prefix.{seenOf};
 ghost use Rattle.commit.specs.Prefix.{flagsOf, Inserted, Observed};
 use committed_prefix::committed::CommitAnswer;
 use committed_prefix::committed::Kept;
@@ -17,32 +16,10 @@ use committed_prefix::committed::note_difference;
 use committed_prefix::committed::set_unseen;
 use committed_prefix::committed::shorter_end;
 use prefix_lookup::lookup::Slice;
-use prefix_lookup::lookup::slice_through;
+use prefix_lookup::lookup::front_through;
 use storage::head::owner_number;
-use storage::head::prefix_count;
-use storage_bytes::layout::NODES_LENGTH;
-use storage_bytes::layout::NODES_START;
-use storage_bytes::layout::PREFIXES_LENGTH;
-use storage_bytes::layout::PREFIXES_START;
-use storage_bytes::layout::part;
-use table_rows::nodes::node_at;
 use units::LogIndex;
 use units::NodeId;
-
-// The node's front through the index.
-fn seen_prefix(history: &[u8], node: NodeId, index: LogIndex) -> Slice
-    requires { ⌜ (wellFormed (now history) ≡ true) × (node .0 < 64) ⌝ }
-    ensures { λ r. ⌜ r ≡ seenOf (now (history .entry)) (node .0) (index .0) ⌝ }
-{
-    let x = node_at(part(history, NODES_START, NODES_LENGTH), node.0 as usize);
-    let count = prefix_count(history);
-    slice_through(
-        part(history, PREFIXES_START, PREFIXES_LENGTH),
-        count,
-        x.front,
-        index,
-    )
-}
 
 // The flags of agreement with the committed prefix of the owner.
 fn flags(owner: usize, node: NodeId) -> usize
@@ -79,7 +56,7 @@ pub fn observe_committed_prefixes(history: &mut [u8], node: NodeId, index: LogIn
     requires { ⌜ (wellFormed (now history) ≡ true) × (node .0 < 64) ⌝ }
     ensures { λ r. ⌜ Observed (now (history .entry)) (node .0) (index .0) r (now (history .exit)) ⌝ }
 {
-    let Slice::Prefix(seen) = seen_prefix(&history[..], node, index) else {
+    let Slice::Prefix(seen) = front_through(&history[..], node, index) else {
         set_unseen(&mut history[..], node, index);
         return CommitAnswer::Accepted(0);
     };

@@ -2,7 +2,7 @@
 -- Assumes nothing.
 use Prim.Native.Nat.{ℕ, zero, suc, _+_, _*_, _≤_, _<_}
 use native.Mathlib.Omega.{arith}
-use mathlib.Core.Path.{_≡_, refl, sym, _∙_, ap, subst}
+use mathlib.Core.Path.{_≡_, refl, sym, _∙_, ap}
 use mathlib.Core.Bool.{Bool, true, false}
 use lib.Dec.{ltb, eqb}
 use lib.ListN.{length}
@@ -20,14 +20,15 @@ use Rattle.log_comparison.specs.Comparison.{sameFrom}
 use Rattle.log_violation.specs.Violation.{noteHeld, noteBytes, findingsKept}
 use Rattle.prefix_lookup.specs.declared.lookup.Slice.{Slice}
 use Rattle.prefix_lookup.proofs.TableLaws.{whole-table, slice-within}
+use Rattle.prefix_lookup.proofs.FrontLaws.{node-read}
 use Rattle.log_violation.proofs.ViolationLaws.{note-length, findings-long}
-use Rattle.committed_prefix.specs.Prefix.{rowsOf, keptOf, nodeOf, seenOf, longerIn, endIn, sameSlices, agreeIn, unseenSet, keepBytes, difference, heldWith, tableWith, noteAnswer, noteLeaves, Noted}
+use Rattle.committed_prefix.specs.Prefix.{rowsOf, keptOf, nodeOf, longerIn, endIn, sameSlices, agreeIn, unseenSet, keepBytes, difference, heldWith, tableWith, noteAnswer, noteLeaves, Noted}
 use Rattle.committed_prefix.specs.declared.committed.Kept.{Kept}
 use Rattle.committed_prefix.specs.declared.committed.CommitAnswer.{CommitAnswer}
 use Rattle.storage.proofs.WellFormed.{Formed}
 
 -- a part of a stored prefix is stored
-pub stored-within : (h : Bytes) (p i q : ℕ) → Formed h → p ≤ wordAt h 0 2 → sliceOf (rowsOf h) p i ≡ Slice.Prefix q → q ≤ wordAt h 0 2
+stored-within : (h : Bytes) (p i q : ℕ) → Formed h → p ≤ wordAt h 0 2 → sliceOf (rowsOf h) p i ≡ Slice.Prefix q → q ≤ wordAt h 0 2
 stored-within h p i q f l e = slice-within (prefixesPart h) (wordAt h 0 2) p i q (whole-table h f) l e
 
 -- the committed prefix, where one is kept, is stored
@@ -41,24 +42,13 @@ kept-within h f k ek c g = within (wordAt h 4 2) c (f .committed) (sym ek ∙ g)
         let same : suc x ≡ y = cc in
         omega arith
 
--- ---- seen
+-- ---- the unseen mark
 
-module _ (h : Bytes) (n : ℕ) (q : Bytes) (eq : q ≡ nodesPart h) (x : NodeRow) (ex : x ≡ nodeRow q n) where
-  node-read : x ≡ nodeOf h n
-  node-read = ex ∙ ap (λ (r : Bytes). nodeRow r n) eq
-
-  pub front-within : Formed h → n < 64 → x .front ≤ wordAt h 0 2
-  front-within f l = subst (λ (y : NodeRow). y .front ≤ wordAt h 0 2) (sym node-read) (f .node n l .front)
-
-  pub seen-is : (u : Bytes) → u ≡ prefixesPart h → (i : ℕ) (r : Slice) → r ≡ sliceOf (prefixRow u) (x .front) i → r ≡ seenOf h n i
-  unfolding seenOf
-  seen-is u eu i r e =
-      e ∙ ap (λ (y : Bytes). sliceOf (prefixRow y) (x .front) i) eu ∙ ap (λ (y : NodeRow). sliceOf (rowsOf h) (y .front) i) node-read
-
-  pub unseen-is : (m : ℕ) (u : Bytes) → u ≡ putBytes h (9 + n * 6) (nodeBytes (record { front = x .front; last = x .last; unseen = m })) → u ≡ unseenSet h n m
-  unfolding unseenSet
-  unseen-is m u e =
-      e ∙ ap (λ (y : NodeRow). putBytes h (9 + n * 6) (nodeBytes (record { front = y .front; last = y .last; unseen = m }))) node-read
+pub unseen-is : (h : Bytes) (n : ℕ) (q : Bytes) → q ≡ nodesPart h → (x : NodeRow) → x ≡ nodeRow q n → (m : ℕ) (u : Bytes)
+    → u ≡ putBytes h (9 + n * 6) (nodeBytes (record { front = x .front; last = x .last; unseen = m })) → u ≡ unseenSet h n m
+unfolding unseenSet
+unseen-is h n q eq x ex m u e =
+    e ∙ ap (λ (y : NodeRow). putBytes h (9 + n * 6) (nodeBytes (record { front = y .front; last = y .last; unseen = m }))) (node-read h n q eq x ex)
 
 -- ---- compared
 

@@ -1,5 +1,4 @@
--- The committed prefix on the bytes of a history, in the order of the code: what is seen, how two prefixes compare, what is kept
--- or noted.
+-- The committed prefix on the bytes of a history, in the order of the code: how two prefixes compare, what is kept or noted.
 -- Assumes nothing.
 use Prim.Native.Nat.{ℕ, _+_, _*_}
 use mathlib.Core.Path.{_≡_}
@@ -29,11 +28,6 @@ keptOf p = cond (eqb p 0) Kept.Nothing (Kept.Prefix p)
 
 abbrev pub nodeOf : Bytes → ℕ → NodeRow
 nodeOf h n = nodeRow (nodesPart h) n
-
--- the node's front through the index
-unfoldable pub seenOf : Bytes → ℕ → ℕ → Slice
-unfolding sliceOf
-seenOf h n i = sliceOf (rowsOf h) (nodeOf h n .front) i
 
 -- "through the shorter end"
 unfoldable pub longerIn : Bytes → ℕ → ℕ → Bool

@@ -29,13 +29,14 @@ use Rattle.storage.proofs.DecodeLaws.{CertificateNamed}
 use Rattle.storage.proofs.WellFormed.{certificates-are, formed, formed-rows}
 use Rattle.storage.proofs.Meanings.{Stands, withElections, front-read, prefixes-stored, certificates-stored}
 use Rattle.storage.proofs.OrderLaws.{held-is, election-written}
+use Rattle.prefix_lookup.specs.Prefix.{frontIn, frontThrough}
 use Rattle.prefix_lookup.specs.declared.lookup.Slice.{Slice}
 use Rattle.prefix_lookup.proofs.TableLaws.{rows-length, rows-at}
 use Rattle.prefix_lookup.proofs.SliceLaws.{slice-cases}
 use Rattle.election_judging.specs.declared.judging.ElectionAnswer.{ElectionAnswer}
 use Rattle.certificate_order.specs.Order.{takenOf}
 use Rattle.election_judging.specs.Certify.{roomOf, isAccepted, judgedOf}
-use Rattle.election.specs.Certify.{logOf, heldIn, frontIn, sliceIn, kept, keptIn, answerIn, bytesIn}
+use Rattle.election.specs.Certify.{logOf, heldIn, kept, keptIn, answerIn, bytesIn}
 use Rattle.election_judging.proofs.Turns.{room-left}
 
 -- the model's refusal, or none
@@ -132,20 +133,21 @@ module _ (h : Bytes) (x : History) (s : Stands h x) where
     unfolding electionRefusal
     model-within b = cond-false (ltb (length (frontOf x l)) n) _ _ (le-ltb (length (frontOf x l)) n (omega (arith, front-length)))
 
-    answer-beyond : sliceIn h l n ≡ Slice.Beyond → answerIn h l t n ≡ ElectionAnswer.LengthExceedsFront
+    answer-beyond : frontThrough h l n ≡ Slice.Beyond → answerIn h l t n ≡ ElectionAnswer.LengthExceedsFront
     unfolding answerIn
     answer-beyond e = ap (λ (y : Slice). judgedOf h y t) e
 
-    answer-within : (q : ℕ) → sliceIn h l n ≡ Slice.Prefix q → answerIn h l t n ≡ roomOf t cs
+    answer-within : (q : ℕ) → frontThrough h l n ≡ Slice.Prefix q → answerIn h l t n ≡ roomOf t cs
     unfolding answerIn
     answer-within q e = ap (λ (y : Slice). judgedOf h y t) e
 
     -- the log is beyond the front, or the first n entries of it are stored under q
     data Cut : Type 0 where
-      beyond : sliceIn h l n ≡ Slice.Beyond → length front < n → Cut
-      within : (q : ℕ) → sliceIn h l n ≡ Slice.Prefix q → n ≤ length front → q ≤ length rows → prefixAt (resolve rows) q ≡ take n front → Cut
+      beyond : frontThrough h l n ≡ Slice.Beyond → length front < n → Cut
+      within : (q : ℕ) → frontThrough h l n ≡ Slice.Prefix q → n ≤ length front → q ≤ length rows → prefixAt (resolve rows) q ≡ take n front → Cut
 
     cut : Cut
+    unfolding frontThrough
     cut =
         ⊎-elim (λ c. beyond (c .0) (c .1)) (λ c. within (c .0) (c .1) (c .2) (c .3) (c .4))
         (slice-cases (prefixRow (prefixesPart h)) rows (formed-rows h (formed h (s .right))) (rows-at (prefixesPart h) (wordAt h 0 2)) (frontIn h l) n front-stored)
@@ -202,7 +204,7 @@ module _ (h : Bytes) (x : History) (s : Stands h x) where
           subst (λ (y : History). Stands (keptIn h l t p q) y) effect-is
           (subst (λ (rs : List CertificateRow). Stands (certificateAdded h (placeOf t rs) new) (withElections x (inOrder (certificateIn (x .prefixes) new) (x .certificates)))) e w)
 
-    bytes-kept : (q : ℕ) → sliceIn h l n ≡ Slice.Prefix q → isAccepted (answerIn h l t n) ≡ true → keptIn h l t p q ≡ bytesIn h l t p n
+    bytes-kept : (q : ℕ) → frontThrough h l n ≡ Slice.Prefix q → isAccepted (answerIn h l t n) ≡ true → keptIn h l t p q ≡ bytesIn h l t p n
     unfolding bytesIn
     bytes-kept q e a = sym (cond-true (isAccepted (answerIn h l t n)) _ h a ∙ ap (λ (y : Slice). keptIn h l t p (logOf y)) e)
 

@@ -9,15 +9,15 @@ use Rattle.model.specs.Sizes.{Bytes}
 use Rattle.model.proofs.Tests.{tf, cond-true, cond-false}
 use Rattle.storage_bytes.specs.Words.{wordAt}
 use Rattle.storage.specs.Values.{certificatesOf}
-use Rattle.storage.specs.Tables.{CertificateRow, certificateRow, certificatesPart, prefixRow, prefixesPart}
+use Rattle.storage.specs.Tables.{CertificateRow, certificateRow, certificatesPart}
 use Rattle.storage.specs.Writes.{certificateAdded}
 use Rattle.storage_bytes.proofs.ListLaws.{tabulate-length}
 use Rattle.storage.proofs.OrderLaws.{place-within}
-use Rattle.prefix_lookup.specs.Prefix.{sliceOf}
+use Rattle.prefix_lookup.specs.Prefix.{frontThrough}
 use Rattle.prefix_lookup.specs.declared.lookup.Slice.{Slice}
 use Rattle.election_judging.specs.declared.judging.ElectionAnswer.{ElectionAnswer}
 use Rattle.election_judging.specs.Certify.{isAccepted, judgedOf}
-use Rattle.election.specs.Certify.{logOf, heldIn, placeIn, frontIn, sliceIn, kept, keptIn, answerIn, bytesIn, Recorded}
+use Rattle.election.specs.Certify.{logOf, heldIn, placeIn, kept, keptIn, answerIn, bytesIn, Recorded}
 use Rattle.election_judging.proofs.Turns.{room-left}
 
 -- ---- the certificate that is kept
@@ -41,14 +41,11 @@ accepted-room h Slice.Beyond t e = absurd (tf (sym e))
 
 -- ---- the whole, with what was read
 
-module _ (h : Bytes) (l t : ℕ) (p : Bool) (n front : ℕ) (s : Slice) (r : ElectionAnswer) (b : Bool)
-    (ef : front ≡ frontIn h l) (es : s ≡ sliceOf (prefixRow (prefixesPart h)) front n) (er : r ≡ judgedOf h s t) (eb : b ≡ isAccepted r) where
-  slice-is : s ≡ sliceIn h l n
-  slice-is = es ∙ ap (λ (k : ℕ). sliceOf (prefixRow (prefixesPart h)) k n) ef
-
+module _ (h : Bytes) (l t : ℕ) (p : Bool) (n : ℕ) (s : Slice) (r : ElectionAnswer) (b : Bool)
+    (es : s ≡ frontThrough h l n) (er : r ≡ judgedOf h s t) (eb : b ≡ isAccepted r) where
   answer-is : r ≡ answerIn h l t n
   unfolding answerIn
-  answer-is = er ∙ ap (λ (x : Slice). judgedOf h x t) slice-is
+  answer-is = er ∙ ap (λ (x : Slice). judgedOf h x t) es
 
   test-is : isAccepted (answerIn h l t n) ≡ b
   test-is = sym (ap isAccepted answer-is) ∙ sym eb
@@ -57,7 +54,7 @@ module _ (h : Bytes) (l t : ℕ) (p : Bool) (n front : ℕ) (s : Slice) (r : Ele
   unfolding bytesIn
   refused-bytes f = sym (cond-false (isAccepted (answerIn h l t n)) _ h (test-is ∙ not-true b f))
 
-  kept-bytes : not b ≡ false → keptIn h l t p (logOf (sliceIn h l n)) ≡ bytesIn h l t p n
+  kept-bytes : not b ≡ false → keptIn h l t p (logOf (frontThrough h l n)) ≡ bytesIn h l t p n
   unfolding bytesIn
   kept-bytes f = sym (cond-true (isAccepted (answerIn h l t n)) _ h (test-is ∙ not-false b f))
 
@@ -74,5 +71,5 @@ module _ (h : Bytes) (l t : ℕ) (p : Bool) (n front : ℕ) (s : Slice) (r : Ele
   accepted f q eq h′ e =
       record {
         answer = answer-is;
-        bytes = e ∙ ap (keptIn h l t p) (eq ∙ ap logOf slice-is) ∙ kept-bytes f;
+        bytes = e ∙ ap (keptIn h l t p) (eq ∙ ap logOf es) ∙ kept-bytes f;
       }

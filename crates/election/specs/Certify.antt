@@ -5,10 +5,10 @@ use mathlib.Core.Path.{_≡_}
 use mathlib.Core.Bool.{Bool, cond}
 use Rattle.model.specs.Sizes.{Bytes}
 use Rattle.storage.specs.Values.{certificatesOf}
-use Rattle.storage.specs.Tables.{CertificateRow, nodeRow, nodesPart, prefixRow, prefixesPart}
+use Rattle.storage.specs.Tables.{CertificateRow}
 use Rattle.storage.specs.Order.{placeOf, heldOf}
 use Rattle.storage.specs.Writes.{certificateAdded}
-use Rattle.prefix_lookup.specs.Prefix.{sliceOf}
+use Rattle.prefix_lookup.specs.Prefix.{frontThrough}
 use Rattle.prefix_lookup.specs.declared.lookup.Slice.{Slice}
 use Rattle.election_judging.specs.declared.judging.ElectionAnswer.{ElectionAnswer}
 use Rattle.election_judging.specs.Certify.{isAccepted, judgedOf}
@@ -26,14 +26,6 @@ heldIn h t = heldOf t (certificatesOf h)
 abbrev pub placeIn : Bytes → ℕ → ℕ
 placeIn h t = placeOf t (certificatesOf h)
 
--- the number of a node's front
-abbrev pub frontIn : Bytes → ℕ → ℕ
-frontIn h l = nodeRow (nodesPart h) l .front
-
--- its first n entries
-abbrev pub sliceIn : Bytes → ℕ → ℕ → Slice
-sliceIn h l n = sliceOf (prefixRow (prefixesPart h)) (frontIn h l) n
-
 -- a new certificate's row: its mark is zero
 abbrev pub kept : ℕ → ℕ → ℕ → Bool → ℕ → CertificateRow
 kept l t number p log =
@@ -45,12 +37,12 @@ keptIn h l t p log = certificateAdded h (placeIn h t) (kept l t (heldIn h t) p l
 
 -- the answer to an election of leader l in term t with a log of n entries
 unfoldable pub answerIn : Bytes → ℕ → ℕ → ℕ → ElectionAnswer
-answerIn h l t n = judgedOf h (sliceIn h l n) t
+answerIn h l t n = judgedOf h (frontThrough h l n) t
 
 -- the bytes after it: as before where it is refused
 unfoldable pub bytesIn : Bytes → ℕ → ℕ → Bool → ℕ → Bytes
 unfolding answerIn
-bytesIn h l t p n = cond (isAccepted (answerIn h l t n)) (keptIn h l t p (logOf (sliceIn h l n))) h
+bytesIn h l t p n = cond (isAccepted (answerIn h l t n)) (keptIn h l t p (logOf (frontThrough h l n))) h
 
 -- what recording it gives: the answer, and the bytes after it
 pub record Recorded (h : Bytes) (l t : ℕ) (p : Bool) (n : ℕ) (r : ElectionAnswer) (h′ : Bytes) : Type 0 where

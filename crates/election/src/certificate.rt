@@ -1,14 +1,11 @@
 // An election is judged with nothing written, then its certificate is kept (state/election.rs): the first `length` entries of
 // the leader's front, or no log.
 ghost use mathlib.Core.Path.{_≡_};
-ghost use Prim.Native.Nat.{_≤_, _<_};
+ghost use Prim.Native.Nat.{_<_};
 ghost use mathlib.Core.Bool.{true, cond};
-ghost use lib.ListN.{length};
 ghost use Rattle.storage.specs.Rules.{wellFormed};
-ghost use Rattle.storage.specs.Tables.{nodeRow, nodesPart, prefixRow, prefixesPart};
 ghost use Rattle.certificate_rows.specs.Values.{certificateValue};
 ghost use Rattle.storage_bytes.specs.Words.{wordAt};
-ghost use Rattle.prefix_lookup.specs.Prefix.{sliceOf};
 ghost use Rattle.election.specs.Certify.{heldIn, placeIn, logOf, kept, keptIn, Recorded};
 use certificate_order::order::held_of;
 use certificate_order::order::place_of;
@@ -18,39 +15,14 @@ use election_judging::judging::ElectionAnswer;
 use election_judging::judging::accepts;
 use election_judging::judging::judge;
 use prefix_lookup::lookup::Slice;
-use prefix_lookup::lookup::slice_through;
+use prefix_lookup::lookup::front_through;
 use storage::head::certificate_count;
-use storage::head::prefix_count;
 use storage_bytes::layout::CERTIFICATES_LENGTH;
 use storage_bytes::layout::CERTIFICATES_START;
-use storage_bytes::layout::NODES_LENGTH;
-use storage_bytes::layout::NODES_START;
-use storage_bytes::layout::PREFIXES_LENGTH;
-use storage_bytes::layout::PREFIXES_START;
 use storage_bytes::layout::part;
-use table_rows::nodes::node_at;
 use units::LogIndex;
 use units::NodeId;
 use units::Term;
-
-// The number of the leader's front; a node without a view has the empty one, 0.
-fn front_of(history: &[u8], leader: NodeId) -> usize
-    requires { ⌜ (leader .0 < 64) × (length (now history) ≡ 24137) ⌝ }
-    ensures { λ r. ⌜ r ≡ nodeRow (nodesPart (now (history .entry))) (leader .0) .front ⌝ }
-{
-    let nodes = part(history, NODES_START, NODES_LENGTH);
-    node_at(nodes, leader.0 as usize).front
-}
-
-// The first `length` entries of the prefix of number p.
-fn first_entries(history: &[u8], p: usize, length: LogIndex) -> Slice
-    requires { ⌜ (wellFormed (now history) ≡ true) × (p ≤ wordAt (now history) 0 2) ⌝ }
-    ensures { λ r. ⌜ r ≡ sliceOf (prefixRow (prefixesPart (now (history .entry)))) p (length .0) ⌝ }
-{
-    let n = prefix_count(history);
-    let prefixes = part(history, PREFIXES_START, PREFIXES_LENGTH);
-    slice_through(prefixes, n, p, length)
-}
 
 // The number of the next certificate of the term.
 fn number_in(history: &[u8], term: Term) -> usize
@@ -130,8 +102,7 @@ pub fn record_election(
     requires { ⌜ (wellFormed (now history) ≡ true) × (leader .0 < 64) ⌝ }
     ensures { λ r. ⌜ Recorded (now (history .entry)) (leader .0) (term .0) present (length .0) r (now (history .exit)) ⌝ }
 {
-    let front = front_of(&history[..], leader);
-    let slice = first_entries(&history[..], front, length);
+    let slice = front_through(&history[..], leader, length);
     let judged = judge(&history[..], slice, term);
     if !accepts(judged) {
         return judged;

@@ -1,4 +1,5 @@
 pub mod PrefixLaws
 pub mod SliceLaws
 pub mod TableLaws
+pub mod FrontLaws
 pub mod Loops

@@ -1,12 +1,14 @@
--- Prefixes by number, over the rows of the table: the row that extends one, the first of an index and term, and a part of one.
+-- Prefixes by number, over the rows of the table: the row that extends one, the first of an index and term, a part of one, and a
+-- part of a node's front.
 -- Each definition goes in the order of the loop that computes it. A table is its rows by place, `row`, and how many there are.
 -- Assumes nothing.
 use Prim.Native.Nat.{ℕ, zero, suc, _+_, _-_}
 use mathlib.Core.Bool.{Bool, cond, _&&_}
 use lib.Dec.{leb, ltb, eqb}
 use lib.ListN.{length}
+use Rattle.model.specs.Sizes.{Bytes}
 use Rattle.model.specs.Entry.{Entry}
-use Rattle.storage.specs.Tables.{PrefixRow}
+use Rattle.storage.specs.Tables.{PrefixRow, nodeRow, nodesPart, prefixRow, prefixesPart}
 use Rattle.storage.specs.Values.{indexOf}
 use Rattle.storage.specs.Rules.{sameRow}
 use Rattle.prefix_lookup.specs.declared.lookup.Slice.{Slice}
@@ -42,3 +44,14 @@ sliceFrom row i (suc fuel) p = cond (leb (indexOf row p) i) p (sliceFrom row i f
 unfoldable pub sliceOf : (ℕ → PrefixRow) → ℕ → ℕ → Slice
 unfolding sliceFrom
 sliceOf row p i = cond (ltb (indexOf row p) i) Slice.Beyond (Slice.Prefix (sliceFrom row i p p))
+
+-- ---- in the bytes of a history
+
+-- the number of a node's front
+abbrev pub frontIn : Bytes → ℕ → ℕ
+frontIn h n = nodeRow (nodesPart h) n .front
+
+-- the node's front through index i
+unfoldable pub frontThrough : Bytes → ℕ → ℕ → Slice
+unfolding sliceOf
+frontThrough h n i = sliceOf (prefixRow (prefixesPart h)) (frontIn h n) i

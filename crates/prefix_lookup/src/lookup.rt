@@ -1,20 +1,29 @@
-// Stored prefixes are found by what they extend or by index and term, and cut at an index (types/prefix.rs).
+// Stored prefixes are found by what they extend or by index and term, and cut at an index (types/prefix.rs); so is a node's front.
 ghost use mathlib.Core.Path.{_≡_};
+ghost use mathlib.Core.Bool.{true};
 ghost use Prim.Native.Nat.{_≤_, _<_};
 ghost use lib.ListN.{length};
 ghost use Rattle.storage.specs.Tables.{prefixRow};
-ghost use Rattle.storage.specs.Rules.{sameRow};
+ghost use Rattle.storage.specs.Rules.{sameRow, wellFormed};
 ghost use Rattle.prefix_lookup.specs.Table.{Table, entryValue};
-ghost use Rattle.prefix_lookup.specs.Prefix.{rowOf, find, isOf, first, sliceOf};
+ghost use Rattle.prefix_lookup.specs.Prefix.{rowOf, find, isOf, first, sliceOf, frontThrough};
 use prefix_rows::prefixes::index_at;
 use prefix_rows::prefixes::index_of;
 use prefix_rows::prefixes::parent_at;
 use prefix_rows::prefixes::size_at;
 use prefix_rows::prefixes::term_at;
 use record_walk::walk::ShownEntry;
+use storage::head::prefix_count;
+use storage_bytes::layout::NODES_LENGTH;
+use storage_bytes::layout::NODES_START;
 use storage_bytes::layout::PREFIX_WIDTH;
+use storage_bytes::layout::PREFIXES_LENGTH;
+use storage_bytes::layout::PREFIXES_START;
+use storage_bytes::layout::part;
 use storage_bytes::words::same_bytes;
+use table_rows::nodes::node_at;
 use units::LogIndex;
+use units::NodeId;
 use units::Term;
 
 // A prefix through an index, or that the index is beyond its end.
@@ -97,4 +106,19 @@ pub fn slice_through(prefixes: &[u8], count: usize, p: usize, through: LogIndex)
         q = parent_at(prefixes, q - 1);
     }
     Slice::Prefix(q)
+}
+
+// The node's front through the index; a node without a view has the empty front.
+pub fn front_through(history: &[u8], node: NodeId, index: LogIndex) -> Slice
+    requires { ⌜ (wellFormed (now history) ≡ true) × (node .0 < 64) ⌝ }
+    ensures { λ r. ⌜ r ≡ frontThrough (now (history .entry)) (node .0) (index .0) ⌝ }
+{
+    let x = node_at(part(history, NODES_START, NODES_LENGTH), node.0 as usize);
+    let count = prefix_count(history);
+    slice_through(
+        part(history, PREFIXES_START, PREFIXES_LENGTH),
+        count,
+        x.front,
+        index,
+    )
 }

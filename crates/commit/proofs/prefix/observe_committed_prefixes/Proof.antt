@@ -1,7 +1,8 @@
 -- `commit::prefix::observe_committed_prefixes` meets its contract.
 -- Assumes nothing.
 use Rattle.committed_prefix.proofs.PrefixTurns.{unseen-length, keep-length, kept-within}
-use Rattle.commit.proofs.PrefixTurns.{insert-leaves-length, seen-within, observe-unseen, observe-zero, observe-first, observe-later}
+use Rattle.prefix_lookup.proofs.FrontLaws.{through-stored}
+use Rattle.commit.proofs.PrefixTurns.{insert-leaves-length, observe-unseen, observe-zero, observe-first, observe-later}
 use Rattle.storage.proofs.WellFormed.{formed}
 use lib.ListN.{length}
 use borrow.Author.Needs.{needs}
@@ -10,8 +11,8 @@ use mathlib.Core.Path.{ap, sym, _∙_}
 use Rattle.commit.proofs.prefix.observe_committed_prefixes.Statement.{statement}
 use Rattle.commit.proofs.prefix.observe_committed_prefixes.Tie as tie
 
-seen-prefix-requires : tie.Need-seen-prefix-requires
-seen-prefix-requires c κs = search needs
+front-through-requires : tie.Need-front-through-requires
+front-through-requires c κs = search needs
 
 enum-known-seen : tie.Need-enum-known-seen
 enum-known-seen c = search needs
@@ -30,7 +31,7 @@ same-length c = ap length (c .before .before .set-unseen .ensures) ∙ unseen-le
 returns : tie.Need-returns
 returns c =
     let s = c .before .before .before .before .before .before .before .before .before in
-    observe-unseen (s .args .history .now) (s .args .node .0) (s .args .index .0) _ (c .before .before .before .before .before .before .seen-prefix .ensures) (c .before .before .before .before .enum-told .given .1) _ (c .before .before .set-unseen .ensures)
+    observe-unseen (s .args .history .now) (s .args .node .0) (s .args .index .0) _ (c .before .before .before .before .before .before .front-through .ensures) (c .before .before .before .before .enum-told .given .1) _ (c .before .before .set-unseen .ensures)
 
 set-unseen-requires-2 : tie.Need-set-unseen-requires-2
 set-unseen-requires-2 c κs =
@@ -43,7 +44,7 @@ same-length-2 c = ap length (c .before .before .set-unseen2 .ensures) ∙ unseen
 returns-2 : tie.Need-returns-2
 returns-2 c =
     let s = c .before .before .before .before .before .before .before .before .before .before .before in
-    observe-zero (s .args .history .now) (s .args .node .0) (s .args .index .0) _ (c .before .before .before .before .before .before .before .before .seen-prefix .ensures) _ (c .before .before .before .before .before .before .seen .given .1) (c .before .before .before .before .if1 .taken) _ (c .before .before .set-unseen2 .ensures)
+    observe-zero (s .args .history .now) (s .args .node .0) (s .args .index .0) _ (c .before .before .before .before .before .before .before .before .front-through .ensures) _ (c .before .before .before .before .before .before .seen .given .1) (c .before .before .before .before .if1 .taken) _ (c .before .before .set-unseen2 .ensures)
 
 committed-prefix-requires : tie.Need-committed-prefix-requires
 committed-prefix-requires c κs =
@@ -67,13 +68,13 @@ same-length-3 c = ap length (c .before .before .keep .ensures) ∙ keep-length _
 returns-3 : tie.Need-returns-3
 returns-3 c =
     let s = c .before .before .before .before .before .before .before .before .before .before .before .before .before .before .before in
-    observe-first (s .args .history .now) (s .args .node .0) (s .args .index .0) _ (c .before .before .before .before .before .before .before .before .before .before .before .before .seen-prefix .ensures) _ (c .before .before .before .before .before .before .before .before .before .before .seen .given .1) (c .before .before .before .before .before .before .before .before .if1 .left) _ (c .before .before .before .before .before .before .committed-prefix .ensures) (c .before .before .before .before .enum-told2 .given .1) _ (c .before .before .keep .ensures)
+    observe-first (s .args .history .now) (s .args .node .0) (s .args .index .0) _ (c .before .before .before .before .before .before .before .before .before .before .before .before .front-through .ensures) _ (c .before .before .before .before .before .before .before .before .before .before .seen .given .1) (c .before .before .before .before .before .before .before .before .if1 .left) _ (c .before .before .before .before .before .before .committed-prefix .ensures) (c .before .before .before .before .enum-told2 .given .1) _ (c .before .before .keep .ensures)
 
 insert-committed-prefix-requires : tie.Need-insert-committed-prefix-requires
 insert-committed-prefix-requires c κs =
     let s = c .before .before .before .before .before .before .before .before .before .before .before .before .before in
     let f = formed _ (s .pre .0) in
-    (s .pre .0, s .pre .1, kept-within (s .args .history .now) f _ (c .before .before .before .before .committed-prefix .ensures) _ (c .before .before .committed .given .1), seen-within (s .args .history .now) (s .args .node .0) (s .args .index .0) _ f (s .pre .1) (sym (c .before .before .before .before .before .before .before .before .before .before .seen-prefix .ensures) ∙ c .before .before .before .before .before .before .before .before .seen .given .1))
+    (s .pre .0, s .pre .1, kept-within (s .args .history .now) f _ (c .before .before .before .before .committed-prefix .ensures) _ (c .before .before .committed .given .1), through-stored (s .args .history .now) (s .args .node .0) (s .args .index .0) _ f (s .pre .1) (sym (c .before .before .before .before .before .before .before .before .before .before .front-through .ensures) ∙ c .before .before .before .before .before .before .before .before .seen .given .1))
 
 same-length-4 : tie.Need-same-length-4
 same-length-4 c = ap length (c .before .before .insert-committed-prefix .ensures .leaves) ∙ insert-leaves-length _ _ _ _
@@ -81,13 +82,13 @@ same-length-4 c = ap length (c .before .before .insert-committed-prefix .ensures
 returns-4 : tie.Need-returns-4
 returns-4 c =
     let s = c .before .before .before .before .before .before .before .before .before .before .before .before .before .before .before .before in
-    observe-later (s .args .history .now) (s .args .node .0) (s .args .index .0) _ (c .before .before .before .before .before .before .before .before .before .before .before .before .before .seen-prefix .ensures) _ (c .before .before .before .before .before .before .before .before .before .before .before .seen .given .1) (c .before .before .before .before .before .before .before .before .before .if1 .left) _ (c .before .before .before .before .before .before .before .committed-prefix .ensures) _ (c .before .before .before .before .before .committed .given .1) _ _ (c .before .before .insert-committed-prefix .ensures)
+    observe-later (s .args .history .now) (s .args .node .0) (s .args .index .0) _ (c .before .before .before .before .before .before .before .before .before .before .before .before .before .front-through .ensures) _ (c .before .before .before .before .before .before .before .before .before .before .before .seen .given .1) (c .before .before .before .before .before .before .before .before .before .if1 .left) _ (c .before .before .before .before .before .before .before .committed-prefix .ensures) _ (c .before .before .before .before .before .committed .given .1) _ _ (c .before .before .insert-committed-prefix .ensures)
 
 pub observe-committed-prefixes-spec : {M : Type 1} → statement M
 observe-committed-prefixes-spec =
     tie.close
     (tie.spec
-    seen-prefix-requires
+    front-through-requires
     enum-known-seen
     enum-told
     set-unseen-requires

@@ -1,18 +1,12 @@
 -- `election::certificate::record_election` meets its contract: refused with nothing written, or kept.
 -- Assumes nothing.
-use Rattle.storage.proofs.WellFormed.{formed}
 use Rattle.election.proofs.Turns.{refused, accepted, accepted-fits}
 use borrow.Author.Needs.{needs}
 use Rattle.election.proofs.certificate.record_election.Statement.{statement}
 use Rattle.election.proofs.certificate.record_election.Tie as tie
 
-front-of-requires : tie.Need-front-of-requires
-front-of-requires c κs = (c .before .before .pre .1, formed _ (c .before .before .pre .0) .long)
-
-first-entries-requires : tie.Need-first-entries-requires
-first-entries-requires c κs =
-    let s = c .before .before .before .before in
-    (s .pre .0, rw (c .before .front-of .ensures) (formed _ (s .pre .0) .node (s .args .leader .0) (s .pre .1) .front))
+front-through-requires : tie.Need-front-through-requires
+front-through-requires c κs = search needs
 
 judge-requires : tie.Need-judge-requires
 judge-requires c κs = search needs
@@ -27,10 +21,9 @@ returns : tie.Need-returns
 returns c =
     let m = c .before in
     let f = m .before .before .before in
-    let g = f .before .before in
-    let s = g .before .before .before in
-    refused (s .args .history .now) (s .args .leader .0) (s .args .term .0) (s .args .present) (s .args .length .0) _ _ _ _
-    (g .front-of .ensures) (f .first-entries .ensures) (m .before .judge .ensures) (m .accepts .ensures) (c .if1 .taken)
+    let s = f .before .before .before in
+    refused (s .args .history .now) (s .args .leader .0) (s .args .term .0) (s .args .present) (s .args .length .0) _ _ _
+    (f .front-through .ensures) (m .before .judge .ensures) (m .accepts .ensures) (c .if1 .taken)
 
 log-of-requires : tie.Need-log-of-requires
 log-of-requires c κs = search needs
@@ -39,10 +32,9 @@ keep-requires : tie.Need-keep-requires
 keep-requires c κs =
     let m = c .before .before .before in
     let f = m .before .before .before in
-    let g = f .before .before in
-    let s = g .before .before .before in
-    let room = accepted-fits (s .args .history .now) (s .args .leader .0) (s .args .term .0) (s .args .present) (s .args .length .0) _ _ _ _
-    (g .front-of .ensures) (f .first-entries .ensures) (m .before .judge .ensures) (m .accepts .ensures) (c .before .before .if1 .left) in
+    let s = f .before .before .before in
+    let room = accepted-fits (s .args .history .now) (s .args .leader .0) (s .args .term .0) (s .args .present) (s .args .length .0) _ _ _
+    (f .front-through .ensures) (m .before .judge .ensures) (m .accepts .ensures) (c .before .before .if1 .left) in
     (s .pre .0, room)
 
 same-length-2 : tie.Need-same-length-2
@@ -52,19 +44,17 @@ returns-2 : tie.Need-returns-2
 returns-2 c =
     let m = c .before .before .before .before .before .before in
     let f = m .before .before .before in
-    let g = f .before .before in
-    let s = g .before .before .before in
+    let s = f .before .before .before in
     let k = c .before .before in
-    accepted (s .args .history .now) (s .args .leader .0) (s .args .term .0) (s .args .present) (s .args .length .0) _ _ _ _
-    (g .front-of .ensures) (f .first-entries .ensures) (m .before .judge .ensures) (m .accepts .ensures)
+    accepted (s .args .history .now) (s .args .leader .0) (s .args .term .0) (s .args .present) (s .args .length .0) _ _ _
+    (f .front-through .ensures) (m .before .judge .ensures) (m .accepts .ensures)
     (k .before .before .before .if1 .left) _ (k .before .before .log-of .ensures) _ (k .keep .ensures)
 
 pub record-election-spec : {M : Type 1} → statement M
 record-election-spec =
     tie.close
     (tie.spec
-    front-of-requires
-    first-entries-requires
+    front-through-requires
     judge-requires
     accepts-requires
     same-length

@@ -1,15 +1,15 @@
--- `commit::prefix::seen_prefix` meets its contract.
+-- `prefix_lookup::lookup::front_through` meets its contract.
 -- Assumes nothing.
-use Rattle.committed_prefix.proofs.PrefixTurns.{front-within, seen-is}
+use Rattle.prefix_lookup.proofs.FrontLaws.{front-within, through-is}
 use Rattle.storage.proofs.WellFormed.{formed}
 use Rattle.prefix_lookup.proofs.TableLaws.{table-lent}
 use Rattle.table_rows.specs.Values.{nodeValue}
 use Prim.Native.Nat.{ℕ, _≤_}
 use borrow.Author.Needs.{needs}
 use native.Mathlib.Omega.{arith}
 use mathlib.Core.Path.{sym, subst}
-use Rattle.commit.proofs.prefix.seen_prefix.Statement.{statement}
-use Rattle.commit.proofs.prefix.seen_prefix.Tie as tie
+use Rattle.prefix_lookup.proofs.lookup.front_through.Statement.{statement}
+use Rattle.prefix_lookup.proofs.lookup.front_through.Tie as tie
 
 part-requires : tie.Need-part-requires
 part-requires c κs =
@@ -42,10 +42,10 @@ slice-through-requires c κs =
 returns : tie.Need-returns
 returns c =
     let s = c .before .before .before .before .before .before .before .args in
-    seen-is (s .history .now) (s .node .0) _ (c .before .before .before .before .before .part .ensures .is) (nodeValue (c .before .before .before .node-at .result)) (c .before .before .before .node-at .ensures) _ (c .before .part2 .ensures .is) (s .index .0) _ (c .slice-through .ensures)
+    through-is (s .history .now) (s .node .0) _ (c .before .before .before .before .before .part .ensures .is) (nodeValue (c .before .before .before .node-at .result)) (c .before .before .before .node-at .ensures) _ (c .before .part2 .ensures .is) (s .index .0) _ (c .slice-through .ensures)
 
-pub seen-prefix-spec : {M : Type 1} → statement M
-seen-prefix-spec =
+pub front-through-spec : {M : Type 1} → statement M
+front-through-spec =
     tie.close
     (tie.spec
     part-requires
