@@ -1,2 +1,3 @@
-// The marks of the certificates that a check moves. Stands on term_marks, which writes a mark.
+// The marks of the certificates that a check moves. Stands on certificate_mark, and on term_marks, which writes a
+// mark.
 pub mod marks;

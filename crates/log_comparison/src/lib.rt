@@ -1,2 +1,2 @@
-// Stored prefixes compared by term and content at each index (the equality of types/prefix.rs). Stands on log_prefix.
+// Stored prefixes compared by term and content at each index (the equality of types/prefix.rs). Stands on prefix_lookup.
 pub mod comparison;

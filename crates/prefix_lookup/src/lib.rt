@@ -1,2 +1,2 @@
-// Stored prefixes found and cut: nothing is written. Stands on prefix_rows and record_walk.
+// Stored prefixes found and cut: nothing is written. Stands on prefix_rows, table_rows and record_walk.
 pub mod lookup;
