@@ -28,19 +28,17 @@ use Rattle.storage.proofs.TableLaws.{tablesFrom, in-certificates}
 use Rattle.storage.proofs.DecodeLaws.{CertificateNamed, certificate-test, kept-certificates, Kept}
 use Rattle.storage.proofs.Meanings.{Stands, stands, withElections, long, kept, is, certificates-is}
 use Rattle.storage.proofs.WellFormed.{rows-count, certificates-count, certificate-row, formed}
+use Rattle.certificate_mark.specs.Marks.{markedRow}
 use Rattle.term_marks.specs.Marks.{markSet, certificateOf, isPast, lowerBytes, lowerAll}
 use Rattle.term_marks.proofs.MarkTurns.{mark-length}
 
 -- ---- a mark written
 
-abbrev marked : CertificateRow → ℕ → CertificateRow
-marked c m = record { term = c .term; log = c .log; mark = m; leader = c .leader; number = c .number; present = c .present }
-
 module _ (r : Bytes) (k m : ℕ) (size : length r ≡ 704) (here : k < 64) (fits : m < 65536) where
   abbrev put : Bytes
   put = putBytes r (k * 11 + 6) (wordBytes 2 m)
 
-  row-marked : certificateRow put k ≡ marked (certificateRow r k) m
+  row-marked : certificateRow put k ≡ markedRow (certificateRow r k) m
   row-marked =
       let o = k * 11 + 6 in
       let w = wordBytes 2 m in
@@ -65,13 +63,13 @@ module _ (r : Bytes) (k m : ℕ) (size : length r ≡ 704) (here : k < 64) (fits
       put-after r (k * 11 + 6) (wordBytes 2 m) i (omega arith))
       (either (ltb j k)))
 
-  rows-marked : (n : ℕ) → certificateRows put n ≡ set (certificateRows r n) k (marked (certificateRow r k) m)
+  rows-marked : (n : ℕ) → certificateRows put n ≡ set (certificateRows r n) k (markedRow (certificateRow r k) m)
   rows-marked n =
-      tabulate-set (certificateRow r) (certificateRow put) 0 n k (marked (certificateRow r k) m)
+      tabulate-set (certificateRow r) (certificateRow put) 0 n k (markedRow (certificateRow r k) m)
       (ap (certificateRow put) (zero-add k) ∙ row-marked) (λ j ne. row-other j (λ e. ne (e ∙ sym (zero-add k))))
 
 tables-marked : (h : Bytes) (k m : ℕ) → length h ≡ 24137 → k < 64 → m < 65536
-    → tablesOf (markSet h k m) ≡ withCertificates (tablesOf h) (set (tablesOf h .certificates) k (marked (certificateOf h k) m))
+    → tablesOf (markSet h k m) ≡ withCertificates (tablesOf h) (set (tablesOf h .certificates) k (markedRow (certificateOf h k) m))
 unfolding markSet tablesIn
 tables-marked h k m right l f =
     let b = word-bytes-length 2 m in
@@ -102,7 +100,7 @@ module _ (h : Bytes) (x : History) (s : Stands h x) where
       let lim = within _ _ _ _ (kept h x s .limits) in
       let n = length (tablesOf h .rows) in
       let cs = tablesOf h .certificates in
-      let c = marked (certificateOf h k) m in
+      let c = markedRow (certificateOf h k) m in
       let g = formed h (s .right) .certificate k l in
       let named : CertificateNamed n c = record { log = omega (arith, g .log, rows-count h); mark = f; leader = g .leader; present = g .present } in
       let count = certificates-count h in

@@ -1,2 +1,2 @@
-// The marks of the certificates that a late commit term lowers. Stands on certificate_rows.
+// The marks of the certificates that a late commit term lowers. Stands on certificate_rows and certificate_mark.
 pub mod marks;
