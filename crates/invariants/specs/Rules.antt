@@ -1,15 +1,13 @@
--- The rules over rows by their number, and what the code answers, in the model's words.
+-- The first rule that a row fails, the walk over the rows, and what the code answers, in the model's words.
 -- Assumes nothing.
 use Prim.Native.Nat.{ℕ}
-use mathlib.Core.Bool.{Bool, cond}
-use mathlib.Core.List.{List}
-use mathlib.Core.Option.{Option, none, some}
-use lib.Dec.{eqb}
+use mathlib.Core.Bool.{cond}
+use mathlib.Core.List.{List, [], _∷_}
+use lib.Dec.{ltb, eqb}
 use Rattle.model.specs.Record as model
 use Rattle.model.specs.Rows as rows
 use Rattle.record_walk.specs.declared.walk.Row.{Row}
 use Rattle.record_walk.specs.declared.walk.Configuration.{Configuration}
-use Rattle.invariants.specs.declared.commit_safety.Failing.{Failing}
 use Rattle.invariants.specs.declared.commit_safety.Verdict.{Verdict}
 
 abbrev pub configurationOf : Configuration → model.Configuration
@@ -27,23 +25,22 @@ rowOf r =
       actualConfiguration = configurationOf (r .«actual_configuration»);
     }
 
--- the rule of a number: 4 is the last
-abbrev pub ruleOf : ℕ → model.Row → Bool
-ruleOf k r = cond (eqb k 1) (rows.rule1 r) (cond (eqb k 2) (rows.rule2 r) (cond (eqb k 3) (rows.rule3 r) (rows.rule4 r)))
+-- in the place of a rule where none fails: it comes after all four
+abbrev pub noRule : ℕ
+noRule = 5
 
--- a node that fails, or none
-abbrev pub found : Option ℕ → Failing
-found (some n) = Failing.Node (record { 0 = n })
-found none = Failing.Nothing
+-- the first rule that a row fails
+unfoldable pub firstRule : model.Row → ℕ
+firstRule r = cond (rows.rule1 r) 1 (cond (rows.rule2 r) 2 (cond (rows.rule3 r) 3 (cond (rows.rule4 r) 4 noRule)))
 
--- that node fails rule k, or else what is said later
-abbrev pub orLater : ℕ → Option ℕ → Verdict → Verdict
-orLater k (some n) later = Verdict.Fails k (record { 0 = n })
-orLater k none later = later
+-- the verdict where k is the least rule that failed, and n the first node that failed it: 0 and 0 where none failed
+abbrev pub verdictAt : ℕ → ℕ → rows.Verdict
+verdictAt k n = cond (eqb k noRule) (record { rule = 0; node = 0 }) (record { rule = k; node = n })
 
--- rule a, then rule b
-unfoldable pub firstOf : ℕ → ℕ → List model.Row → Verdict
-firstOf a b rs = orLater a (rows.failing (ruleOf a) rs) (orLater b (rows.failing (ruleOf b) rs) Verdict.Holds)
+-- the walk over the rows, where k is the least rule that failed before them, and n the first node that failed it
+unfoldable pub leastFrom : ℕ → ℕ → List model.Row → rows.Verdict
+leastFrom k n [] = verdictAt k n
+leastFrom k n (r ∷ rs) = cond (ltb (firstRule r) k) (leastFrom (firstRule r) (r .node) rs) (leastFrom k n rs)
 
 -- a verdict as the model numbers it: 0 and 0 where no row fails
 abbrev pub verdictOf : Verdict → rows.Verdict

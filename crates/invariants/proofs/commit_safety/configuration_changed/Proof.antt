@@ -1,28 +1,33 @@
--- `invariants::commit_safety::configuration_changed` meets its contract: each exit is a law of rule 3.
+-- `invariants::commit_safety::configuration_changed` meets its contract: the flag of its tests so far is the value of rule 3 so far.
 -- Assumes nothing.
+use mathlib.Core.Path.{_≡_, _∙_}
+use mathlib.Core.Bool.{Bool, _&&_}
+use mathlib.Core.Logic.{⊎-elim}
+use lib.Dec.{eqb}
+use Rattle.model.specs.Record as model
 use Rattle.invariants.specs.Rules.{rowOf}
-use Rattle.invariants.proofs.Passes.{changed-no-floor, changed-none, changed-index, changed-identity}
 use Rattle.invariants.proofs.commit_safety.configuration_changed.Statement.{statement}
 use Rattle.invariants.proofs.commit_safety.configuration_changed.Tie as tie
 
+abbrev bothPresent : model.Row → Bool
+bothPresent r = r .floorConfiguration .present && r .actualConfiguration .present
+
+abbrev sameIndex : model.Row → Bool
+sameIndex r = bothPresent r && eqb (r .floorConfiguration .index) (r .actualConfiguration .index)
+
+both-present : (c : tie.Joined1) → c .if1 .if2 ≡ bothPresent (rowOf (c .before .before .before .args .r))
+both-present c = ⊎-elim (λ w. rw (w .0 .taken) (w .1)) (λ w. rw (w .0 .left) (w .1 ∙ w .0 .left)) (c .if1 .came)
+
+same-index : (c : tie.Joined2) → c .if2 .if3 ≡ sameIndex (rowOf (c .before .before .before .before .args .r))
+same-index c =
+    rw (← both-present (c .before))
+    (⊎-elim (λ w. rw (w .0 .taken) (w .3)) (λ w. rw (w .0 .left) (w .1 ∙ w .0 .left)) (c .if2 .came))
+
 returns : tie.Need-returns
-returns c = changed-no-floor (rowOf (c .before .before .before .before .args .r)) (c .if1 .taken)
+returns c = rw (← same-index (c .before .before .before), c .before .before .if3 .taken)
 
 returns-2 : tie.Need-returns-2
-returns-2 c = changed-none (rowOf (c .before .before .before .before .before .before .args .r)) (c .before .before .if1 .left) (c .if2 .taken)
-
-returns-3 : tie.Need-returns-3
-returns-3 c =
-    let a = c .before .before .before in
-    let f = a .before .before in
-    changed-index (rowOf (f .before .before .before .before .args .r)) (f .if1 .left) (a .if2 .left) (c .if3 .taken)
-
-returns-4 : tie.Need-returns-4
-returns-4 c =
-    let i = c .before .before in
-    let a = i .before .before .before in
-    let f = a .before .before in
-    changed-identity (rowOf (f .before .before .before .before .args .r)) (f .if1 .left) (a .if2 .left) (i .if3 .left)
+returns-2 c = rw (← same-index (c .before), c .if3 .left)
 
 pub configuration-changed-spec : {M : Type 1} → statement M
-configuration-changed-spec = tie.close (tie.spec returns returns-2 returns-3 returns-4)
+configuration-changed-spec = tie.close (tie.spec returns returns-2)
