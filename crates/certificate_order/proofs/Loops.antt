@@ -1,98 +1,127 @@
--- The loops over the certificates held, row by row: the place, the number and whether it is taken.
+-- The turns of the searches among the certificates held: the place, how many right before it are of the term, and whether one of
+-- them has a number.
 -- Assumes nothing.
-use Prim.Native.Nat.{ℕ, _+_, _-_, _≤_, _<_}
-use native.Mathlib.Nat.{zero-add}
+use Prim.Native.Nat.{ℕ, zero, suc, _+_, _-_, _≤_, _<_}
 use native.Mathlib.Omega.{arith}
-use mathlib.Core.Path.{_≡_, ap, sym, _∙_}
-use mathlib.Core.Bool.{Bool, true, false}
-use mathlib.Core.List.{List}
-use borrow.Author.Tests.{lt-ltb, le-ltb, eq-eqb, ne-eqb}
-use Rattle.model.specs.Sizes.{Bytes}
-use Rattle.storage_bytes.specs.Lists.{tabulate}
-use Rattle.storage.specs.Tables.{CertificateRow, certificateRow, certificateRows}
-use Rattle.certificate_rows.specs.Values.{certificateValue}
-use Rattle.storage.specs.Order.{placeOf, heldOf}
-use Rattle.certificate_rows.specs.declared.certificates.Certificate.{Certificate}
-use Rattle.storage_bytes.proofs.ListLaws.{tabulate-cons, tabulate-none, from-zero}
-use Rattle.certificate_order.specs.Order.{takenOf}
+use mathlib.Core.Path.{_≡_, refl, ap, sym, _∙_, subst}
+use mathlib.Core.Bool.{Bool, true, false, _||_}
+use lib.Dec.{leb, eqb}
+use borrow.Author.Tests.{le-leb, lt-leb, eq-eqb, ne-eqb}
+use Rattle.model.proofs.Tests.{cond-cases, cond-true, cond-false}
+use Rattle.storage.specs.Tables.{CertificateRow}
+use Rattle.certificate_order.specs.Order.{placeFrom, heldBefore, takenFrom}
 
--- ---- the start
+module _ (row : ℕ → CertificateRow) (t : ℕ) where
+  -- ---- the place
 
-module _ (s : Bytes) (n t : ℕ) where
-  pub place-start : placeOf t (certificateRows s n) ≡ 0 + placeOf t (tabulate (certificateRow s) 0 (n - 0))
-  place-start = from-zero (placeOf t) (certificateRow s) n ∙ sym (zero-add _)
+  pub place-here : (k : ℕ) → row k .term ≤ t → placeFrom row t (suc k) ≡ suc k
+  unfolding placeFrom
+  place-here k l = cond-true (leb (row k .term) t) (suc k) _ (le-leb (row k .term) t l)
 
-  pub held-start : heldOf t (certificateRows s n) ≡ 0 + heldOf t (tabulate (certificateRow s) 0 (n - 0))
-  held-start = from-zero (heldOf t) (certificateRow s) n ∙ sym (zero-add _)
+  pub place-back : (k : ℕ) → t < row k .term → placeFrom row t (suc k) ≡ placeFrom row t k
+  unfolding placeFrom
+  place-back k l = cond-false (leb (row k .term) t) (suc k) _ (lt-leb (row k .term) t l)
 
-module _ (s : Bytes) (n t k : ℕ) where
-  -- what is left from row k on
-  abbrev Left : List CertificateRow
-  Left = tabulate (certificateRow s) k (n - k)
+  pub place-zero : placeFrom row t 0 ≡ 0
+  unfolding placeFrom
+  place-zero = refl
 
-  abbrev Rest : List CertificateRow
-  Rest = tabulate (certificateRow s) (k + 1) (n - (k + 1))
+  -- it is one of the places
+  pub place-within : (n : ℕ) → placeFrom row t n ≤ n
+  unfolding placeFrom
+  place-within zero = omega arith
+  place-within (suc k) =
+      cond-cases (λ (r : ℕ). r ≤ suc k) (leb (row k .term) t) (suc k) _ (λ _. omega arith) (λ _. omega (arith, place-within k))
 
-  module _ (h : k < n) (x : Certificate) (e : certificateValue x ≡ certificateRow s k) where
-    term-is : certificateRow s k .term ≡ x .term .0
-    term-is = sym (ap (λ (y : CertificateRow). y .term) e)
+  module _ (n p : ℕ) (inv : placeFrom row t n ≡ placeFrom row t p) where
+    before : 0 < p → p ≡ suc (p - 1)
+    before h = omega arith
 
-    number-is : certificateRow s k .number ≡ x .number
-    number-is = sym (ap (λ (y : CertificateRow). y .number) e)
+    module _ (h : 0 < p) (x : ℕ) (e : x ≡ row (p - 1) .term) where
+      pub place-stop : x ≤ t → p ≡ placeFrom row t n
+      place-stop l =
+          sym
+          (inv ∙ ap (placeFrom row t) (before h) ∙ place-here (p - 1) (subst (λ (y : ℕ). y ≤ t) e l) ∙ sym (before h))
 
-    -- ---- the place
+      pub place-next : t < x → placeFrom row t n ≡ placeFrom row t (p - 1)
+      place-next l = inv ∙ ap (placeFrom row t) (before h) ∙ place-back (p - 1) (subst (λ (y : ℕ). t < y) e l)
 
-    pub place-next : {r : ℕ} → r ≡ k + placeOf t Left → x .term .0 ≤ t → r ≡ k + 1 + placeOf t Rest
-    unfolding placeOf
-    place-next q l =
-        q ∙ rw (tabulate-cons (certificateRow s) k n h, le-ltb t (certificateRow s k .term) (omega (arith, term-is))) (omega arith)
+    pub place-none : p ≤ 0 → 0 ≡ placeFrom row t n
+    place-none h = sym (inv ∙ ap (placeFrom row t) (let e : p ≡ 0 = omega arith in e) ∙ place-zero)
 
-    pub place-stop : {r : ℕ} → r ≡ k + placeOf t Left → t < x .term .0 → k ≡ r
-    unfolding placeOf
-    place-stop q l =
-        sym (q ∙ rw (tabulate-cons (certificateRow s) k n h, lt-ltb t (certificateRow s k .term) (omega (arith, term-is))) (omega arith))
+  -- ---- how many are held
 
-    -- ---- how many
+  pub held-more : (k : ℕ) → row k .term ≡ t → heldBefore row t (suc k) ≡ suc (heldBefore row t k)
+  unfolding heldBefore
+  held-more k l = cond-true (eqb (row k .term) t) _ 0 (eq-eqb (row k .term) t l)
 
-    pub held-same : {r : ℕ} (m j : ℕ) → r ≡ m + heldOf t Left → x .term .0 ≡ t → j ≡ m + 1 → r ≡ j + heldOf t Rest
-    unfolding heldOf
-    held-same m j q l d =
-        q ∙ rw (tabulate-cons (certificateRow s) k n h, eq-eqb (certificateRow s k .term) t (term-is ∙ l)) (omega arith)
+  pub held-end : (k : ℕ) → (row k .term ≡ t → ⊥) → heldBefore row t (suc k) ≡ 0
+  unfolding heldBefore
+  held-end k l = cond-false (eqb (row k .term) t) _ 0 (ne-eqb (row k .term) t l)
 
-    pub held-other : {r : ℕ} (m j : ℕ) → r ≡ m + heldOf t Left → (x .term .0 ≡ t → ⊥) → j ≡ m → r ≡ j + heldOf t Rest
-    unfolding heldOf
-    held-other m j q l d =
-        q ∙ rw (tabulate-cons (certificateRow s) k n h, ne-eqb (certificateRow s k .term) t (λ z. l (sym term-is ∙ z))) (omega arith)
+  pub held-zero : heldBefore row t 0 ≡ 0
+  unfolding heldBefore
+  held-zero = refl
 
-    -- ---- taken
+  -- no more than stand before the place
+  pub held-within : (p : ℕ) → heldBefore row t p ≤ p
+  unfolding heldBefore
+  held-within zero = omega arith
+  held-within (suc k) =
+      cond-cases (λ (r : ℕ). r ≤ suc k) (eqb (row k .term) t) (suc (heldBefore row t k)) 0 (λ _. omega (arith, held-within k)) (λ _. omega arith)
 
-    pub taken-term : {b : Bool} (m : ℕ) → b ≡ takenOf t m Left → (x .term .0 ≡ t → ⊥) → b ≡ takenOf t m Rest
-    unfolding takenOf
-    taken-term m q l =
-        q ∙ rw (tabulate-cons (certificateRow s) k n h, ne-eqb (certificateRow s k .term) t (λ z. l (sym term-is ∙ z)))
+  pub held-start : (p : ℕ) → heldBefore row t p ≡ 0 + heldBefore row t (p - 0)
+  held-start p = let e : p ≡ p - 0 = omega arith in ap (heldBefore row t) e ∙ (let z : heldBefore row t (p - 0) ≡ 0 + heldBefore row t (p - 0) = omega arith in z)
 
-    pub taken-number : {b : Bool} (m : ℕ) → b ≡ takenOf t m Left → x .term .0 ≡ t → (x .number ≡ m → ⊥) → b ≡ takenOf t m Rest
-    unfolding takenOf
-    taken-number m q l d =
-        q
-        ∙ rw (tabulate-cons (certificateRow s) k n h, eq-eqb (certificateRow s k .term) t (term-is ∙ l), ne-eqb (certificateRow s k .number) m (λ z. d (sym number-is ∙ z)))
+  module _ (p m : ℕ) (inv : heldBefore row t p ≡ m + heldBefore row t (p - m)) where
+    left : m < p → p - m ≡ suc (p - 1 - m)
+    left h = omega arith
 
-    pub taken-stop : {b : Bool} (m : ℕ) → b ≡ takenOf t m Left → x .term .0 ≡ t → x .number ≡ m → true ≡ b
-    unfolding takenOf
-    taken-stop m q l d =
-        sym (q
-        ∙ rw (tabulate-cons (certificateRow s) k n h, eq-eqb (certificateRow s k .term) t (term-is ∙ l), eq-eqb (certificateRow s k .number) m (number-is ∙ d)))
+    module _ (h : m < p) (x : ℕ) (e : x ≡ row (p - 1 - m) .term) where
+      pub held-next : x ≡ t → heldBefore row t p ≡ m + 1 + heldBefore row t (p - (m + 1))
+      held-next l =
+          let a : heldBefore row t (p - m) ≡ suc (heldBefore row t (p - 1 - m)) = ap (heldBefore row t) (left h) ∙ held-more (p - 1 - m) (sym e ∙ l) in
+          let b : heldBefore row t (p - 1 - m) ≡ heldBefore row t (p - (m + 1)) = ap (heldBefore row t) (omega arith) in
+          omega (arith, inv)
 
-  -- ---- none left
+      pub held-stop : (x ≡ t → ⊥) → m ≡ heldBefore row t p
+      held-stop l =
+          let a : heldBefore row t (p - m) ≡ 0 = ap (heldBefore row t) (left h) ∙ held-end (p - 1 - m) (λ z. l (e ∙ z)) in
+          omega (arith, inv)
 
-  pub place-none : {r : ℕ} → r ≡ k + placeOf t Left → n ≤ k → k ≡ r
-  unfolding placeOf
-  place-none q h = sym (q ∙ rw (tabulate-none (certificateRow s) k n h) (omega arith))
+    pub held-none : p ≤ m → m ≡ heldBefore row t p
+    held-none h =
+        let a : heldBefore row t (p - m) ≡ 0 = ap (heldBefore row t) (let e : p - m ≡ 0 = omega arith in e) ∙ held-zero in
+        omega (arith, inv)
 
-  pub held-none : {r : ℕ} (m : ℕ) → r ≡ m + heldOf t Left → n ≤ k → m ≡ r
-  unfolding heldOf
-  held-none m q h = sym (q ∙ rw (tabulate-none (certificateRow s) k n h) (omega arith))
+-- ---- taken
 
-  pub taken-none : {b : Bool} (m : ℕ) → b ≡ takenOf t m Left → n ≤ k → false ≡ b
-  unfolding takenOf
-  taken-none m q h = sym (q ∙ rw (tabulate-none (certificateRow s) k n h))
+module _ (row : ℕ → CertificateRow) (m : ℕ) where
+  pub taken-more : (k n : ℕ) → (row k .number ≡ m → ⊥) → takenFrom row m k (suc n) ≡ takenFrom row m (k + 1) n
+  unfolding takenFrom
+  taken-more k n l = ap (λ (b : Bool). b || takenFrom row m (k + 1) n) (ne-eqb (row k .number) m l)
+
+  pub taken-here : (k n : ℕ) → row k .number ≡ m → takenFrom row m k (suc n) ≡ true
+  unfolding takenFrom
+  taken-here k n l = ap (λ (b : Bool). b || takenFrom row m (k + 1) n) (eq-eqb (row k .number) m l)
+
+  pub taken-zero : (k : ℕ) → takenFrom row m k 0 ≡ false
+  unfolding takenFrom
+  taken-zero k = refl
+
+  pub taken-start : (p h : ℕ) → h ≤ p → takenFrom row m (p - h) h ≡ takenFrom row m (p - h) (p - (p - h))
+  taken-start p h l = let e : h ≡ p - (p - h) = omega arith in ap (takenFrom row m (p - h)) e
+
+  module _ {b : Bool} (p k : ℕ) (inv : b ≡ takenFrom row m k (p - k)) where
+    rest : k < p → p - k ≡ suc (p - (k + 1))
+    rest h = omega arith
+
+    module _ (h : k < p) (x : ℕ) (e : x ≡ row k .number) where
+      pub taken-next : (x ≡ m → ⊥) → b ≡ takenFrom row m (k + 1) (p - (k + 1))
+      taken-next l = inv ∙ ap (takenFrom row m k) (rest h) ∙ taken-more k _ (λ z. l (e ∙ z))
+
+      pub taken-stop : x ≡ m → true ≡ b
+      taken-stop l = sym (inv ∙ ap (takenFrom row m k) (rest h) ∙ taken-here k _ (sym e ∙ l))
+
+    pub taken-none : p ≤ k → false ≡ b
+    taken-none h = sym (inv ∙ ap (takenFrom row m k) (let e : p - k ≡ 0 = omega arith in e) ∙ taken-zero k)

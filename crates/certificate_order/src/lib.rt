@@ -1,2 +1,2 @@
-// Certificates by term, then arrival: where a new one stands, and how many its term holds. Stands on certificate_rows.
+// Certificates by term, then arrival: where a new one stands, and how many its term holds. Stands on storage.
 pub mod order;

@@ -1,59 +1,70 @@
-// The certificates held, by term, then arrival: where a new one of a term goes, its number within the term, and whether that
-// is taken.
+// The certificates held stand by term, then arrival, and a new one is mostly of the newest term: so its place is looked for
+// from the end, and its number and whether that is taken only among those of its term, right before the place.
 ghost use mathlib.Core.Path.{_≡_};
-ghost use Prim.Native.Nat.{_≤_};
+ghost use Prim.Native.Nat.{_≤_, _<_};
 ghost use lib.ListN.{length};
-ghost use Rattle.storage.specs.Tables.{certificateRows};
-ghost use Rattle.storage.specs.Order.{placeOf, heldOf};
-ghost use Rattle.certificate_order.specs.Order.{takenOf};
-use certificate_rows::certificates::certificate_at;
+ghost use Rattle.storage.specs.Tables.{certificateRow};
+ghost use Rattle.certificate_order.specs.Order.{placeFrom, heldBefore, takenBefore};
+use storage_bytes::layout::CERTIFICATE_WIDTH;
+use storage_bytes::words::get8;
+use storage_bytes::words::get32;
 use units::Term;
 
-// How many stand before the first of a later term.
-pub fn place_of(certificates: &[u8], n: usize, term: Term) -> usize
-    requires { ⌜ (n ≤ 64) × (length (now certificates) ≡ 704) ⌝ }
-    ensures { λ r. ⌜ r ≡ placeOf (term .0) (certificateRows (now (certificates .entry)) n) ⌝ }
+// The term of row k.
+fn term_at(certificates: &[u8], k: usize) -> Term
+    requires { ⌜ (k < 64) × (length (now certificates) ≡ 704) ⌝ }
+    ensures { λ r. ⌜ r .0 ≡ certificateRow (now (certificates .entry)) k .term ⌝ }
 {
-    let mut k = 0;
-    while k < n {
-        let c = certificate_at(certificates, k);
-        if term.0 < c.term.0 {
-            return k;
-        }
-        k += 1;
-    }
-    k
+    Term(get32(certificates, k * CERTIFICATE_WIDTH))
 }
 
-// How many are of the term.
-pub fn held_of(certificates: &[u8], n: usize, term: Term) -> usize
-    requires { ⌜ (n ≤ 64) × (length (now certificates) ≡ 704) ⌝ }
-    ensures { λ r. ⌜ r ≡ heldOf (term .0) (certificateRows (now (certificates .entry)) n) ⌝ }
+// The number of row k within its term.
+fn number_at(certificates: &[u8], k: usize) -> usize
+    requires { ⌜ (k < 64) × (length (now certificates) ≡ 704) ⌝ }
+    ensures { λ r. ⌜ r ≡ certificateRow (now (certificates .entry)) k .number ⌝ }
 {
-    let mut k = 0;
-    let mut held = 0;
-    while k < n {
-        let c = certificate_at(certificates, k);
-        if c.term.0 == term.0 {
-            held += 1;
+    get8(certificates, k * CERTIFICATE_WIDTH + 9)
+}
+
+// How many of the n stand before those of a later term: from the end back, the first that is of no later one is the last of them.
+pub fn place_of(certificates: &[u8], n: usize, term: Term) -> usize
+    requires { ⌜ (n ≤ 64) × (length (now certificates) ≡ 704) ⌝ }
+    ensures { λ r. ⌜ r ≡ placeFrom (certificateRow (now (certificates .entry))) (term .0) n ⌝ }
+{
+    let mut place = n;
+    while 0 < place {
+        if term_at(certificates, place - 1).0 <= term.0 {
+            return place;
         }
-        k += 1;
+        place -= 1;
+    }
+    0
+}
+
+// How many right before the place are of the term.
+pub fn held_of(certificates: &[u8], place: usize, term: Term) -> usize
+    requires { ⌜ (place ≤ 64) × (length (now certificates) ≡ 704) ⌝ }
+    ensures { λ r. ⌜ r ≡ heldBefore (certificateRow (now (certificates .entry))) (term .0) place ⌝ }
+{
+    let mut held = 0;
+    while held < place {
+        if term_at(certificates, place - 1 - held).0 != term.0 {
+            return held;
+        }
+        held += 1;
     }
     held
 }
 
-// Whether one of the term has the number.
-pub fn is_taken(certificates: &[u8], n: usize, term: Term, number: usize) -> bool
-    requires { ⌜ (n ≤ 64) × (length (now certificates) ≡ 704) ⌝ }
-    ensures { λ r. ⌜ r ≡ takenOf (term .0) number (certificateRows (now (certificates .entry)) n) ⌝ }
+// Whether one of the `held` right before the place has the number.
+pub fn is_taken(certificates: &[u8], place: usize, held: usize, number: usize) -> bool
+    requires { ⌜ (held ≤ place) × (place ≤ 64) × (length (now certificates) ≡ 704) ⌝ }
+    ensures { λ r. ⌜ r ≡ takenBefore (certificateRow (now (certificates .entry))) number place held ⌝ }
 {
-    let mut k = 0;
-    while k < n {
-        let c = certificate_at(certificates, k);
-        if c.term.0 == term.0 {
-            if c.number == number {
-                return true;
-            }
+    let mut k = place - held;
+    while k < place {
+        if number_at(certificates, k) == number {
+            return true;
         }
         k += 1;
     }

@@ -10,7 +10,7 @@ use mathlib.Core.List.{List, [], _∷_, map}
 use mathlib.Core.Option.{Option, none, some}
 use lib.Dec.{leb, ltb, eqb}
 use lib.ListN.{length, take, length-map}
-use borrow.Author.Tests.{lt-ltb, le-ltb}
+use borrow.Author.Tests.{lt-ltb, le-ltb, leb-false}
 use Rattle.model.specs.Sizes.{Bytes}
 use Rattle.model.specs.Entry.{Prefix}
 use Rattle.model.specs.Refusal.{Refusal, lengthExceedsFront, certificatesFull, numberTaken}
@@ -23,10 +23,12 @@ use Rattle.storage.specs.Values.{certificatesOf}
 use Rattle.storage.specs.Tables.{CertificateRow, PrefixRow, certificateRow, certificatesPart, prefixRow, prefixRows, prefixesPart}
 use Rattle.storage.specs.Decode.{prefixAt, resolve, logIn, certificateIn}
 use Rattle.storage.specs.Order.{placeOf, heldOf}
+use Rattle.storage.specs.Rules.{numbered}
 use Rattle.storage.specs.Writes.{CertificateFits, certificateAdded}
 use Rattle.storage_bytes.proofs.ListLaws.{tabulate-length}
 use Rattle.storage.proofs.DecodeLaws.{CertificateNamed}
 use Rattle.storage.proofs.WellFormed.{certificates-are, formed, formed-rows}
+use Rattle.storage.proofs.Meanings as meanings
 use Rattle.storage.proofs.Meanings.{Stands, withElections, front-read, prefixes-stored, certificates-stored}
 use Rattle.storage.proofs.OrderLaws.{held-is, election-written}
 use Rattle.prefix_lookup.specs.Prefix.{frontIn, frontThrough}
@@ -35,9 +37,10 @@ use Rattle.prefix_lookup.proofs.TableLaws.{rows-length, rows-at}
 use Rattle.prefix_lookup.proofs.SliceLaws.{slice-cases}
 use Rattle.election_judging.specs.declared.judging.ElectionAnswer.{ElectionAnswer}
 use Rattle.certificate_order.specs.Order.{takenOf}
-use Rattle.election_judging.specs.Certify.{roomOf, isAccepted, judgedOf}
-use Rattle.election.specs.Certify.{logOf, heldIn, kept, keptIn, answerIn, bytesIn}
-use Rattle.election_judging.proofs.Turns.{room-left}
+use Rattle.election_judging.specs.declared.judging.Numbering.{Numbering}
+use Rattle.election_judging.specs.Certify.{fullIn, numberingIn, answerOf}
+use Rattle.election_judging.proofs.Ordered.{numbering-is}
+use Rattle.election.specs.Certify.{kept, bytesOf, answerIn, bytesIn}
 
 -- the model's refusal, or none
 abbrev pub refusalOf : ElectionAnswer → Option Refusal
@@ -69,11 +72,34 @@ log-is : (ps : List Prefix) (l t m : ℕ) (p : Bool) (q n : ℕ) (f : Prefix) �
 log-is ps l t m true q n f e = ap some e
 log-is ps l t m false q n f e = refl
 
-room-is : (a b : Bool) → refusalOf (cond a ElectionAnswer.CertificatesFull (cond b ElectionAnswer.NumberTaken ElectionAnswer.Accepted))
-    ≡ cond a (some certificatesFull) (cond b (some numberTaken) none)
-room-is true b = refl
-room-is false true = refl
-room-is false false = refl
+-- ---- what was found, and the answer
+
+abbrev pub isAccepted : ElectionAnswer → Bool
+isAccepted ElectionAnswer.Accepted = true
+isAccepted ElectionAnswer.LengthExceedsFront = false
+isAccepted ElectionAnswer.CertificatesFull = false
+isAccepted ElectionAnswer.NumberTaken = false
+
+-- the number is taken, or it is the next of the term at that place
+abbrev found : Bool → ℕ → ℕ → Numbering
+found b place number = cond b Numbering.Taken (Numbering.Next place number)
+
+room-is : (q : ℕ) (a b : Bool) (place number : ℕ)
+    → refusalOf (answerOf (Slice.Prefix q) a (found b place number)) ≡ cond a (some certificatesFull) (cond b (some numberTaken) none)
+room-is q true b place number = refl
+room-is q false true place number = refl
+room-is q false false place number = refl
+
+-- a refused election leaves the bytes
+left : (h : Bytes) (l t : ℕ) (p : Bool) (s : Slice) (full : Bool) (m : Numbering) → isAccepted (answerOf s full m) ≡ false → bytesOf h l t p s full m ≡ h
+left h l t p Slice.Beyond full m e = refl
+left h l t p (Slice.Prefix q) true m e = refl
+left h l t p (Slice.Prefix q) false Numbering.Taken e = refl
+left h l t p (Slice.Prefix q) false (Numbering.Next place number) e = absurd (tf e)
+
+pub bytes-left : (h : Bytes) (l t : ℕ) (p : Bool) (n : ℕ) → isAccepted (answerIn h l t n) ≡ false → bytesIn h l t p n ≡ h
+unfolding answerIn bytesIn
+bytes-left h l t p n e = left h l t p (frontThrough h l n) (fullIn h) (numberingIn h t) e
 
 -- ---- bytes that stand for a history
 
@@ -84,14 +110,30 @@ module _ (h : Bytes) (x : History) (s : Stands h x) where
   abbrev cs : List CertificateRow
   cs = certificatesOf h
 
-  count-is : length cs ≡ length (x .certificates)
-  count-is = sym (length-map cs (certificateIn (x .prefixes))) ∙ ap length (certificates-stored h x s)
+  -- the place and the number of a new certificate, among all that are held
+  abbrev place : ℕ → ℕ
+  place t = placeOf t cs
 
-  held-same : (t : ℕ) → heldIn h t ≡ held t (x .certificates)
+  abbrev number : ℕ → ℕ
+  number t = heldOf t cs
+
+  count-is : wordAt h 6 1 ≡ length (x .certificates)
+  count-is =
+      sym (tabulate-length (certificateRow (certificatesPart h)) 0 (wordAt h 6 1))
+      ∙ sym (length-map cs (certificateIn (x .prefixes)))
+      ∙ ap length (certificates-stored h x s)
+
+  held-same : (t : ℕ) → number t ≡ held t (x .certificates)
   held-same t = sym (held-is (x .prefixes) t cs) ∙ ap (held t) (certificates-stored h x s)
 
   taken-same : (t n : ℕ) → takenOf t n cs ≡ taken t n (x .certificates)
   taken-same t n = sym (taken-is (x .prefixes) t n cs) ∙ ap (taken t n) (certificates-stored h x s)
+
+  -- the certificates are in order, so the searches find these
+  numbering-same : (t : ℕ) → numberingIn h t ≡ found (takenOf t (number t) cs) (place t) (number t)
+  numbering-same t =
+      numbering-is (certificateRow (certificatesPart h)) t (wordAt h 6 1)
+      (subst (λ (rs : List CertificateRow). numbered rs ≡ true) (certificates-are h) (meanings.kept h x s .numbered))
 
   front-is : (l : ℕ) → l < 64 → prefixAt (resolve rows) (frontIn h l) ≡ frontOf x l
   front-is l b =
@@ -100,14 +142,14 @@ module _ (h : Bytes) (x : History) (s : Stands h x) where
       ∙ ap (λ (y : History). frontOf y l) (s .decodes)
 
   -- 10 and 11 are the model's
-  room-same : (t : ℕ)
-      → refusalOf (roomOf t cs)
+  room-same : (t q : ℕ)
+      → refusalOf (answerOf (Slice.Prefix q) (fullIn h) (numberingIn h t))
       ≡ cond (leb 64 (length (x .certificates))) (some certificatesFull) (cond (taken t (held t (x .certificates)) (x .certificates)) (some numberTaken) none)
-  unfolding roomOf
-  room-same t =
-      let k = taken-same t (heldIn h t) ∙ ap (λ (m : ℕ). taken t m (x .certificates)) (held-same t) in
+  room-same t q =
+      let k = taken-same t (number t) ∙ ap (λ (m : ℕ). taken t m (x .certificates)) (held-same t) in
       let c = count-is in
-      room-is (leb 64 (length cs)) (takenOf t (heldIn h t) cs)
+      ap (λ (m : Numbering). refusalOf (answerOf (Slice.Prefix q) (fullIn h) m)) (numbering-same t)
+      ∙ room-is q (fullIn h) (takenOf t (number t) cs) (place t) (number t)
       ∙ (λ i. cond (leb 64 (c i)) (some certificatesFull) (cond (k i) (some numberTaken) none))
 
   module _ (l t : ℕ) (p : Bool) (n : ℕ) (leads : l < 64) (fits : t < 4294967296) where
@@ -135,11 +177,16 @@ module _ (h : Bytes) (x : History) (s : Stands h x) where
 
     answer-beyond : frontThrough h l n ≡ Slice.Beyond → answerIn h l t n ≡ ElectionAnswer.LengthExceedsFront
     unfolding answerIn
-    answer-beyond e = ap (λ (y : Slice). judgedOf h y t) e
+    answer-beyond e = ap (λ (y : Slice). answerOf y (fullIn h) (numberingIn h t)) e
 
-    answer-within : (q : ℕ) → frontThrough h l n ≡ Slice.Prefix q → answerIn h l t n ≡ roomOf t cs
+    answer-within : (q : ℕ) → frontThrough h l n ≡ Slice.Prefix q → answerIn h l t n ≡ answerOf (Slice.Prefix q) (fullIn h) (numberingIn h t)
     unfolding answerIn
-    answer-within q e = ap (λ (y : Slice). judgedOf h y t) e
+    answer-within q e = ap (λ (y : Slice). answerOf y (fullIn h) (numberingIn h t)) e
+
+    bytes-within : (q : ℕ) → frontThrough h l n ≡ Slice.Prefix q
+        → bytesOf h l t p (Slice.Prefix q) (fullIn h) (found (takenOf t (number t) cs) (place t) (number t)) ≡ bytesIn h l t p n
+    unfolding bytesIn
+    bytes-within q e = sym (λ i. bytesOf h l t p (e i) (fullIn h) (numbering-same t i))
 
     -- the log is beyond the front, or the first n entries of it are stored under q
     data Cut : Type 0 where
@@ -154,13 +201,13 @@ module _ (h : Bytes) (x : History) (s : Stands h x) where
 
     refusal-cut : Cut → refusalOf (answerIn h l t n) ≡ electionRefusal x l t n
     refusal-cut (beyond e b) = ap refusalOf (answer-beyond e) ∙ sym (model-beyond b)
-    refusal-cut (within q e b _ _) = ap refusalOf (answer-within q e) ∙ room-same t ∙ sym (model-within b)
+    refusal-cut (within q e b _ _) = ap refusalOf (answer-within q e) ∙ room-same t q ∙ sym (model-within b)
 
     -- ---- the certificate
 
     module _ (q : ℕ) (stored : q ≤ length rows) (log : prefixAt (resolve rows) q ≡ take n front) (room : wordAt h 6 1 < 64) where
       abbrev new : CertificateRow
-      new = kept l t (heldIn h t) p q
+      new = kept l t (number t) p q
 
       flag-small : (b : Bool) → cond {A = ℕ} b 1 0 ≤ 1
       flag-small true = omega arith
@@ -190,34 +237,34 @@ module _ (h : Bytes) (x : History) (s : Stands h x) where
       unfolding certificate
       certificate-is =
           let m = held-same t in
-          let g = log-is (x .prefixes) l t (heldIn h t) p q n (frontOf x l) log-same in
+          let g = log-is (x .prefixes) l t (number t) p q n (frontOf x l) log-same in
           λ i. record { leader = l; term = t; number = m i; log = g i; mark = 0 }
 
       effect-is : withElections x (inOrder (certificateIn (x .prefixes) new) (x .certificates)) ≡ electionEffect x l t p n
       unfolding electionEffect
       effect-is = ap (λ (c : Certificate). withElections x (inOrder c (x .certificates))) certificate-is
 
-      kept-stands : Stands (keptIn h l t p q) (electionEffect x l t p n)
+      kept-stands : Stands (certificateAdded h (place t) new) (electionEffect x l t p n)
       kept-stands =
           let e = certificates-are h in
           let w = election-written h x s new room new-fits new-named (ap (heldOf t) (sym e)) in
-          subst (λ (y : History). Stands (keptIn h l t p q) y) effect-is
+          subst (λ (y : History). Stands (certificateAdded h (place t) new) y) effect-is
           (subst (λ (rs : List CertificateRow). Stands (certificateAdded h (placeOf t rs) new) (withElections x (inOrder (certificateIn (x .prefixes) new) (x .certificates)))) e w)
 
-    bytes-kept : (q : ℕ) → frontThrough h l n ≡ Slice.Prefix q → isAccepted (answerIn h l t n) ≡ true → keptIn h l t p q ≡ bytesIn h l t p n
-    unfolding bytesIn
-    bytes-kept q e a = sym (cond-true (isAccepted (answerIn h l t n)) _ h a ∙ ap (λ (y : Slice). keptIn h l t p (logOf y)) e)
-
-    pub bytes-left : isAccepted (answerIn h l t n) ≡ false → bytesIn h l t p n ≡ h
-    unfolding bytesIn
-    bytes-left a = cond-false (isAccepted (answerIn h l t n)) _ h a
+    -- an accepted election is kept
+    effect-within : (q : ℕ) → q ≤ length rows → prefixAt (resolve rows) q ≡ take n front → (a b : Bool) → fullIn h ≡ a
+        → answerOf (Slice.Prefix q) a (found b (place t) (number t)) ≡ ElectionAnswer.Accepted
+        → Stands (bytesOf h l t p (Slice.Prefix q) a (found b (place t) (number t))) (electionEffect x l t p n)
+    effect-within q stored log true b e r = absurd (tf (sym (ap isAccepted r)))
+    effect-within q stored log false true e r = absurd (tf (sym (ap isAccepted r)))
+    effect-within q stored log false false e r = kept-stands q stored log (leb-false 64 (wordAt h 6 1) e)
 
     effect-cut : Cut → answerIn h l t n ≡ ElectionAnswer.Accepted → Stands (bytesIn h l t p n) (electionEffect x l t p n)
     effect-cut (beyond e _) a = absurd (tf (sym (ap isAccepted a) ∙ ap isAccepted (answer-beyond e)))
     effect-cut (within q e _ stored log) a =
-        let r = room-left t cs (ap isAccepted (sym (answer-within q e) ∙ a)) in
-        let c = tabulate-length (certificateRow (certificatesPart h)) 0 (wordAt h 6 1) in
-        subst (λ (y : Bytes). Stands y (electionEffect x l t p n)) (bytes-kept q e (ap isAccepted a)) (kept-stands q stored log (omega arith))
+        subst (λ (y : Bytes). Stands y (electionEffect x l t p n)) (bytes-within q e)
+        (effect-within q stored log (fullIn h) (takenOf t (number t) cs) refl
+        (sym (ap (λ (m : Numbering). answerOf (Slice.Prefix q) (fullIn h) m) (numbering-same t)) ∙ sym (answer-within q e) ∙ a))
 
     -- the answer is the model's
     pub refusal-is : refusalOf (answerIn h l t n) ≡ electionRefusal x l t n

@@ -13,9 +13,8 @@ use Rattle.model.specs.Election.{electionRefusal, electionEffect}
 use Rattle.storage.proofs.Meanings.{Stands}
 use Rattle.storage.proofs.Answered.{Means, accepts, refuses}
 use Rattle.election_judging.specs.declared.judging.ElectionAnswer.{ElectionAnswer}
-use Rattle.election_judging.specs.Certify.{isAccepted}
 use Rattle.election.specs.Certify.{Recorded}
-use Rattle.election.proofs.Effects.{refusalOf, refusal-is, effect-stands, bytes-left}
+use Rattle.election.proofs.Effects.{refusalOf, isAccepted, refusal-is, effect-stands, bytes-left}
 
 -- the answer in the model's words
 abbrev pub electionReply : ElectionAnswer → Answer
@@ -43,4 +42,4 @@ pub election-recorded : (h : Bytes) (x : History) → Stands h x → (l t : ℕ)
 election-recorded h x s l t p n leads fits r h′ d =
     by-answer h x s l t p n h′ r (ap refusalOf (d .answer) ∙ refusal-is h x s l t p n leads fits)
     (λ e. subst (λ (y : Bytes). Stands y (electionEffect x l t p n)) (sym (d .bytes)) (effect-stands h x s l t p n leads fits (sym (d .answer) ∙ e)))
-    (λ f. d .bytes ∙ bytes-left h x s l t p n leads fits (ap isAccepted (sym (d .answer)) ∙ f))
+    (λ f. d .bytes ∙ bytes-left h l t p n (ap isAccepted (sym (d .answer)) ∙ f))

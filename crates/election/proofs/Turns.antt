@@ -1,75 +1,83 @@
--- The ways an election goes: refused with nothing written, or kept.
+-- The ways an election goes, with what was read: 9, 10, 11 with nothing written, or kept.
 -- Assumes nothing.
 use Prim.Native.Nat.{ℕ, _≤_, _<_}
-use native.Mathlib.Omega.{arith}
 use mathlib.Core.Path.{_≡_, ap, sym, _∙_}
-use mathlib.Core.Bool.{Bool, true, false, not}
-use borrow.Author.Tests.{not-true, not-false}
+use mathlib.Core.Bool.{Bool, true, false}
+use borrow.Author.Tests.{leb-false}
 use Rattle.model.specs.Sizes.{Bytes}
-use Rattle.model.proofs.Tests.{tf, cond-true, cond-false}
 use Rattle.storage_bytes.specs.Words.{wordAt}
-use Rattle.storage.specs.Values.{certificatesOf}
 use Rattle.storage.specs.Tables.{CertificateRow, certificateRow, certificatesPart}
 use Rattle.storage.specs.Writes.{certificateAdded}
-use Rattle.storage_bytes.proofs.ListLaws.{tabulate-length}
-use Rattle.storage.proofs.OrderLaws.{place-within}
 use Rattle.prefix_lookup.specs.Prefix.{frontThrough}
 use Rattle.prefix_lookup.specs.declared.lookup.Slice.{Slice}
 use Rattle.election_judging.specs.declared.judging.ElectionAnswer.{ElectionAnswer}
-use Rattle.election_judging.specs.Certify.{isAccepted, judgedOf}
-use Rattle.election.specs.Certify.{logOf, heldIn, placeIn, kept, keptIn, answerIn, bytesIn, Recorded}
-use Rattle.election_judging.proofs.Turns.{room-left}
+use Rattle.election_judging.specs.declared.judging.Numbering.{Numbering}
+use Rattle.election_judging.specs.Certify.{fullIn, numberingIn}
+use Rattle.election_judging.proofs.Turns as judged
+use Rattle.election.specs.Certify.{kept, bytesOf, answerIn, bytesIn, Recorded}
 
--- ---- the certificate that is kept
+-- where the certificates are not full, fewer than 64 are held
+pub room-left : (h : Bytes) (b : Bool) → b ≡ fullIn h → b ≡ false → wordAt h 6 1 < 64
+room-left h b e f = leb-false 64 (wordAt h 6 1) (sym e ∙ f)
 
-pub kept-is : (h : Bytes) (l t : ℕ) (p : Bool) (log number place : ℕ) (x : CertificateRow) → x ≡ kept l t number p log
-    → number ≡ heldIn h t → place ≡ placeIn h t
-    → certificateAdded h place x ≡ keptIn h l t p log
-kept-is h l t p log number place x e n q =
-    (λ i. certificateAdded h (q i) (e i)) ∙ ap (λ (m : ℕ). certificateAdded h (placeIn h t) (kept l t m p log)) n
+-- the place is among those held, or behind them
+pub place-fits : (h : Bytes) (t : ℕ) (m : Numbering) → m ≡ numberingIn h t → (place number : ℕ) → m ≡ Numbering.Next place number → place ≤ wordAt h 6 1
+place-fits h t m e place number g = judged.next-within (certificateRow (certificatesPart h)) t (wordAt h 6 1) place number (sym e ∙ g)
 
--- a certificate's place is among those held, or behind them
-pub place-fits : (h : Bytes) (t : ℕ) → placeIn h t ≤ wordAt h 6 1
-place-fits h t =
-    omega (arith, place-within t (certificatesOf h), tabulate-length (certificateRow (certificatesPart h)) 0 (wordAt h 6 1))
+-- ---- the exits
 
--- an accepted election leaves room for its certificate
-pub accepted-room : (h : Bytes) (s : Slice) (t : ℕ) → isAccepted (judgedOf h s t) ≡ true → wordAt h 6 1 < 64
-accepted-room h (Slice.Prefix q) t e =
-    omega (arith, room-left t (certificatesOf h) e, tabulate-length (certificateRow (certificatesPart h)) 0 (wordAt h 6 1))
-accepted-room h Slice.Beyond t e = absurd (tf (sym e))
+module _ (h : Bytes) (l t : ℕ) (p : Bool) (n : ℕ) where
+  abbrev Gives : ElectionAnswer → Bytes → Type 0
+  Gives r h′ = Recorded h l t p n r h′
 
--- ---- the whole, with what was read
+  module _ (s : Slice) (es : s ≡ frontThrough h l n) where
+    -- 9
+    pub beyond : s ≡ Slice.Beyond → Gives ElectionAnswer.LengthExceedsFront h
+    unfolding answerIn bytesIn
+    beyond e =
+        let q = sym es ∙ e in
+        record {
+          answer = judged.nine (fullIn h) (numberingIn h t) (frontThrough h l n) q;
+          bytes = sym (ap (λ (y : Slice). bytesOf h l t p y (fullIn h) (numberingIn h t)) q);
+        }
 
-module _ (h : Bytes) (l t : ℕ) (p : Bool) (n : ℕ) (s : Slice) (r : ElectionAnswer) (b : Bool)
-    (es : s ≡ frontThrough h l n) (er : r ≡ judgedOf h s t) (eb : b ≡ isAccepted r) where
-  answer-is : r ≡ answerIn h l t n
-  unfolding answerIn
-  answer-is = er ∙ ap (λ (x : Slice). judgedOf h x t) es
+    module _ (log : ℕ) (e : s ≡ Slice.Prefix log) (b : Bool) (eb : b ≡ fullIn h) where
+      within : frontThrough h l n ≡ Slice.Prefix log
+      within = sym es ∙ e
 
-  test-is : isAccepted (answerIn h l t n) ≡ b
-  test-is = sym (ap isAccepted answer-is) ∙ sym eb
+      -- 10
+      pub full : b ≡ true → Gives ElectionAnswer.CertificatesFull h
+      unfolding answerIn bytesIn
+      full f =
+          let q = sym eb ∙ f in
+          record {
+            answer = judged.ten (fullIn h) (numberingIn h t) (frontThrough h l n) log within q;
+            bytes = sym (λ i. bytesOf h l t p (within i) (q i) (numberingIn h t));
+          }
 
-  refused-bytes : not b ≡ true → h ≡ bytesIn h l t p n
-  unfolding bytesIn
-  refused-bytes f = sym (cond-false (isAccepted (answerIn h l t n)) _ h (test-is ∙ not-true b f))
+      module _ (f : b ≡ false) where
+        room : fullIn h ≡ false
+        room = sym eb ∙ f
 
-  kept-bytes : not b ≡ false → keptIn h l t p (logOf (frontThrough h l n)) ≡ bytesIn h l t p n
-  unfolding bytesIn
-  kept-bytes f = sym (cond-true (isAccepted (answerIn h l t n)) _ h (test-is ∙ not-false b f))
+        module _ (m : Numbering) (em : m ≡ numberingIn h t) where
+          -- 11
+          pub taken : m ≡ Numbering.Taken → Gives ElectionAnswer.NumberTaken h
+          unfolding answerIn bytesIn
+          taken g =
+              let q = sym em ∙ g in
+              record {
+                answer = judged.eleven (fullIn h) (numberingIn h t) (frontThrough h l n) log within room q;
+                bytes = sym (λ i. bytesOf h l t p (within i) (room i) (q i));
+              }
 
-  -- refused: nothing is written
-  pub refused : not b ≡ true → Recorded h l t p n r h
-  refused f = record { answer = answer-is; bytes = refused-bytes f }
-
-  -- accepted: fewer than 64 are held
-  pub accepted-fits : not b ≡ false → wordAt h 6 1 < 64
-  accepted-fits f = accepted-room h s t (sym (ap isAccepted er) ∙ sym eb ∙ not-false b f)
-
-  -- the certificate is kept
-  pub accepted : not b ≡ false → (q : ℕ) → q ≡ logOf s → (h′ : Bytes) → h′ ≡ keptIn h l t p q → Recorded h l t p n r h′
-  accepted f q eq h′ e =
-      record {
-        answer = answer-is;
-        bytes = e ∙ ap (keptIn h l t p) (eq ∙ ap logOf es) ∙ kept-bytes f;
-      }
+          -- the certificate is kept
+          pub accepted : (place number : ℕ) → m ≡ Numbering.Next place number → (x : CertificateRow) → x ≡ kept l t number p log
+              → (h′ : Bytes) → h′ ≡ certificateAdded h place x
+              → Gives ElectionAnswer.Accepted h′
+          unfolding answerIn bytesIn
+          accepted place number g x ex h′ e′ =
+              let q = sym em ∙ g in
+              record {
+                answer = judged.accepted (fullIn h) (numberingIn h t) (frontThrough h l n) log within room place number q;
+                bytes = e′ ∙ ap (certificateAdded h place) ex ∙ sym (λ i. bytesOf h l t p (within i) (room i) (q i));
+              }

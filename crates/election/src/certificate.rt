@@ -5,54 +5,18 @@ ghost use Prim.Native.Nat.{_<_};
 ghost use mathlib.Core.Bool.{true, cond};
 ghost use Rattle.storage.specs.Rules.{wellFormed};
 ghost use Rattle.certificate_rows.specs.Values.{certificateValue};
-ghost use Rattle.storage_bytes.specs.Words.{wordAt};
-ghost use Rattle.election.specs.Certify.{heldIn, placeIn, logOf, kept, keptIn, Recorded};
-use certificate_order::order::held_of;
-use certificate_order::order::place_of;
+ghost use Rattle.election.specs.Certify.{kept, Recorded};
 use certificate_rows::certificates::Certificate;
 use certificate_rows::certificates::add_certificate;
 use election_judging::judging::ElectionAnswer;
-use election_judging::judging::accepts;
-use election_judging::judging::judge;
+use election_judging::judging::Numbering;
+use election_judging::judging::certificates_full;
+use election_judging::judging::number_in_term;
 use prefix_lookup::lookup::Slice;
 use prefix_lookup::lookup::front_through;
-use storage::head::certificate_count;
-use storage_bytes::layout::CERTIFICATES_LENGTH;
-use storage_bytes::layout::CERTIFICATES_START;
-use storage_bytes::layout::part;
 use units::LogIndex;
 use units::NodeId;
 use units::Term;
-
-// The number of the next certificate of the term.
-fn number_in(history: &[u8], term: Term) -> usize
-    requires { ⌜ wellFormed (now history) ≡ true ⌝ }
-    ensures { λ r. ⌜ r ≡ heldIn (now (history .entry)) (term .0) ⌝ }
-{
-    let n = certificate_count(history);
-    let certificates = part(history, CERTIFICATES_START, CERTIFICATES_LENGTH);
-    held_of(certificates, n, term)
-}
-
-// The place of the next certificate of the term.
-fn place_in(history: &[u8], term: Term) -> usize
-    requires { ⌜ wellFormed (now history) ≡ true ⌝ }
-    ensures { λ r. ⌜ r ≡ placeIn (now (history .entry)) (term .0) ⌝ }
-{
-    let n = certificate_count(history);
-    let certificates = part(history, CERTIFICATES_START, CERTIFICATES_LENGTH);
-    place_of(certificates, n, term)
-}
-
-// The number of the prefix; nothing asks for it beyond the front.
-fn log_of(slice: Slice) -> usize
-    ensures { λ r. ⌜ r ≡ logOf slice ⌝ }
-{
-    let Slice::Prefix(log) = slice else {
-        return 0;
-    };
-    log
-}
 
 fn flag(present: bool) -> usize
     ensures { λ r. ⌜ r ≡ cond present 1 0 ⌝ }
@@ -80,18 +44,8 @@ fn new_certificate(
     }
 }
 
-// The certificate of an election that is accepted, put in its place.
-fn keep(history: &mut [u8], leader: NodeId, term: Term, present: bool, log: usize)
-    requires { ⌜ (wellFormed (now history) ≡ true) × (wordAt (now history) 6 1 < 64) ⌝ }
-    ensures { λ r. ⌜ now (history .exit) ≡ keptIn (now (history .entry)) (leader .0) (term .0) present log ⌝ }
-{
-    let number = number_in(&history[..], term);
-    let place = place_in(&history[..], term);
-    let c = new_certificate(leader, term, number, present, log);
-    add_certificate(&mut history[..], place, c);
-}
-
-// An election of the leader in the term, with the first `length` entries of its front where its log is present.
+// An election of the leader in the term, with the first `length` entries of its front where its log is present: 9, then 10,
+// then 11, else the certificate is put in its place.
 pub fn record_election(
     history: &mut [u8],
     leader: NodeId,
@@ -102,12 +56,16 @@ pub fn record_election(
     requires { ⌜ (wellFormed (now history) ≡ true) × (leader .0 < 64) ⌝ }
     ensures { λ r. ⌜ Recorded (now (history .entry)) (leader .0) (term .0) present (length .0) r (now (history .exit)) ⌝ }
 {
-    let slice = front_through(&history[..], leader, length);
-    let judged = judge(&history[..], slice, term);
-    if !accepts(judged) {
-        return judged;
+    let Slice::Prefix(log) = front_through(&history[..], leader, length) else {
+        return ElectionAnswer::LengthExceedsFront;
+    };
+    if certificates_full(&history[..]) {
+        return ElectionAnswer::CertificatesFull;
     }
-    let log = log_of(slice);
-    keep(&mut history[..], leader, term, present, log);
-    judged
+    let Numbering::Next { place, number } = number_in_term(&history[..], term) else {
+        return ElectionAnswer::NumberTaken;
+    };
+    let c = new_certificate(leader, term, number, present, log);
+    add_certificate(&mut history[..], place, c);
+    ElectionAnswer::Accepted
 }

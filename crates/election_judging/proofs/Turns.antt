@@ -1,62 +1,75 @@
--- The ways an election is judged: no room, the number taken, or room.
+-- The ways an election is judged: the number taken or free, and each answer from what was found.
 -- Assumes nothing.
-use Prim.Native.Nat.{ℕ, _≤_, _<_}
+use Prim.Native.Nat.{ℕ, _≤_}
 use native.Mathlib.Omega.{arith}
-use mathlib.Core.Path.{_≡_, ap, sym, _∙_}
-use mathlib.Core.Bool.{Bool, true, false, cond}
-use mathlib.Core.Logic.{⊎-elim}
-use mathlib.Core.List.{List}
-use lib.Dec.{leb}
-use lib.ListN.{length}
-use borrow.Author.Tests.{le-leb, lt-leb, leb-false}
-use Rattle.model.specs.Sizes.{Bytes}
-use Rattle.model.proofs.Tests.{tf, either, cond-true, cond-false}
-use Rattle.storage.specs.Tables.{CertificateRow, certificateRow, certificateRows}
-use Rattle.storage.specs.Order.{heldOf}
-use Rattle.storage_bytes.proofs.ListLaws.{tabulate-length}
+use mathlib.Core.Path.{_≡_, ap, sym, _∙_, subst}
+use mathlib.Core.Bool.{Bool, true, false}
+use Rattle.model.proofs.Tests.{cond-cases, cond-true, cond-false}
+use Rattle.storage.specs.Tables.{CertificateRow}
+use Rattle.prefix_lookup.specs.declared.lookup.Slice.{Slice}
+use Rattle.certificate_order.specs.Order.{placeFrom, heldBefore, takenBefore}
+use Rattle.certificate_order.proofs.Loops.{place-within, held-within}
 use Rattle.election_judging.specs.declared.judging.ElectionAnswer.{ElectionAnswer}
-use Rattle.certificate_order.specs.Order.{takenOf}
-use Rattle.election_judging.specs.Certify.{roomOf, isAccepted}
+use Rattle.election_judging.specs.declared.judging.Numbering.{Numbering}
+use Rattle.election_judging.specs.Certify.{numberingOf, answerOf}
 
--- ---- room among the certificates of those rows
+-- ---- the place and the number, with what was read
 
-module _ (t : ℕ) (cs : List CertificateRow) where
-  full-test : leb 64 (length cs) ≡ true → roomOf t cs ≡ ElectionAnswer.CertificatesFull
-  unfolding roomOf
-  full-test e = cond-true (leb 64 (length cs)) _ _ e
+module _ (row : ℕ → CertificateRow) (t n place : ℕ) (ep : place ≡ placeFrom row t n) where
+  pub place-fits : n ≤ 64 → place ≤ 64
+  place-fits h = omega (arith, place-within row t n)
 
-  pub full : 64 ≤ length cs → roomOf t cs ≡ ElectionAnswer.CertificatesFull
-  full h = full-test (le-leb 64 (length cs) h)
+  module _ (number : ℕ) (en : number ≡ heldBefore row t place) where
+    pub number-fits : number ≤ place
+    number-fits = omega (arith, held-within row t place)
 
-  pub not-full : length cs < 64
-      → roomOf t cs ≡ cond (takenOf t (heldOf t cs) cs) ElectionAnswer.NumberTaken ElectionAnswer.Accepted
-  unfolding roomOf
-  not-full h = cond-false (leb 64 (length cs)) _ _ (lt-leb 64 (length cs) h)
+    module _ (b : Bool) (eb : b ≡ takenBefore row number place number) where
+      -- the searches of the definition are those of the code
+      test : takenBefore row (heldBefore row t (placeFrom row t n)) (placeFrom row t n) (heldBefore row t (placeFrom row t n)) ≡ b
+      test =
+          sym
+          (eb
+          ∙ ap (λ (m : ℕ). takenBefore row m place m) en
+          ∙ ap (λ (p : ℕ). takenBefore row (heldBefore row t p) p (heldBefore row t p)) ep)
 
-  -- where there is room, fewer than 64 are held
-  pub room-left : isAccepted (roomOf t cs) ≡ true → length cs < 64
-  room-left e =
-      ⊎-elim (λ (b : leb 64 (length cs) ≡ true). absurd (tf (sym e ∙ ap isAccepted (full-test b))))
-      (λ b. leb-false 64 (length cs) b) (either (leb 64 (length cs)))
+      pub number-taken : b ≡ true → Numbering.Taken ≡ numberingOf row t n
+      unfolding numberingOf
+      number-taken f = sym (cond-true _ _ _ (test ∙ f))
 
-module _ (s : Bytes) (n t : ℕ) where
-  abbrev Rows : List CertificateRow
-  Rows = certificateRows s n
+      pub number-free : b ≡ false → Numbering.Next place number ≡ numberingOf row t n
+      unfolding numberingOf
+      number-free f =
+          ap (λ (m : ℕ). Numbering.Next place m) en
+          ∙ ap (λ (p : ℕ). Numbering.Next p (heldBefore row t p)) ep
+          ∙ sym (cond-false _ _ _ (test ∙ f))
 
-  count : length Rows ≡ n
-  count = tabulate-length (certificateRow s) 0 n
+-- its place, or 0
+abbrev placeAt : Numbering → ℕ
+placeAt Numbering.Taken = 0
+placeAt (Numbering.Next place number) = place
 
-  pub room-full : 64 ≤ n → ElectionAnswer.CertificatesFull ≡ roomOf t Rows
-  room-full h = sym (full t Rows (omega (arith, count)))
+-- the place is among the rows, or behind them
+pub next-within : (row : ℕ → CertificateRow) (t n place number : ℕ) → numberingOf row t n ≡ Numbering.Next place number → place ≤ n
+unfolding numberingOf
+next-within row t n place number e =
+    subst (λ (p : ℕ). p ≤ n) (ap placeAt e)
+    (cond-cases (λ (m : Numbering). placeAt m ≤ n)
+    (takenBefore row (heldBefore row t (placeFrom row t n)) (placeFrom row t n) (heldBefore row t (placeFrom row t n)))
+    Numbering.Taken (Numbering.Next (placeFrom row t n) (heldBefore row t (placeFrom row t n)))
+    (λ _. omega arith) (λ _. place-within row t n))
 
-  module _ (h : n < 64) (held : ℕ) (b : Bool) (q : held ≡ heldOf t Rows) (e : b ≡ takenOf t held Rows) where
-    test : takenOf t (heldOf t Rows) Rows ≡ b
-    test = ap (λ (m : ℕ). takenOf t m Rows) (sym q) ∙ sym e
+-- ---- the answers
 
-    pub room-taken : b ≡ true → ElectionAnswer.NumberTaken ≡ roomOf t Rows
-    room-taken f =
-        sym (not-full t Rows (omega (arith, count)) ∙ cond-true (takenOf t (heldOf t Rows) Rows) _ _ (test ∙ f))
+module _ (full : Bool) (m : Numbering) where
+  pub nine : (s : Slice) → s ≡ Slice.Beyond → ElectionAnswer.LengthExceedsFront ≡ answerOf s full m
+  nine s e = sym (ap (λ (y : Slice). answerOf y full m) e)
 
-    pub room-free : b ≡ false → ElectionAnswer.Accepted ≡ roomOf t Rows
-    room-free f =
-        sym (not-full t Rows (omega (arith, count)) ∙ cond-false (takenOf t (heldOf t Rows) Rows) _ _ (test ∙ f))
+  module _ (s : Slice) (log : ℕ) (e : s ≡ Slice.Prefix log) where
+    pub ten : full ≡ true → ElectionAnswer.CertificatesFull ≡ answerOf s full m
+    ten f = sym (λ i. answerOf (e i) (f i) m)
+
+    pub eleven : full ≡ false → m ≡ Numbering.Taken → ElectionAnswer.NumberTaken ≡ answerOf s full m
+    eleven f g = sym (λ i. answerOf (e i) (f i) (g i))
+
+    pub accepted : full ≡ false → (place number : ℕ) → m ≡ Numbering.Next place number → ElectionAnswer.Accepted ≡ answerOf s full m
+    accepted f place number g = sym (λ i. answerOf (e i) (f i) (g i))

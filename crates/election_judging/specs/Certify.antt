@@ -2,43 +2,34 @@
 -- Assumes nothing.
 use Prim.Native.Nat.{ℕ}
 use mathlib.Core.Bool.{Bool, true, false, cond}
-use mathlib.Core.List.{List}
 use lib.Dec.{leb}
-use lib.ListN.{length}
 use Rattle.model.specs.Sizes.{Bytes, certificateLimit}
-use Rattle.storage.specs.Values.{certificatesOf}
-use Rattle.storage.specs.Tables.{CertificateRow}
-use Rattle.storage.specs.Order.{heldOf}
+use Rattle.storage_bytes.specs.Words.{wordAt}
+use Rattle.storage.specs.Tables.{CertificateRow, certificateRow, certificatesPart}
 use Rattle.prefix_lookup.specs.declared.lookup.Slice.{Slice}
 use Rattle.election_judging.specs.declared.judging.ElectionAnswer.{ElectionAnswer}
-use Rattle.certificate_order.specs.Order.{takenOf}
+use Rattle.election_judging.specs.declared.judging.Numbering.{Numbering}
+use Rattle.certificate_order.specs.Order.{placeFrom, heldBefore, takenFrom, takenBefore}
 
--- 9 beyond the front
-abbrev pub withinFront : Slice → ElectionAnswer
-withinFront (Slice.Prefix q) = ElectionAnswer.Accepted
-withinFront Slice.Beyond = ElectionAnswer.LengthExceedsFront
+-- as many certificates are held as a history holds
+abbrev pub fullIn : Bytes → Bool
+fullIn h = leb certificateLimit (wordAt h 6 1)
 
--- 10, then 11, where the certificates of those rows are held
-unfoldable pub roomOf : ℕ → List CertificateRow → ElectionAnswer
-unfolding takenOf
-roomOf t cs =
-    cond (leb certificateLimit (length cs)) ElectionAnswer.CertificatesFull
-    (cond (takenOf t (heldOf t cs) cs) ElectionAnswer.NumberTaken ElectionAnswer.Accepted)
+-- the place and the number of a new certificate of term t behind n rows, or that its number is taken
+unfoldable pub numberingOf : (ℕ → CertificateRow) → ℕ → ℕ → Numbering
+unfolding placeFrom heldBefore takenFrom
+numberingOf row t n =
+    let place = placeFrom row t n in
+    let number = heldBefore row t place in
+    cond (takenBefore row number place number) Numbering.Taken (Numbering.Next place number)
 
--- the first of two answers that refuses
-abbrev pub earlierOf : ElectionAnswer → ElectionAnswer → ElectionAnswer
-earlierOf ElectionAnswer.Accepted b = b
-earlierOf ElectionAnswer.LengthExceedsFront b = ElectionAnswer.LengthExceedsFront
-earlierOf ElectionAnswer.CertificatesFull b = ElectionAnswer.CertificatesFull
-earlierOf ElectionAnswer.NumberTaken b = ElectionAnswer.NumberTaken
+-- the same in the bytes of a history
+abbrev pub numberingIn : Bytes → ℕ → Numbering
+numberingIn h t = numberingOf (certificateRow (certificatesPart h)) t (wordAt h 6 1)
 
-abbrev pub isAccepted : ElectionAnswer → Bool
-isAccepted ElectionAnswer.Accepted = true
-isAccepted ElectionAnswer.LengthExceedsFront = false
-isAccepted ElectionAnswer.CertificatesFull = false
-isAccepted ElectionAnswer.NumberTaken = false
-
--- ---- in the bytes of a history
-
-abbrev pub judgedOf : Bytes → Slice → ℕ → ElectionAnswer
-judgedOf h s t = earlierOf (withinFront s) (roomOf t (certificatesOf h))
+-- 9 beyond the leader's front; else 10 where the certificates are full; else 11 where the number is taken
+abbrev pub answerOf : Slice → Bool → Numbering → ElectionAnswer
+answerOf Slice.Beyond full m = ElectionAnswer.LengthExceedsFront
+answerOf (Slice.Prefix log) true m = ElectionAnswer.CertificatesFull
+answerOf (Slice.Prefix log) false Numbering.Taken = ElectionAnswer.NumberTaken
+answerOf (Slice.Prefix log) false (Numbering.Next place number) = ElectionAnswer.Accepted

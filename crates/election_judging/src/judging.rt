@@ -1,15 +1,12 @@
-// An election is judged with nothing written: 9, then 10, then 11.
+// What an election is judged by, with nothing written: whether 64 certificates are held (10), and the place and number of a new
+// one of its term, or that the number is taken (11).
 ghost use mathlib.Core.Path.{_≡_};
-ghost use Prim.Native.Nat.{_≤_};
 ghost use mathlib.Core.Bool.{true};
-ghost use lib.ListN.{length};
 ghost use Rattle.storage.specs.Rules.{wellFormed};
-ghost use Rattle.storage.specs.Tables.{certificateRows, certificatesPart};
-ghost use Rattle.storage_bytes.specs.Words.{wordAt};
-ghost use Rattle.election_judging.specs.Certify.{withinFront, earlierOf, isAccepted, roomOf, judgedOf};
+ghost use Rattle.election_judging.specs.Certify.{fullIn, numberingIn};
 use certificate_order::order::held_of;
 use certificate_order::order::is_taken;
-use prefix_lookup::lookup::Slice;
+use certificate_order::order::place_of;
 use storage::head::certificate_count;
 use storage_bytes::layout::CERTIFICATES_LENGTH;
 use storage_bytes::layout::CERTIFICATES_START;
@@ -29,70 +26,31 @@ pub enum ElectionAnswer {
     NumberTaken,
 }
 
-// 9 where the front has fewer entries than asked for.
-fn within_front(slice: Slice) -> ElectionAnswer
-    ensures { λ r. ⌜ r ≡ withinFront slice ⌝ }
-{
-    let Slice::Prefix(_) = slice else {
-        return ElectionAnswer::LengthExceedsFront;
-    };
-    ElectionAnswer::Accepted
+// The place of a new certificate of a term and its number within the term, or that one of the term has that number.
+pub enum Numbering {
+    Next { place: usize, number: usize },
+    Taken,
 }
 
-// 10, then 11, over the n certificates held.
-fn room_for(certificates: &[u8], n: usize, term: Term) -> ElectionAnswer
-    requires { ⌜ (n ≤ 64) × (length (now certificates) ≡ 704) ⌝ }
-    ensures { λ r. ⌜ r ≡ roomOf (term .0) (certificateRows (now (certificates .entry)) n) ⌝ }
-{
-    if CERTIFICATE_LIMIT <= n {
-        return ElectionAnswer::CertificatesFull;
-    }
-    let number = held_of(certificates, n, term);
-    if is_taken(certificates, n, term, number) {
-        return ElectionAnswer::NumberTaken;
-    }
-    ElectionAnswer::Accepted
-}
-
-// The same of a whole history.
-fn room_in(history: &[u8], term: Term) -> ElectionAnswer
+// Whether 64 certificates are held.
+pub fn certificates_full(history: &[u8]) -> bool
     requires { ⌜ wellFormed (now history) ≡ true ⌝ }
-    ensures { λ r. ⌜ r ≡ roomOf (term .0) (certificateRows (certificatesPart (now (history .entry))) (wordAt (now (history .entry)) 6 1)) ⌝ }
+    ensures { λ r. ⌜ r ≡ fullIn (now (history .entry)) ⌝ }
+{
+    CERTIFICATE_LIMIT <= certificate_count(history)
+}
+
+// The place and the number are found once. The number is how many the term holds.
+pub fn number_in_term(history: &[u8], term: Term) -> Numbering
+    requires { ⌜ wellFormed (now history) ≡ true ⌝ }
+    ensures { λ r. ⌜ r ≡ numberingIn (now (history .entry)) (term .0) ⌝ }
 {
     let n = certificate_count(history);
     let certificates = part(history, CERTIFICATES_START, CERTIFICATES_LENGTH);
-    room_for(certificates, n, term)
-}
-
-// The earlier of two refusals, or acceptance.
-fn earlier(a: ElectionAnswer, b: ElectionAnswer) -> ElectionAnswer
-    ensures { λ r. ⌜ r ≡ earlierOf a b ⌝ }
-{
-    match a {
-        ElectionAnswer::Accepted => b,
-        ElectionAnswer::LengthExceedsFront => ElectionAnswer::LengthExceedsFront,
-        ElectionAnswer::CertificatesFull => ElectionAnswer::CertificatesFull,
-        ElectionAnswer::NumberTaken => ElectionAnswer::NumberTaken,
+    let place = place_of(certificates, n, term);
+    let number = held_of(certificates, place, term);
+    if is_taken(certificates, place, number, number) {
+        return Numbering::Taken;
     }
-}
-
-// 9, then 10, then 11.
-pub fn judge(history: &[u8], slice: Slice, term: Term) -> ElectionAnswer
-    requires { ⌜ wellFormed (now history) ≡ true ⌝ }
-    ensures { λ r. ⌜ r ≡ judgedOf (now (history .entry)) slice (term .0) ⌝ }
-{
-    let front = within_front(slice);
-    let room = room_in(history, term);
-    earlier(front, room)
-}
-
-pub fn accepts(a: ElectionAnswer) -> bool
-    ensures { λ r. ⌜ r ≡ isAccepted a ⌝ }
-{
-    match a {
-        ElectionAnswer::Accepted => true,
-        ElectionAnswer::LengthExceedsFront => false,
-        ElectionAnswer::CertificatesFull => false,
-        ElectionAnswer::NumberTaken => false,
-    }
+    Numbering::Next { place, number }
 }

@@ -1,38 +1,46 @@
--- `certificate_order::order::held_of` meets its contract: as many are of the term as were counted, and as are left.
+-- `certificate_order::order::held_of` meets its contract. The invariant: as many are held as were counted, and as are left before them.
 -- Assumes nothing.
-use borrow.Author.Count.{falls}
-use Rattle.storage_bytes.specs.Lists.{tabulate}
-use Rattle.storage.specs.Tables.{certificateRow, certificateRows}
-use Rattle.storage.specs.Order.{heldOf}
-use Rattle.certificate_order.proofs.Loops.{held-start, held-same, held-other, held-none}
+use Rattle.storage.specs.Tables.{certificateRow}
+use Rattle.certificate_order.specs.Order.{heldBefore}
+use Rattle.certificate_order.proofs.Loops.{held-start, held-stop, held-next, held-none}
 use Prim.Native.Nat.{_+_, _-_, _≤_}
 use mathlib.Core.Path.{_≡_}
-use mathlib.Core.Logic.{⊎-elim}
 use native.Mathlib.Omega.{arith}
+use borrow.Author.Count.{falls}
 use borrow.Author.Needs.{needs}
 use Rattle.certificate_order.proofs.order.held_of.Statement.{statement}
 use Rattle.certificate_order.proofs.order.held_of.Tie as tie
 
 abbrev Inv-loop : tie.InvT-loop
-Inv-loop certificates n term k₀ held₀ k held =
-    (k ≤ n) × (held ≤ k) × (heldOf (term .0) (certificateRows certificates n) ≡ held + heldOf (term .0) (tabulate (certificateRow certificates) k (n - k)))
+Inv-loop certificates place term held₀ held =
+    (held ≤ place) × (heldBefore (certificateRow certificates) (term .0) place ≡ held + heldBefore (certificateRow certificates) (term .0) (place - held))
 
 abbrev μ-loop : tie.MeasureT-loop
-μ-loop certificates n term k₀ held₀ k held = n - k
+μ-loop certificates place term held₀ held = place - held
 
 loop-holds : tie.Need-loop-holds Inv-loop μ-loop
 loop-holds c =
     let s = c .before .args in
-    (omega arith, omega arith, held-start (s .certificates .now) (s .n) (s .term .0))
+    (omega arith, held-start (certificateRow (s .certificates .now)) (s .term .0) (s .place))
 
-certificate-at-requires : tie.Need-certificate-at-requires Inv-loop μ-loop
-certificate-at-requires c κs = search needs
+sub-term-at : tie.Need-sub-term-at Inv-loop μ-loop
+sub-term-at c = search needs
+
+sub-term-at-2 : tie.Need-sub-term-at-2 Inv-loop μ-loop
+sub-term-at-2 c = search needs
+
+term-at-requires : tie.Need-term-at-requires Inv-loop μ-loop
+term-at-requires c κs = search needs
+
+returns : tie.Need-returns Inv-loop μ-loop
+returns c =
+    let r = c .before .before .before in
+    let l = r .before .before in
+    let s = l .before .before .args in
+    held-stop (certificateRow (s .certificates .now)) (s .term .0) (s .place) (l .loop .held) (l .loop .inv .1) (r .before .loop-test .taken) _ (r .term-at .ensures) (c .if1 .taken)
 
 add-held : tie.Need-add-held Inv-loop μ-loop
 add-held c = search needs
-
-add-k : tie.Need-add-k Inv-loop μ-loop
-add-k c = search needs
 
 loop-less : tie.Need-loop-less Inv-loop μ-loop
 loop-less c = falls _ _ (c .before .before .before .before .loop-test .taken)
@@ -41,27 +49,16 @@ loop-again : tie.Need-loop-again Inv-loop μ-loop
 loop-again c =
     let r = c .before .before .before in
     let l = r .before .before in
-    let s = l .before .before .args in
-    ⊎-elim
-    (λ w. (
+    let s = l .before .before .args in (
       omega arith,
-      omega (arith, w .1),
-      held-same (s .certificates .now) (s .n) (s .term .0) (l .loop .k) (r .before .loop-test .taken) (r .certificate-at .result) (r .certificate-at .ensures) (l .loop .held) (c .if1 .held)
-          (l .loop .inv .2) (w .0 .taken) (w .1),
-    ))
-    (λ w. (
-      omega arith,
-      omega (arith, w .1),
-      held-other (s .certificates .now) (s .n) (s .term .0) (l .loop .k) (r .before .loop-test .taken) (r .certificate-at .result) (r .certificate-at .ensures) (l .loop .held) (c .if1 .held)
-          (l .loop .inv .2) (w .0 .left) (w .1),
-    ))
-    (c .if1 .came)
+      held-next (certificateRow (s .certificates .now)) (s .term .0) (s .place) (l .loop .held) (l .loop .inv .1) (r .before .loop-test .taken) _ (r .term-at .ensures) (c .if1 .left),
+    )
 
-returns : tie.Need-returns Inv-loop μ-loop
-returns c =
+returns-2 : tie.Need-returns-2 Inv-loop μ-loop
+returns-2 c =
     let l = c .before in
     let s = l .before .before .args in
-    held-none (s .certificates .now) (s .n) (s .term .0) (l .loop .k) (l .loop .held) (l .loop .inv .2) (c .loop-test .left)
+    held-none (certificateRow (s .certificates .now)) (s .term .0) (s .place) (l .loop .held) (l .loop .inv .1) (c .loop-test .left)
 
 pub held-of-spec : {M : Type 1} → statement M
 held-of-spec =
@@ -70,9 +67,11 @@ held-of-spec =
     Inv-loop
     μ-loop
     loop-holds
-    certificate-at-requires
+    sub-term-at
+    sub-term-at-2
+    term-at-requires
+    returns
     add-held
-    add-k
     loop-less
     loop-again
-    returns)
+    returns-2)

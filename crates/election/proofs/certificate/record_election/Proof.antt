@@ -1,6 +1,7 @@
--- `election::certificate::record_election` meets its contract: refused with nothing written, or kept.
+-- `election::certificate::record_election` meets its contract: each exit is a law of the ways an election goes.
 -- Assumes nothing.
-use Rattle.election.proofs.Turns.{refused, accepted, accepted-fits}
+use Rattle.storage.proofs.WellFormed.{formed}
+use Rattle.election.proofs.Turns.{beyond, full, room-left, taken, place-fits, accepted}
 use borrow.Author.Needs.{needs}
 use Rattle.election.proofs.certificate.record_election.Statement.{statement}
 use Rattle.election.proofs.certificate.record_election.Tie as tie
@@ -8,58 +9,108 @@ use Rattle.election.proofs.certificate.record_election.Tie as tie
 front-through-requires : tie.Need-front-through-requires
 front-through-requires c κs = search needs
 
-judge-requires : tie.Need-judge-requires
-judge-requires c κs = search needs
+enum-known-log : tie.Need-enum-known-log
+enum-known-log c = search needs
 
-accepts-requires : tie.Need-accepts-requires
-accepts-requires c κs = search needs
+enum-told : tie.Need-enum-told
+enum-told c = search needs
 
 same-length : tie.Need-same-length
 same-length c = search needs
 
 returns : tie.Need-returns
 returns c =
-    let m = c .before in
-    let f = m .before .before .before in
-    let s = f .before .before .before in
-    refused (s .args .history .now) (s .args .leader .0) (s .args .term .0) (s .args .present) (s .args .length .0) _ _ _
-    (f .front-through .ensures) (m .before .judge .ensures) (m .accepts .ensures) (c .if1 .taken)
+    let f = c .before .before in
+    let s = f .before .before .before .args in
+    beyond (s .history .now) (s .leader .0) (s .term .0) (s .present) (s .length .0) _ (f .front-through .ensures) (c .enum-told .given .1)
 
-log-of-requires : tie.Need-log-of-requires
-log-of-requires c κs = search needs
-
-keep-requires : tie.Need-keep-requires
-keep-requires c κs =
-    let m = c .before .before .before in
-    let f = m .before .before .before in
-    let s = f .before .before .before in
-    let room = accepted-fits (s .args .history .now) (s .args .leader .0) (s .args .term .0) (s .args .present) (s .args .length .0) _ _ _
-    (f .front-through .ensures) (m .before .judge .ensures) (m .accepts .ensures) (c .before .before .if1 .left) in
-    (s .pre .0, room)
+certificates-full-requires : tie.Need-certificates-full-requires
+certificates-full-requires c κs = search needs
 
 same-length-2 : tie.Need-same-length-2
 same-length-2 c = search needs
 
 returns-2 : tie.Need-returns-2
 returns-2 c =
-    let m = c .before .before .before .before .before .before in
-    let f = m .before .before .before in
-    let s = f .before .before .before in
+    let b = c .before in
+    let g = b .before .before .before in
+    let f = g .before .before in
+    let s = f .before .before .before .args in
+    full (s .history .now) (s .leader .0) (s .term .0) (s .present) (s .length .0) _ (f .front-through .ensures) _ (g .log .given .1) _ (b .certificates-full .ensures) (c .if1 .taken)
+
+number-in-term-requires : tie.Need-number-in-term-requires
+number-in-term-requires c κs = search needs
+
+enum-known-place : tie.Need-enum-known-place
+enum-known-place c = search needs
+
+enum-told-2 : tie.Need-enum-told-2
+enum-told-2 c = search needs
+
+same-length-3 : tie.Need-same-length-3
+same-length-3 c = search needs
+
+returns-3 : tie.Need-returns-3
+returns-3 c =
+    let m = c .before .before in
+    let i = m .before .before in
+    let b = i .before in
+    let g = b .before .before .before in
+    let f = g .before .before in
+    let s = f .before .before .before .args in
+    taken (s .history .now) (s .leader .0) (s .term .0) (s .present) (s .length .0) _ (f .front-through .ensures) _ (g .log .given .1) _ (b .certificates-full .ensures) (i .if1 .left) _
+    (m .number-in-term .ensures) (c .enum-told2 .given .1)
+
+new-certificate-requires : tie.Need-new-certificate-requires
+new-certificate-requires c κs = search needs
+
+add-certificate-requires : tie.Need-add-certificate-requires
+add-certificate-requires c κs =
+    let p = c .before .before .before in
+    let m = p .before .before in
+    let i = m .before .before in
+    let b = i .before in
+    let s = b .before .before .before .before .before .before .before .before in (
+      place-fits _ _ _ (m .number-in-term .ensures) _ _ (p .place .given .1),
+      room-left _ _ (b .certificates-full .ensures) (i .if1 .left),
+      formed _ (s .pre .0) .long,
+    )
+
+same-length-4 : tie.Need-same-length-4
+same-length-4 c = search needs
+
+returns-4 : tie.Need-returns-4
+returns-4 c =
     let k = c .before .before in
-    accepted (s .args .history .now) (s .args .leader .0) (s .args .term .0) (s .args .present) (s .args .length .0) _ _ _
-    (f .front-through .ensures) (m .before .judge .ensures) (m .accepts .ensures)
-    (k .before .before .before .if1 .left) _ (k .before .before .log-of .ensures) _ (k .keep .ensures)
+    let n = k .before .before in
+    let p = n .before .before in
+    let m = p .before .before in
+    let i = m .before .before in
+    let b = i .before in
+    let g = b .before .before .before in
+    let f = g .before .before in
+    let s = f .before .before .before .args in
+    accepted (s .history .now) (s .leader .0) (s .term .0) (s .present) (s .length .0) _ (f .front-through .ensures) _ (g .log .given .1) _ (b .certificates-full .ensures) (i .if1 .left) _
+    (m .number-in-term .ensures) _ _ (p .place .given .1) _ (n .new-certificate .ensures) _ (k .add-certificate .ensures)
 
 pub record-election-spec : {M : Type 1} → statement M
 record-election-spec =
     tie.close
     (tie.spec
     front-through-requires
-    judge-requires
-    accepts-requires
+    enum-known-log
+    enum-told
     same-length
     returns
-    log-of-requires
-    keep-requires
+    certificates-full-requires
     same-length-2
-    returns-2)
+    returns-2
+    number-in-term-requires
+    enum-known-place
+    enum-told-2
+    same-length-3
+    returns-3
+    new-certificate-requires
+    add-certificate-requires
+    same-length-4
+    returns-4)
