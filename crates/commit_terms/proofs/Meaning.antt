@@ -2,7 +2,6 @@
 -- after it stand for the model's history after it.
 -- Assumes nothing.
 use Prim.Native.Nat.{ℕ, _≤_, _<_}
-use native.Mathlib.Omega.{arith}
 use mathlib.Core.Path.{sym, ap, subst}
 use mathlib.Core.Logic.{⊎-elim}
 use mathlib.Core.Option.{none, some}
@@ -18,8 +17,7 @@ use Rattle.storage.proofs.Meanings.{Stands}
 use Rattle.storage.proofs.Answered.{Means, accepts, refuses}
 use Rattle.commit_terms.specs.Terms.{termsAnswer, termsBytes, recordBytes, termsReply}
 use Rattle.commit_terms.specs.declared.terms.TermsAnswer.{TermsAnswer}
-use Rattle.storage.proofs.WellFormed.{formed}
-use Rattle.commit_terms.proofs.TermLaws.{terms-held, record-means}
+use Rattle.commit_terms.proofs.TermLaws.{record-means}
 
 -- kind 3
 pub terms-mean : (h : Bytes) (x : History) (old new t : ℕ) → Stands h x → new ≤ 256 → t < 4294967296
@@ -31,10 +29,8 @@ terms-mean h x old new t s b f =
     refuses h x (terms old new t) _ _ oldExceedsNew s (cond-true (ltb new old) (some oldExceedsNew) none e)
     (ap termsReply (cond-true (ltb new old) TermsAnswer.OldExceedsNew TermsAnswer.Recorded e)) (cond-true (ltb new old) h (recordBytes h old new t) e))
     (λ e.
-    let few = formed h (s .right) .terms in
-    let held = terms-held h x s in
     accepts h x (terms old new t) _ _ (cond-false (ltb new old) (some oldExceedsNew) none e)
     (ap termsReply (cond-false (ltb new old) TermsAnswer.OldExceedsNew TermsAnswer.Recorded e))
     (subst (λ (u : Bytes). Stands u (effect x (terms old new t))) (sym (cond-false (ltb new old) h (recordBytes h old new t) e))
-    (record-means h x old new t s (omega arith) (ltb-false new old e) b f)))
+    (record-means h x old new t s (ltb-false new old e) b f)))
     (either (ltb new old))

@@ -9,17 +9,18 @@ use mathlib.Core.List.{List, [], _∷_, _++_, map, append-assoc, append-nil}
 use lib.Dec.{leb, ltb, eqb}
 use lib.ListN.{length, getD, set, take, drop, replicate, length-append, length-replicate, length-drop, take-append-drop}
 use lib.Seq.{getD-at, set-at, length-take-le}
-use borrow.Author.Tests.{ne-eqb, lt-ltb, le-ltb, le-leb, lt-leb}
+use borrow.Author.Tests.{ne-eqb, ltb-true, ltb-false, lt-ltb, le-ltb, le-leb, lt-leb}
 use Rattle.model.specs.Sizes.{Bytes}
 use Rattle.model.specs.History.{Certificate, History}
 use Rattle.model.specs.Terms.{lengthened, changes, replacedFrom, recorded, firstFrom, firstChanged, lowered, termsEffect}
 use Rattle.model.proofs.Tests.{either, cond-true, cond-false}
 use Rattle.storage_bytes.specs.Words.{wordAt, wordBytes, putBytes}
-use Rattle.storage.specs.Writes.{termAppended}
+use Rattle.storage.specs.Tables.{termRow, termsPart}
+use Rattle.storage.specs.Writes.{termsLengthened}
 use Rattle.storage.proofs.RuleLaws.{pass}
-use Rattle.storage.proofs.Meanings.{Stands, withCommitTerms, withElections, terms-read, certificates-read, term-read, term-written, term-added}
-use Rattle.term_marks.specs.Marks.{lowerAll}
-use Rattle.commit_terms.specs.Terms.{lengthenBytes, lengthenedTo, termIn, isReplaced, replaceBytes, firstOf, replaceAll, firstOfAll, lowerPast, recordBytes}
+use Rattle.storage.proofs.Meanings.{Stands, withCommitTerms, withElections, terms-read, certificates-read, term-read, term-written, terms-added}
+use Rattle.term_marks.specs.Marks.{lowerBack}
+use Rattle.commit_terms.specs.Terms.{lengthenedTo, termIn, isReplaced, firstReplaced, replaceBytes, replaceAll, changedFrom, recordBytes}
 use Rattle.term_marks.proofs.MarkLaws.{lower-means}
 
 module _ (h : Bytes) (x : History) (s : Stands h x) where
@@ -34,23 +35,21 @@ module _ (h : Bytes) (x : History) (s : Stands h x) where
 
 -- ---- the list lengthened
 
-lengthen-means : (n : ℕ) (h : Bytes) (x : History) → Stands h x → length (x .terms) + n ≤ 256
-    → Stands (lengthenBytes h n) (withCommitTerms x (x .terms ++ replicate n 0))
-unfolding lengthenBytes
-lengthen-means zero h x s b = subst (λ (ts : List ℕ). Stands h (withCommitTerms x ts)) (sym (append-nil (x .terms))) s
-lengthen-means (suc n) h x s b =
-    let e = terms-held h x s in
-    let more : Stands (termAppended h 0) (withCommitTerms x (x .terms ++ (0 ∷ []))) = term-added h x s 0 (omega arith) (omega arith) in
-    let l = length-append (x .terms) (0 ∷ []) in
-    subst (λ (ts : List ℕ). Stands (lengthenBytes (termAppended h 0) n) (withCommitTerms x ts)) (append-assoc (x .terms) (0 ∷ []) (replicate n 0))
-    (lengthen-means n (termAppended h 0) (withCommitTerms x (x .terms ++ (0 ∷ []))) more (omega arith))
-
-lengthened-means : (h : Bytes) (x : History) (new : ℕ) → Stands h x → length (x .terms) ≤ 256 → new ≤ 256
+lengthened-means : (h : Bytes) (x : History) (new : ℕ) → Stands h x → new ≤ 256
     → Stands (lengthenedTo h new) (withCommitTerms x (lengthened new (x .terms)))
 unfolding lengthenedTo lengthened
-lengthened-means h x new s a b =
-    subst (λ (n : ℕ). Stands (lengthenBytes h (new - n)) (withCommitTerms x (x .terms ++ replicate (new - length (x .terms)) 0))) (terms-held h x s)
-    (lengthen-means (new - length (x .terms)) h x s (omega arith))
+lengthened-means h x new s b =
+    let held = terms-held h x s in
+    ⊎-elim
+    (λ p.
+    subst (λ (u : Bytes). Stands u (withCommitTerms x (x .terms ++ replicate (new - length (x .terms)) 0))) (sym (cond-true (ltb (wordAt h 2 2) new) _ h p))
+    (subst (λ (n : ℕ). Stands (termsLengthened h new) (withCommitTerms x (x .terms ++ replicate (new - n) 0))) (sym held)
+    (terms-added h x s new (let l : wordAt h 2 2 < new = ltb-true _ _ p in omega arith) b)))
+    (λ p.
+    let none : new - length (x .terms) ≡ 0 = (let l : new ≤ wordAt h 2 2 = ltb-false _ _ p in omega arith) in
+    subst (λ (u : Bytes). Stands u (withCommitTerms x (x .terms ++ replicate (new - length (x .terms)) 0))) (sym (cond-false (ltb (wordAt h 2 2) new) _ h p))
+    (subst (λ (ts : List ℕ). Stands h (withCommitTerms x ts)) (sym (ap (λ (n : ℕ). x .terms ++ replicate n 0) none ∙ append-nil (x .terms))) s))
+    (either (ltb (wordAt h 2 2) new))
 
 -- ---- the places replaced
 
@@ -125,57 +124,38 @@ module _ (old new t : ℕ) where
         (subst (λ (ts : List ℕ). Stands h (withCommitTerms x ts)) e s)))
         (either (isReplaced t y))
 
-  -- the first of two, where there is one
-  abbrev orElse : ℕ → ℕ → ℕ
-  orElse f g = cond (eqb f 0) g f
-
-  pub record Replaces (h : Bytes) (x : History) (first : ℕ) (A B : List ℕ) (k n : ℕ) : Type 0 where
-    pub bytes : Stands (replaceAll h t k n) (withCommitTerms x (A ++ replacedFrom old new t (k + 1) B))
-    pub is : firstOfAll h t first k n ≡ orElse first (firstFrom old new t (k + 1) B)
-
-  first-some : (f g : ℕ) → orElse (suc f) g ≡ suc f
-  first-some f g = cond-false (eqb (suc f) 0) g (suc f) (ne-eqb (suc f) 0 (λ z. omega arith))
-
-  first-none : (first : ℕ) → first ≡ orElse first 0
-  first-none zero = refl
-  first-none (suc f) = sym (first-some f 0)
-
-  -- a place more: the first changed index so far, or it, or one behind it
-  first-more : (first k : ℕ) (b : Bool) (g : ℕ) → orElse (firstOf first b k) g ≡ orElse first (cond b (k + 1) g)
-  first-more zero k true g = cond-false (eqb (k + 1) 0) g (k + 1) (ne-eqb (k + 1) 0 (λ z. omega arith))
-  first-more zero k false g = refl
-  first-more (suc f) k b g =
-      ap (λ (n : ℕ). orElse n g) (first-some f (cond b (k + 1) 0)) ∙ first-some f g ∙ sym (first-some f (cond b (k + 1) g))
-
-  replace-means : (n : ℕ) (B A : List ℕ) (h : Bytes) (x : History) (first k : ℕ) → Stands h x → x .terms ≡ A ++ B → length A ≡ k
-      → old ≤ k → k + n ≡ new → n ≤ length B → new ≤ 256 → t < 4294967296 → Replaces h x first A B k n
-  unfolding replaceAll firstOfAll replacedFrom firstFrom
-  replace-means zero B A h x first k s e a o m c b f =
-      record {
-        bytes =
-            subst (λ (ts : List ℕ). Stands h (withCommitTerms x (A ++ ts))) (sym (replaced-after B (k + 1) (omega arith)))
-            (subst (λ (ts : List ℕ). Stands h (withCommitTerms x ts)) e s);
-        is = first-none first ∙ ap (orElse first) (sym (first-after B (k + 1) (omega arith)));
-      }
-  replace-means (suc n) [] A h x first k s e a o m c b f = absurd (omega arith)
-  replace-means (suc n) (y ∷ B) A h x first k s e a o m c b f =
+  replace-means : (n : ℕ) (B A : List ℕ) (h : Bytes) (x : History) (k : ℕ) → Stands h x → x .terms ≡ A ++ B → length A ≡ k
+      → old ≤ k → k + n ≡ new → n ≤ length B → new ≤ 256 → t < 4294967296
+      → Stands (replaceAll h t k n) (withCommitTerms x (A ++ replacedFrom old new t (k + 1) B))
+  unfolding replaceAll replacedFrom
+  replace-means zero B A h x k s e a o m c b f =
+      subst (λ (ts : List ℕ). Stands h (withCommitTerms x (A ++ ts))) (sym (replaced-after B (k + 1) (omega arith)))
+      (subst (λ (ts : List ℕ). Stands h (withCommitTerms x ts)) e s)
+  replace-means (suc n) [] A h x k s e a o m c b f = absurd (omega arith)
+  replace-means (suc n) (y ∷ B) A h x k s e a o m c b f =
       let z = cond (isReplaced t y) t y in
       let same = test-within (k + 1) y (omega arith) (omega arith) in
-      let ih = replace-means n B (A ++ (z ∷ [])) (replaceBytes h k t) (withCommitTerms x (A ++ (z ∷ B))) (firstOf first (isReplaced t (termIn h k)) k) (k + 1)
+      let ih = replace-means n B (A ++ (z ∷ [])) (replaceBytes h k t) (withCommitTerms x (A ++ (z ∷ B))) (k + 1)
       (place-means h x A y B k s e a (omega arith) f)
       (sym (append-assoc A (z ∷ []) B))
       (length-append A (z ∷ []) ∙ ap (λ (j : ℕ). j + 1) a) (omega arith) (omega arith) (omega arith) b f in
-      record {
-        bytes =
-            subst (λ (ts : List ℕ). Stands (replaceAll (replaceBytes h k t) t (k + 1) n) (withCommitTerms x ts))
-            (append-assoc A (z ∷ []) (replacedFrom old new t (k + 1 + 1) B)
-            ∙ ap (λ (q : Bool). A ++ (cond q t y ∷ replacedFrom old new t (k + 1 + 1) B)) (sym same))
-            (ih .bytes);
-        is =
-            ih .is ∙ first-more first k (isReplaced t (termIn h k)) (firstFrom old new t (k + 1 + 1) B)
-            ∙ ap (λ (q : Bool). orElse first (cond q (k + 1) (firstFrom old new t (k + 1 + 1) B)))
-            (ap (isReplaced t) (place-read h x A y B k s e a) ∙ sym same);
-      }
+      subst (λ (ts : List ℕ). Stands (replaceAll (replaceBytes h k t) t (k + 1) n) (withCommitTerms x ts))
+      (append-assoc A (z ∷ []) (replacedFrom old new t (k + 1 + 1) B)
+      ∙ ap (λ (q : Bool). A ++ (cond q t y ∷ replacedFrom old new t (k + 1 + 1) B)) (sym same))
+      ih
+
+  -- the search finds the model's first changed index
+  search-means : (h : Bytes) (x : History) → Stands h x → (n : ℕ) (B A : List ℕ) (k : ℕ) → x .terms ≡ A ++ B → length A ≡ k
+      → old ≤ k → k + n ≡ new → n ≤ length B → firstReplaced (termRow (termsPart h)) t k n ≡ firstFrom old new t (k + 1) B
+  unfolding firstReplaced firstFrom
+  search-means h x s zero B A k e a o m c = sym (first-after B (k + 1) (omega arith))
+  search-means h x s (suc n) [] A k e a o m c = absurd (omega arith)
+  search-means h x s (suc n) (y ∷ B) A k e a o m c =
+      let same : isReplaced t (termIn h k) ≡ changes old new t (k + 1) y
+      = ap (isReplaced t) (place-read h x A y B k s e a) ∙ sym (test-within (k + 1) y (omega arith) (omega arith)) in
+      let ih = search-means h x s n B (A ++ (y ∷ [])) (k + 1) (e ∙ sym (append-assoc A (y ∷ []) B))
+      (length-append A (y ∷ []) ∙ ap (λ (j : ℕ). j + 1) a) (omega arith) (omega arith) (omega arith) in
+      λ i. cond (same i) (k + 1) (ih i)
 
   lengthened-reaches : (ts : List ℕ) → new ≤ length (lengthened new ts)
   unfolding lengthened
@@ -184,7 +164,7 @@ module _ (old new t : ℕ) where
   -- the whole list
   pub record Places (h : Bytes) (x : History) (ts : List ℕ) : Type 0 where
     pub bytes : Stands (replaceAll h t old (new - old)) (withCommitTerms x (recorded old new t ts))
-    pub is : firstOfAll h t 0 old (new - old) ≡ firstChanged old new t ts
+    pub is : firstReplaced (termRow (termsPart h)) t old (new - old) ≡ firstChanged old new t ts
 
   places-mean : (h : Bytes) (x : History) (ts : List ℕ) → Stands h x → x .terms ≡ lengthened new ts → old ≤ new → new ≤ 256 → t < 4294967296 → Places h x ts
   unfolding recorded firstChanged
@@ -197,16 +177,45 @@ module _ (old new t : ℕ) where
       let lb = length-drop old L in
       let split : A ++ B ≡ L = take-append-drop old L in
       let at : 0 + length A + 1 ≡ old + 1 = omega arith in
-      let r = replace-means (new - old) B A h x 0 old s (e ∙ sym split) la (omega arith) (omega arith) (omega arith) b f in
       record {
         bytes =
             subst (λ (l : List ℕ). Stands (replaceAll h t old (new - old)) (withCommitTerms x l))
             (sym (ap (replacedFrom old new t 1) (sym split) ∙ replaced-before A B 0 (omega arith) ∙ ap (λ (i : ℕ). A ++ replacedFrom old new t i B) at))
-            (r .bytes);
+            (replace-means (new - old) B A h x old s (e ∙ sym split) la (omega arith) (omega arith) (omega arith) b f);
         is =
-            r .is
+            search-means h x s (new - old) B A old (e ∙ sym split) la (omega arith) (omega arith) (omega arith)
             ∙ sym (ap (firstFrom old new t 1) (sym split) ∙ first-before A B 0 (omega arith) ∙ ap (λ (i : ℕ). firstFrom old new t i B) at);
       }
+
+-- ---- before the first changed index no place is replaced
+
+module _ (h : Bytes) (t new : ℕ) where
+  abbrev firstIn : ℕ → ℕ → ℕ
+  firstIn k n = firstReplaced (termRow (termsPart h)) t k n
+
+  -- the places from the first changed index on, where there is one
+  abbrev fromFirst : ℕ → Bytes
+  fromFirst first = cond (eqb first 0) h (replaceAll h t (first - 1) (new + 1 - first))
+
+  not-replaced : (k : ℕ) → isReplaced t (termIn h k) ≡ false → replaceBytes h k t ≡ h
+  unfolding replaceBytes
+  not-replaced k p = cond-false (isReplaced t (termIn h k)) _ h p
+
+  pub from-first : (n k : ℕ) → k + n ≡ new → fromFirst (firstIn k n) ≡ replaceAll h t k n
+  unfolding replaceAll firstReplaced
+  from-first zero k m = refl
+  from-first (suc n) k m =
+      let rest = firstReplaced (termRow (termsPart h)) t (k + 1) n in
+      ⊎-elim
+      (λ p.
+      ap fromFirst (cond-true (isReplaced t (termIn h k)) (k + 1) rest p)
+      ∙ cond-false (eqb (k + 1) 0) h _ (ne-eqb (k + 1) 0 (λ z. omega arith))
+      ∙ (λ i. replaceAll h t (let e : k + 1 - 1 ≡ k = omega arith in e i) (let e : new + 1 - (k + 1) ≡ suc n = omega arith in e i)))
+      (λ p.
+      ap fromFirst (cond-false (isReplaced t (termIn h k)) (k + 1) rest p)
+      ∙ from-first n (k + 1) (omega arith)
+      ∙ ap (λ (u : Bytes). replaceAll u t (k + 1) n) (sym (not-replaced k p)))
+      (either (isReplaced t (termIn h k)))
 
 -- ---- the whole record
 
@@ -215,22 +224,27 @@ unfolding lowered
 none-lowered t [] = refl
 none-lowered t (c ∷ cs) = ap (λ (l : List Certificate). c ∷ l) (none-lowered t cs)
 
-marks-mean : (h : Bytes) (x : History) (t first n : ℕ) → Stands h x → n ≡ length (x .certificates)
-    → Stands (lowerPast h n t first) (withElections x (map (lowered t first) (x .certificates)))
-unfolding lowerPast
-marks-mean h x t zero n s e = subst (λ (cs : List Certificate). Stands h (withElections x cs)) (sym (none-lowered t (x .certificates))) s
-marks-mean h x t (suc f) n s e =
-    subst (λ (u : Bytes). Stands u (withElections x (map (lowered t (suc f)) (x .certificates))))
-    (ap (lowerAll h t (suc f) 0) (sym e) ∙ sym (cond-false (eqb (suc f) 0) h (lowerAll h t (suc f) 0 n) (ne-eqb (suc f) 0 (λ z. omega arith))))
-    (lower-means t (suc f) (omega arith) (x .certificates) h x [] 0 s refl refl)
+-- where a place changed, the marks are lowered
+marks-mean : (u w : Bytes) (y : History) (t first n : ℕ) → Stands (cond (eqb first 0) u w) y → n ≡ length (y .certificates)
+    → Stands (cond (eqb first 0) u (lowerBack w t first n)) (withElections y (map (lowered t first) (y .certificates)))
+marks-mean u w y t zero n s e = subst (λ (cs : List Certificate). Stands u (withElections y cs)) (sym (none-lowered t (y .certificates))) s
+marks-mean u w y t (suc f) n s e =
+    let cs = y .certificates in
+    let some : eqb (suc f) 0 ≡ false = ne-eqb (suc f) 0 (λ z. omega arith) in
+    subst (λ (v : Bytes). Stands v (withElections y (map (lowered t (suc f)) cs))) (sym (cond-false (eqb (suc f) 0) u (lowerBack w t (suc f) n) some))
+    (subst (λ (ds : List Certificate). Stands (lowerBack w t (suc f) n) (withElections y ds)) (append-nil (map (lowered t (suc f)) cs))
+    (lower-means t (suc f) (omega arith) n cs [] w y (subst (λ (v : Bytes). Stands v y) (cond-false (eqb (suc f) 0) u w some) s) (sym (append-nil cs)) (sym e)))
 
-pub record-means : (h : Bytes) (x : History) (old new t : ℕ) → Stands h x → length (x .terms) ≤ 256 → old ≤ new → new ≤ 256 → t < 4294967296
+pub record-means : (h : Bytes) (x : History) (old new t : ℕ) → Stands h x → old ≤ new → new ≤ 256 → t < 4294967296
     → Stands (recordBytes h old new t) (termsEffect x old new t)
-unfolding recordBytes termsEffect
-record-means h x old new t s a o b f =
+unfolding recordBytes changedFrom termsEffect
+record-means h x old new t s o b f =
     let u = lengthenedTo h new in
-    let y = withCommitTerms x (lengthened new (x .terms)) in
-    let p = places-mean old new t u y (x .terms) (lengthened-means h x new s a b) refl o b f in
-    subst (λ (i : ℕ). Stands (lowerPast (replaceAll u t old (new - old)) (wordAt h 6 1) t i) (termsEffect x old new t)) (sym (p .is))
-    (marks-mean (replaceAll u t old (new - old)) (withCommitTerms x (recorded old new t (x .terms))) t (firstChanged old new t (x .terms)) (wordAt h 6 1)
-    (p .bytes) (sym (certificates-held h x s)))
+    let long = lengthened-means h x new s b in
+    let p = places-mean old new t u (withCommitTerms x (lengthened new (x .terms))) (x .terms) long refl o b f in
+    let first = firstReplaced (termRow (termsPart u)) t old (new - old) in
+    let y = withCommitTerms x (recorded old new t (x .terms)) in
+    subst (λ (i : ℕ). Stands (changedFrom u new t first) (withElections y (map (lowered t i) (x .certificates)))) (p .is)
+    (marks-mean u (replaceAll u t (first - 1) (new + 1 - first)) y t first (wordAt u 6 1)
+    (subst (λ (v : Bytes). Stands v y) (sym (from-first u t new (new - old) old (omega arith))) (p .bytes))
+    (sym (certificates-held u (withCommitTerms x (lengthened new (x .terms))) long)))

@@ -1,63 +1,70 @@
--- The loops that lengthen the list of commit terms and replace its places, turn by turn, and the record as a whole.
+-- The list of commit terms lengthened, the search for the first changed index and the loop that replaces places, turn by turn, and
+-- the record as a whole.
 -- Assumes nothing.
 use Prim.Native.Nat.{ℕ, zero, suc, _+_, _-_, _*_, _≤_, _<_}
 use native.Mathlib.Omega.{arith}
 use mathlib.Core.Path.{_≡_, refl, sym, _∙_, ap}
 use mathlib.Core.Bool.{Bool, true, false, _||_}
+use mathlib.Core.List.{_++_}
 use lib.Dec.{ltb, eqb}
-use lib.ListN.{length}
+use lib.ListN.{length, take, drop, length-take, length-drop}
 use borrow.Author.Tests.{eq-eqb, ne-eqb, lt-ltb, le-ltb}
 use Rattle.model.specs.Sizes.{Bytes}
 use Rattle.model.proofs.Tests.{cond-cases, cond-true, cond-false}
 use Rattle.storage_bytes.specs.Words.{wordAt, wordBytes, putBytes}
 use Rattle.storage.specs.Tables.{termRow, termsPart}
-use Rattle.storage.specs.Writes.{termAppended}
-use Rattle.storage_bytes.proofs.WordLaws.{put-length}
-use Rattle.storage.proofs.RowLaws.{word-set}
+use Rattle.storage.specs.Fresh.{zeros}
+use Rattle.storage.specs.Writes.{termsLengthened}
+use Rattle.storage_bytes.proofs.WordLaws.{put-length, word-bytes-length}
+use Rattle.storage.proofs.FreshLaws.{zeros-length}
+use Rattle.storage.proofs.WriteLaws.{region-back}
+use Rattle.storage.proofs.RowLaws.{word-before, word-after}
 use Rattle.storage.proofs.RuleLaws.{pass, stop}
-use Rattle.term_marks.specs.Marks.{lowerAll}
-use Rattle.commit_terms.specs.Terms.{lengthenBytes, lengthenedTo, termIn, isReplaced, replaceBytes, firstOf, replaceAll, firstOfAll, ReplacedAs, lowerPast, recordBytes, termsAnswer, termsBytes}
+use Rattle.term_marks.specs.Marks.{lowerBack}
+use Rattle.commit_terms.specs.Terms.{lengthenedTo, termIn, isReplaced, firstReplaced, replaceBytes, replaceAll, changedFrom, recordBytes, termsAnswer, termsBytes}
 use Rattle.commit_terms.specs.declared.terms.TermsAnswer.{TermsAnswer}
-use Rattle.term_marks.proofs.MarkTurns.{left-more}
 
 -- ---- lengthening
 
-pub appended-length : (h : Bytes) (v : ℕ) → length (termAppended h v) ≡ length h
-unfolding termAppended
-appended-length h v = put-length _ 2 (wordBytes 2 (wordAt h 2 2 + 1)) ∙ put-length h _ (wordBytes 4 v)
+-- the lent places given back as zeros
+pub places-cleared : (h ys : Bytes) (n m : ℕ) → n ≤ m → m ≤ 256 → length h ≡ 24137
+    → (let a = 393 + n * 4 in let k = 393 + m * 4 - a in
+    ys ≡ zeros (length (take k (drop a h))) → take a h ++ (ys ++ drop k (drop a h)) ≡ putBytes h a (zeros ((m - n) * 4)))
+places-cleared h ys n m l b long e =
+    let a = 393 + n * 4 in
+    let k = 393 + m * 4 - a in
+    let size : length (take k (drop a h)) ≡ (m - n) * 4 = (let p = length-take k (drop a h) in let q = length-drop a h in omega arith) in
+    let is : ys ≡ zeros ((m - n) * 4) = e ∙ ap zeros size in
+    region-back h ys a k (ap length is ∙ zeros-length ((m - n) * 4) ∙ (let z : (m - n) * 4 ≡ k = omega arith in z)) (omega arith) ∙ ap (putBytes h a) is
 
--- one more is counted
-pub appended-count : (h : Bytes) (v : ℕ) → length h ≡ 24137 → wordAt h 2 2 < 256 → wordAt (termAppended h v) 2 2 ≡ wordAt h 2 2 + 1
-unfolding termAppended
-appended-count h v l f =
-    let m = put-length h (393 + wordAt h 2 2 * 4) (wordBytes 4 v) in
-    word-set (putBytes h (393 + wordAt h 2 2 * 4) (wordBytes 4 v)) 2 2 (wordAt h 2 2 + 1) (omega arith) (omega arith)
+module _ (h : Bytes) (new : ℕ) where
+  module _ (n : ℕ) (e : n ≡ wordAt h 2 2) where
+    pub lengthen-not : new ≤ n → h ≡ lengthenedTo h new
+    unfolding lengthenedTo
+    lengthen-not l = sym (cond-false (ltb (wordAt h 2 2) new) _ h (le-ltb _ new (omega arith)))
 
-pub record Lengthening (h₀ : Bytes) (new : ℕ) (h : Bytes) (n : ℕ) : Type 0 where
-  pub bytes : lengthenedTo h₀ new ≡ lengthenBytes h (new - n)
-  pub count : n ≡ wordAt h 2 2
-  pub long : length h ≡ 24137
+    pub lengthen-so : n < new → (u : Bytes) → u ≡ putBytes h (393 + n * 4) (zeros ((new - n) * 4)) → (v : Bytes) → v ≡ putBytes u 2 (wordBytes 2 new)
+        → v ≡ lengthenedTo h new
+    unfolding lengthenedTo termsLengthened
+    lengthen-so l u eu v ev =
+        ev ∙ ap (λ (z : Bytes). putBytes z 2 (wordBytes 2 new)) eu
+        ∙ ap (λ (m : ℕ). putBytes (putBytes h (393 + m * 4) (zeros ((new - m) * 4))) 2 (wordBytes 2 new)) e
+        ∙ sym (cond-true (ltb (wordAt h 2 2) new) _ h (lt-ltb _ new (omega arith)))
 
-module _ (h₀ : Bytes) (new : ℕ) where
-  pub lengthening-starts : (n : ℕ) → n ≡ wordAt h₀ 2 2 → length h₀ ≡ 24137 → Lengthening h₀ new h₀ n
-  unfolding lengthenedTo
-  lengthening-starts n e l = record { bytes = ap (λ (m : ℕ). lengthenBytes h₀ (new - m)) (sym e); count = e; long = l }
+  pub lengthened-length : length (lengthenedTo h new) ≡ length h
+  unfolding lengthenedTo termsLengthened
+  lengthened-length =
+      cond-cases (λ (u : Bytes). length u ≡ length h) (ltb (wordAt h 2 2) new) _ h
+      (λ _. put-length _ 2 (wordBytes 2 new) ∙ put-length h _ (zeros ((new - wordAt h 2 2) * 4))) (λ _. refl)
 
-  module _ (h : Bytes) (n : ℕ) (w : Lengthening h₀ new h n) where
-    pub lengthening-next : new ≤ 256 → n < new → (h′ : Bytes) → h′ ≡ termAppended h 0 → Lengthening h₀ new h′ (n + 1)
-    unfolding lengthenBytes
-    lengthening-next b l h′ e =
-        record {
-          bytes = w .bytes ∙ ap (lengthenBytes h) (left-more new n l) ∙ ap (λ (u : Bytes). lengthenBytes u (new - (n + 1))) (sym e);
-          count =
-              ap (λ (m : ℕ). m + 1) (w .count)
-              ∙ sym (ap (λ (u : Bytes). wordAt u 2 2) e ∙ appended-count h 0 (w .long) (let c = w .count in omega arith));
-          long = ap length e ∙ appended-length h 0 ∙ w .long;
-        }
-
-    pub lengthening-ends : new ≤ n → h ≡ lengthenedTo h₀ new
-    unfolding lengthenBytes
-    lengthening-ends l = sym (w .bytes ∙ ap (lengthenBytes h) (let e : new - n ≡ 0 = omega arith in e))
+  -- as many certificates as before
+  pub lengthened-certificates : wordAt (lengthenedTo h new) 6 1 ≡ wordAt h 6 1
+  unfolding lengthenedTo termsLengthened
+  lengthened-certificates =
+      cond-cases (λ (u : Bytes). wordAt u 6 1 ≡ wordAt h 6 1) (ltb (wordAt h 2 2) new) _ h
+      (λ _. let l = word-bytes-length 2 new in
+      word-after _ 2 (wordBytes 2 new) 6 1 (omega arith) ∙ word-before h (393 + wordAt h 2 2 * 4) (zeros ((new - wordAt h 2 2) * 4)) 6 1 (omega arith))
+      (λ _. refl)
 
 -- ---- one place, as it was read
 
@@ -83,65 +90,101 @@ unfolding replaceBytes
 replace-length h k t =
     cond-cases (λ (u : Bytes). length u ≡ length h) (isReplaced t (termIn h k)) _ h (λ _. put-length h (393 + k * 4) (wordBytes 4 t)) (λ _. refl)
 
-abbrev pub Replaced : Bytes → ℕ → ℕ → Bool → Bytes → Type 0
-Replaced h k t r h′ = (r ≡ isReplaced t (termIn h k)) × (h′ ≡ replaceBytes h k t)
-
 module _ (h : Bytes) (k t : ℕ) (q : Bytes) (eq : q ≡ termsPart h) (x : ℕ) (e : x ≡ termRow q k) (b : Bool) (eb : b ≡ isReplaced t x) where
   test-is : isReplaced t (termIn h k) ≡ b
   test-is = ap (isReplaced t) (sym (e ∙ ap (λ (r : Bytes). termRow r k) eq)) ∙ sym eb
 
-  pub replace-not : b ≡ false → Replaced h k t false h
+  pub replace-not : b ≡ false → h ≡ replaceBytes h k t
   unfolding replaceBytes
-  replace-not f = (sym (test-is ∙ f), sym (cond-false (isReplaced t (termIn h k)) _ h (test-is ∙ f)))
+  replace-not f = sym (cond-false (isReplaced t (termIn h k)) _ h (test-is ∙ f))
 
-  pub replace-so : b ≡ true → (u : Bytes) → u ≡ putBytes h (393 + k * 4) (wordBytes 4 t) → Replaced h k t true u
+  pub replace-so : b ≡ true → (u : Bytes) → u ≡ putBytes h (393 + k * 4) (wordBytes 4 t) → u ≡ replaceBytes h k t
   unfolding replaceBytes
-  replace-so f u w = (sym (test-is ∙ f), w ∙ sym (cond-true (isReplaced t (termIn h k)) _ h (test-is ∙ f)))
+  replace-so f u w = w ∙ sym (cond-true (isReplaced t (termIn h k)) _ h (test-is ∙ f))
 
--- ---- replacing
+-- ---- the search; i is the index that is looked at next
 
-pub record Replacing (h₀ : Bytes) (old new t : ℕ) (h : Bytes) (first k : ℕ) : Type 0 where
-  pub is : firstOfAll h₀ t 0 old (new - old) ≡ firstOfAll h t first k (new - k)
-  pub bytes : replaceAll h₀ t old (new - old) ≡ replaceAll h t k (new - k)
+-- one more index of those left
+left-more : (new i : ℕ) → i ≤ new → new + 1 - i ≡ suc (new + 1 - (i + 1))
+left-more new i h = omega arith
+
+next-place : (i : ℕ) → 1 ≤ i → i - 1 + 1 ≡ i + 1 - 1
+next-place i h = omega arith
+
+pub record Searching (row : ℕ → ℕ) (t start new i : ℕ) : Type 0 where
+  pub is : firstReplaced row t (start - 1) (new + 1 - start) ≡ firstReplaced row t (i - 1) (new + 1 - i)
+  pub low : 1 ≤ i
+
+module _ (row : ℕ → ℕ) (t old new : ℕ) where
+  abbrev Found : ℕ → Type 0
+  Found i = i ≡ firstReplaced row t old (new - old)
+
+  abbrev Looking : ℕ → Type 0
+  Looking = Searching row t (old + 1) new
+
+  pub searching-starts : Looking (old + 1)
+  searching-starts = record { is = refl; low = omega arith }
+
+  -- it starts with the index after old
+  from-old : firstReplaced row t old (new - old) ≡ firstReplaced row t (old + 1 - 1) (new + 1 - (old + 1))
+  from-old =
+      λ j. firstReplaced row t (let e : old ≡ old + 1 - 1 = omega arith in e j) (let e : new - old ≡ new + 1 - (old + 1) = omega arith in e j)
+
+  module _ (i : ℕ) (w : Looking i) where
+    pub searching-none : new < i → Found 0
+    unfolding firstReplaced
+    searching-none l = sym (from-old ∙ w .is ∙ ap (firstReplaced row t (i - 1)) (let e : new + 1 - i ≡ 0 = omega arith in e))
+
+    module _ (l : i ≤ new) (x : ℕ) (e : x ≡ row (i - 1)) (b : Bool) (eb : b ≡ isReplaced t x) where
+      look : isReplaced t (row (i - 1)) ≡ b
+      look = ap (isReplaced t) (sym e) ∙ sym eb
+
+      pub searching-found : b ≡ true → Found i
+      unfolding firstReplaced
+      searching-found f =
+          sym
+          (from-old ∙ w .is ∙ ap (firstReplaced row t (i - 1)) (left-more new i l) ∙ cond-true (isReplaced t (row (i - 1))) (i - 1 + 1) _ (look ∙ f)
+          ∙ (let g = w .low in let z : i - 1 + 1 ≡ i = omega arith in z))
+
+      pub searching-next : b ≡ false → Looking (i + 1)
+      unfolding firstReplaced
+      searching-next f =
+          record {
+            is = w .is ∙ ap (firstReplaced row t (i - 1)) (left-more new i l) ∙ cond-false (isReplaced t (row (i - 1))) (i - 1 + 1) _ (look ∙ f)
+                ∙ ap (λ (k : ℕ). firstReplaced row t k (new + 1 - (i + 1))) (next-place i (w .low));
+            low = omega arith;
+          }
+
+-- ---- replacing; i is the index whose place is replaced next
+
+pub record Replacing (h₀ : Bytes) (first new t : ℕ) (h : Bytes) (i : ℕ) : Type 0 where
+  pub bytes : replaceAll h₀ t (first - 1) (new + 1 - first) ≡ replaceAll h t (i - 1) (new + 1 - i)
   pub long : length h ≡ 24137
+  pub low : 1 ≤ i
 
-module _ (h₀ : Bytes) (old new t : ℕ) where
-  pub replacing-starts : length h₀ ≡ 24137 → Replacing h₀ old new t h₀ 0 old
-  replacing-starts l = record { is = refl; bytes = refl; long = l }
+module _ (h₀ : Bytes) (first new t : ℕ) where
+  pub replacing-starts : length h₀ ≡ 24137 → 1 ≤ first → Replacing h₀ first new t h₀ first
+  replacing-starts l s = record { bytes = refl; long = l; low = s }
 
-  module _ (h : Bytes) (first k : ℕ) (w : Replacing h₀ old new t h first k) where
-    pub replacing-next : k < new → (b : Bool) (h′ : Bytes) → Replaced h k t b h′ → (f : ℕ) → f ≡ firstOf first b k
-        → Replacing h₀ old new t h′ f (k + 1)
-    unfolding replaceAll firstOfAll
-    replacing-next l b h′ e f ef =
-        let m = new - (k + 1) in
-        let ff : firstOf first (isReplaced t (termIn h k)) k ≡ f = ap (λ (z : Bool). firstOf first z k) (sym (e .0)) ∙ sym ef in
-        let hh : replaceBytes h k t ≡ h′ = sym (e .1) in
+  module _ (h : Bytes) (i : ℕ) (w : Replacing h₀ first new t h i) where
+    pub replacing-next : i ≤ new → (u : Bytes) → u ≡ replaceBytes h (i - 1) t → Replacing h₀ first new t u (i + 1)
+    unfolding replaceAll
+    replacing-next l u e =
         record {
-          is = w .is ∙ ap (firstOfAll h t first k) (left-more new k l) ∙ (λ i. firstOfAll (hh i) t (ff i) (k + 1) m);
-          bytes = w .bytes ∙ ap (replaceAll h t k) (left-more new k l) ∙ (λ i. replaceAll (hh i) t (k + 1) m);
-          long = ap length (e .1) ∙ replace-length h k t ∙ w .long;
+          bytes = w .bytes ∙ ap (replaceAll h t (i - 1)) (left-more new i l)
+              ∙ (λ j. replaceAll (sym e j) t (next-place i (w .low) j) (new + 1 - (i + 1)));
+          long = ap length e ∙ replace-length h (i - 1) t ∙ w .long;
+          low = omega arith;
         }
 
-    pub replacing-ends : new ≤ k → ReplacedAs h₀ old new t first h
-    unfolding replaceAll firstOfAll
-    replacing-ends l =
-        let z : new - k ≡ 0 = omega arith in
-        record { is = sym (w .is ∙ ap (firstOfAll h t first k) z); bytes = sym (w .bytes ∙ ap (replaceAll h t k) z) }
+    pub replacing-ends : new < i → h ≡ replaceAll h₀ t (first - 1) (new + 1 - first)
+    unfolding replaceAll
+    replacing-ends l = sym (w .bytes ∙ ap (replaceAll h t (i - 1)) (let e : new + 1 - i ≡ 0 = omega arith in e))
 
 pub replace-all-length : (h : Bytes) (t k n : ℕ) → length (replaceAll h t k n) ≡ length h
 unfolding replaceAll
 replace-all-length h t k zero = refl
 replace-all-length h t k (suc n) = replace-all-length (replaceBytes h k t) t (k + 1) n ∙ replace-length h k t
-
-pub lengthen-length : (h : Bytes) (n : ℕ) → length (lengthenBytes h n) ≡ length h
-unfolding lengthenBytes
-lengthen-length h zero = refl
-lengthen-length h (suc n) = lengthen-length (termAppended h 0) n ∙ appended-length h 0
-
-pub lengthened-length : (h : Bytes) (new : ℕ) → length (lengthenedTo h new) ≡ length h
-unfolding lengthenedTo
-lengthened-length h new = lengthen-length h (new - wordAt h 2 2)
 
 -- ---- the record
 
@@ -157,21 +200,24 @@ module _ (h : Bytes) (old new t : ℕ) where
         sym (cond-true (ltb new old) h (recordBytes h old new t) f),
       )
 
-  module _ (l : old ≤ new) (n : ℕ) (en : n ≡ wordAt h 6 1) (u : Bytes) (eu : u ≡ lengthenedTo h new) (first : ℕ) (v : Bytes) (ev : ReplacedAs u old new t first v) where
-    accepted : (z : Bytes) → z ≡ lowerPast v n t first → Recorded h old new t TermsAnswer.Recorded z
+  module _ (l : old ≤ new) (u : Bytes) (eu : u ≡ lengthenedTo h new) (ts : Bytes) (et : ts ≡ termsPart u)
+      (first : ℕ) (ef : first ≡ firstReplaced (termRow ts) t old (new - old)) where
+    accepted : (z : Bytes) → z ≡ changedFrom u new t first → Recorded h old new t TermsAnswer.Recorded z
     unfolding termsAnswer termsBytes recordBytes
     accepted z e =
         let f = le-ltb new old l in
-        let vv : v ≡ replaceAll (lengthenedTo h new) t old (new - old) = ev .bytes ∙ ap (λ (y : Bytes). replaceAll y t old (new - old)) eu in
-        let ff : first ≡ firstOfAll (lengthenedTo h new) t 0 old (new - old) = ev .is ∙ ap (λ (y : Bytes). firstOfAll y t 0 old (new - old)) eu in (
+        let g : first ≡ firstReplaced (termRow (termsPart (lengthenedTo h new))) t old (new - old)
+        = ef ∙ ap (λ (r : Bytes). firstReplaced (termRow r) t old (new - old)) (et ∙ ap termsPart eu) in (
           sym (cond-false (ltb new old) TermsAnswer.OldExceedsNew TermsAnswer.Recorded f),
-          e ∙ (λ i. lowerPast (vv i) (en i) t (ff i)) ∙ sym (cond-false (ltb new old) h (recordBytes h old new t) f),
+          e ∙ (λ i. changedFrom (eu i) new t (g i)) ∙ sym (cond-false (ltb new old) h (recordBytes h old new t) f),
         )
 
-    pub record-unchanged : first ≡ 0 → Recorded h old new t TermsAnswer.Recorded v
-    unfolding lowerPast
-    record-unchanged e = accepted v (sym (cond-true (eqb first 0) v (lowerAll v t first 0 n) (eq-eqb first 0 e)))
+    pub record-unchanged : first ≡ 0 → Recorded h old new t TermsAnswer.Recorded u
+    unfolding changedFrom
+    record-unchanged e = accepted u (sym (cond-true (eqb first 0) u _ (eq-eqb first 0 e)))
 
-    pub record-changed : (first ≡ 0 → ⊥) → (z : Bytes) → z ≡ lowerAll v t first 0 n → Recorded h old new t TermsAnswer.Recorded z
-    unfolding lowerPast
-    record-changed e z w = accepted z (w ∙ sym (cond-false (eqb first 0) v (lowerAll v t first 0 n) (ne-eqb first 0 e)))
+    pub record-changed : (first ≡ 0 → ⊥) → (n : ℕ) → n ≡ wordAt u 6 1 → (v : Bytes) → v ≡ replaceAll u t (first - 1) (new + 1 - first)
+        → (z : Bytes) → z ≡ lowerBack v t first n → Recorded h old new t TermsAnswer.Recorded z
+    unfolding changedFrom
+    record-changed e n en v ev z ez =
+        accepted z (ez ∙ (λ i. lowerBack (ev i) t first (en i)) ∙ sym (cond-false (eqb first 0) u _ (ne-eqb first 0 e)))

@@ -1,7 +1,7 @@
--- Commit terms on the bytes of a history, in the order of the code: the list lengthened, each place replaced, marks lowered.
+-- Commit terms on the bytes of a history, in the order of the code: the list lengthened, the first changed index found, each place
+-- from there on replaced, marks lowered. The term of index k + 1 is in place k.
 -- Assumes nothing.
 use Prim.Native.Nat.{ℕ, zero, suc, _+_, _-_, _*_}
-use mathlib.Core.Path.{_≡_}
 use mathlib.Core.Bool.{Bool, cond, _&&_, _||_}
 use lib.Dec.{ltb, eqb}
 use Rattle.model.specs.Sizes.{Bytes}
@@ -9,15 +9,14 @@ use Rattle.model.specs.Refusal.{oldExceedsNew}
 use Rattle.model.specs.Answer.{Answer, accepted, refused}
 use Rattle.storage_bytes.specs.Words.{wordAt, wordBytes, putBytes}
 use Rattle.storage.specs.Tables.{termRow, termsPart}
-use Rattle.storage.specs.Writes.{termAppended}
-use Rattle.term_marks.specs.Marks.{lowerAll}
+use Rattle.storage.specs.Writes.{termsLengthened}
+use Rattle.term_marks.specs.Marks.{lowerBack}
 use Rattle.commit_terms.specs.declared.terms.TermsAnswer.{TermsAnswer}
 
--- n more places, each zero
-unfoldable pub lengthenBytes : Bytes → ℕ → Bytes
-unfolding termAppended
-lengthenBytes h zero = h
-lengthenBytes h (suc n) = lengthenBytes (termAppended h 0) n
+-- the list with zeros to new, where it is shorter
+unfoldable pub lengthenedTo : Bytes → ℕ → Bytes
+unfolding termsLengthened wordAt
+lengthenedTo h new = cond (ltb (wordAt h 2 2) new) (termsLengthened h new) h
 
 -- the term of index k + 1
 abbrev pub termIn : Bytes → ℕ → ℕ
@@ -27,13 +26,15 @@ termIn h k = termRow (termsPart h) k
 unfoldable pub isReplaced : ℕ → ℕ → Bool
 isReplaced t x = ltb 0 t && (eqb x 0 || ltb t x)
 
+-- the first of the n indexes after k whose place t replaces, 0 where there is none
+unfoldable pub firstReplaced : (ℕ → ℕ) → ℕ → ℕ → ℕ → ℕ
+unfolding isReplaced
+firstReplaced row t k zero = 0
+firstReplaced row t k (suc n) = cond (isReplaced t (row k)) (k + 1) (firstReplaced row t (k + 1) n)
+
 unfoldable pub replaceBytes : Bytes → ℕ → ℕ → Bytes
 unfolding isReplaced putBytes
 replaceBytes h k t = cond (isReplaced t (termIn h k)) (putBytes h (393 + k * 4) (wordBytes 4 t)) h
-
--- the first changed index so far, where the place of index k + 1 changed or not
-abbrev pub firstOf : ℕ → Bool → ℕ → ℕ
-firstOf first changed k = cond (eqb first 0) (cond changed (k + 1) 0) first
 
 -- n places, from that of index k + 1 on
 unfoldable pub replaceAll : Bytes → ℕ → ℕ → ℕ → Bytes
@@ -41,33 +42,19 @@ unfolding replaceBytes
 replaceAll h t k zero = h
 replaceAll h t k (suc n) = replaceAll (replaceBytes h k t) t (k + 1) n
 
--- the first changed index of them
-unfoldable pub firstOfAll : Bytes → ℕ → ℕ → ℕ → ℕ → ℕ
-unfolding replaceBytes isReplaced
-firstOfAll h t first k zero = first
-firstOfAll h t first k (suc n) = firstOfAll (replaceBytes h k t) t (firstOf first (isReplaced t (termIn h k)) k) (k + 1) n
-
--- what replacing the places from old + 1 to new comes to
-pub record ReplacedAs (h : Bytes) (old new t first : ℕ) (h′ : Bytes) : Type 0 where
-  pub is : first ≡ firstOfAll h t 0 old (new - old)
-  pub bytes : h′ ≡ replaceAll h t old (new - old)
-
 -- ---- the whole
 
-unfoldable pub lengthenedTo : Bytes → ℕ → Bytes
-unfolding lengthenBytes wordAt
-lengthenedTo h new = lengthenBytes h (new - wordAt h 2 2)
-
--- the marks lowered, where a place changed
-unfoldable pub lowerPast : Bytes → ℕ → ℕ → ℕ → Bytes
-unfolding lowerAll
-lowerPast h n t first = cond (eqb first 0) h (lowerAll h t first 0 n)
+-- where there is a first changed index, the places from it to new replaced and the marks lowered
+unfoldable pub changedFrom : Bytes → ℕ → ℕ → ℕ → Bytes
+unfolding replaceAll lowerBack wordAt
+changedFrom h new t first =
+    cond (eqb first 0) h (lowerBack (replaceAll h t (first - 1) (new + 1 - first)) t first (wordAt h 6 1))
 
 unfoldable pub recordBytes : Bytes → ℕ → ℕ → ℕ → Bytes
-unfolding lengthenedTo replaceAll firstOfAll lowerPast wordAt
+unfolding lengthenedTo firstReplaced changedFrom
 recordBytes h old new t =
     let u = lengthenedTo h new in
-    lowerPast (replaceAll u t old (new - old)) (wordAt h 6 1) t (firstOfAll u t 0 old (new - old))
+    changedFrom u new t (firstReplaced (termRow (termsPart u)) t old (new - old))
 
 -- the answer and the bytes after it: 8 leaves every byte
 unfoldable pub termsAnswer : ℕ → ℕ → TermsAnswer

@@ -34,10 +34,10 @@ zeros-length n = length-replicate n 0
 
 -- ---- where every byte is 0
 
-abbrev Zero : Bytes → Type 0
+abbrev pub Zero : Bytes → Type 0
 Zero t = (i : ℕ) → getD t i 0 ≡ 0
 
-zeros-zero : (n : ℕ) → Zero (zeros n)
+pub zeros-zero : (n : ℕ) → Zero (zeros n)
 unfolding zeros
 zeros-zero zero i = refl
 zeros-zero (suc n) zero = refl
@@ -51,7 +51,7 @@ part-zero h a n z i =
       | no l ↦ List·getD-eq-default (take n (drop a h)) 0 {n = i} (omega (arith, length-take n (drop a h)))
     ]
 
-word-zero : (t : Bytes) (o n : ℕ) → Zero t → wordAt t o n ≡ 0
+pub word-zero : (t : Bytes) (o n : ℕ) → Zero t → wordAt t o n ≡ 0
 unfolding wordAt
 word-zero t o zero z = refl
 word-zero t o (suc n) z = λ i. word-zero t o n z i * 256 + z (o + n) i

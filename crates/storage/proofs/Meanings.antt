@@ -1,13 +1,13 @@
 -- The writes in the bytes of a well-formed history, in the model's words: each leaves well-formed bytes, and says which
 -- history they stand for. And what the accessors read, in those words.
 -- Assumes nothing.
-use Prim.Native.Nat.{ℕ, _+_, _*_, _≤_, _<_}
+use Prim.Native.Nat.{ℕ, _+_, _-_, _*_, _≤_, _<_}
 use native.Mathlib.Nat.{zero-add}
 use native.Mathlib.Omega.{arith}
 use mathlib.Core.Path.{_≡_, refl, ap, sym, _∙_, subst}
 use mathlib.Core.Bool.{true}
 use mathlib.Core.List.{List, [], _∷_, _++_, map, List·Memᴰ, List·Memᴰ·head, List·Memᴰ·tail}
-use lib.ListN.{length, getD, set, take, drop, length-set, length-append, length-map, take-append-drop, List·getD-map}
+use lib.ListN.{length, getD, set, take, drop, replicate, length-set, length-append, length-replicate, length-map, take-append-drop, List·getD-map}
 use Rattle.model.specs.Sizes.{Bytes}
 use Rattle.model.specs.Entry.{Prefix, isIn, with, withAll}
 use Rattle.model.specs.History.{fresh, Certificate, Finding, History, sameFinding, noted}
@@ -18,14 +18,14 @@ use Rattle.storage.specs.Tables.{NodeRow, CertificateRow, Tables, nodeRo
 use Rattle.storage.specs.Decode.{prefixAt, extended, resolve, frontIn, certificateIn, historyIn, decode}
 use Rattle.storage.specs.Rules.{certificateRight, findingRight, numbered, prefixRight, wellFormed}
 use Rattle.storage.specs.Values.{numberIndex, committedEnd}
-use Rattle.storage.specs.Writes.{nodeBytes, prefixBytes, prefixOf, CertificateFits, PrefixFits, prefixAppended, termAppended, committedSet, certificateInserted, certificateAdded}
+use Rattle.storage.specs.Writes.{nodeBytes, prefixBytes, prefixOf, CertificateFits, PrefixFits, prefixAppended, termsLengthened, committedSet, certificateInserted, certificateAdded}
 use Rattle.storage_bytes.proofs.ListLaws.{tabulate-length, tabulate-at, every-insert, map-insert, every-snoc}
 use Rattle.storage_bytes.proofs.WordLaws.{put-length}
 use Rattle.storage_bytes.proofs.PartLaws.{word-part}
 use Rattle.storage.proofs.RowFacts.{resolve-count}
 use Rattle.storage.proofs.RuleLaws.{within, pass}
-use Rattle.storage.proofs.TableLaws.{findings-written, set-node, set-term, prefix-appended, term-appended, committed-set, certificate-added}
-use Rattle.storage.specs.Fresh.{freshHistory}
+use Rattle.storage.proofs.TableLaws.{findings-written, set-node, set-term, prefix-appended, terms-lengthened, committed-set, certificate-added}
+use Rattle.storage.specs.Fresh.{zeros, freshHistory}
 use Rattle.storage.proofs.FreshLaws.{fresh-well-formed, fresh-decodes}
 use Rattle.storage.proofs.WellFormed.{rows-are, terms-are, certificates-are, findings-are, rows-count, terms-count, certificates-count, findings-count, node-row, formed, formed-rows, rows-index}
 use Rattle.storage.proofs.DecodeLaws.{Kept, well-formed-parts, well-formed-of, NodeNamed, CertificateNamed, certificate-test, kept-node, kept-committed, kept-terms, kept-certificates, kept-findings, kept-row, decode-is, history-node, history-row, FindingNamed, finding-test}
@@ -293,7 +293,7 @@ module _ (h : Bytes) (x : History) (s : Stands h x) where
       (history-row (tablesOf h) (prefixOf p i t n c) kept
       ∙ ap (λ (y : History). withPrefixes y (y .prefixes ++ (extended (y .prefixes) (prefixOf p i t n c) ∷ []))) is)
 
-  -- a commit term set, and one more
+  -- a commit term set
   pub term-written : (k v : ℕ) → k < 256 → v < 4294967296
       → Stands (putBytes h (393 + k * 4) (wordBytes 4 v)) (withCommitTerms x (set (x .terms) k v))
   term-written k v l f =
@@ -304,17 +304,21 @@ module _ (h : Bytes) (x : History) (s : Stands h x) where
       (kept-terms (tablesOf h) kept (set (tablesOf h .terms) k v) (omega (arith, length-set (tablesOf h .terms) k v, c .terms)))
       (ap (λ (y : History). withCommitTerms y (set (y .terms) k v)) is)
 
-  pub term-added : (v : ℕ) → wordAt h 2 2 < 256 → v < 4294967296 → Stands (termAppended h v) (withCommitTerms x (x .terms ++ (v ∷ [])))
-  unfolding termAppended
-  term-added v l f =
-      let m = wordAt h 2 2 in
-      let count : length (tablesOf h .terms) ≡ m = sym (ap (λ (y : History). length (y .terms)) (decode-is h)) ∙ terms-read h in
-      let more : length (tablesOf h .terms ++ (v ∷ [])) ≡ length (tablesOf h .terms) + 1 = length-append (tablesOf h .terms) (v ∷ []) in
-      stands (termAppended h v) (withTerms (tablesOf h) (tablesOf h .terms ++ (v ∷ []))) _
-      (put-length (putBytes h (393 + m * 4) (wordBytes 4 v)) 2 (wordBytes 2 (m + 1)) ∙ put-length h (393 + m * 4) (wordBytes 4 v) ∙ long)
-      (term-appended h long v l f)
-      (kept-terms (tablesOf h) kept (tablesOf h .terms ++ (v ∷ [])) (omega arith))
-      (ap (λ (y : History). withCommitTerms y (y .terms ++ (v ∷ []))) is)
+  -- the commit terms lengthened with zeros
+  pub terms-added : (m : ℕ) → wordAt h 2 2 ≤ m → m ≤ 256
+      → Stands (termsLengthened h m) (withCommitTerms x (x .terms ++ replicate (m - wordAt h 2 2) 0))
+  unfolding termsLengthened
+  terms-added m l f =
+      let n = wordAt h 2 2 in
+      let zs : List ℕ = replicate (m - n) 0 in
+      let count : length (tablesOf h .terms) ≡ n = sym (ap (λ (y : History). length (y .terms)) (decode-is h)) ∙ terms-read h in
+      let more : length (tablesOf h .terms ++ zs) ≡ length (tablesOf h .terms) + (m - n)
+      = length-append (tablesOf h .terms) zs ∙ ap (λ (k : ℕ). length (tablesOf h .terms) + k) (length-replicate (m - n) 0) in
+      stands (termsLengthened h m) (withTerms (tablesOf h) (tablesOf h .terms ++ zs)) _
+      (put-length (putBytes h (393 + n * 4) (zeros ((m - n) * 4))) 2 (wordBytes 2 m) ∙ put-length h (393 + n * 4) (zeros ((m - n) * 4)) ∙ long)
+      (terms-lengthened h long m l f)
+      (kept-terms (tablesOf h) kept (tablesOf h .terms ++ zs) (omega arith))
+      (ap (λ (y : History). withCommitTerms y (y .terms ++ zs)) is)
 
   -- one more certificate at place k, where the numbers stay unbroken
   pub certificate-inserted : (k : ℕ) (c : CertificateRow) → k ≤ wordAt h 6 1 → wordAt h 6 1 < 64 → CertificateFits c → CertificateNamed (wordAt h 0 2) c

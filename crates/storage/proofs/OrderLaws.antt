@@ -105,6 +105,10 @@ rise : (c d : CertificateRow) (m : ℕ) → Next c d m → c .term ≤ d .term
 unfolding Next
 rise c d m n = ⊎-elim (λ (p : (c .term ≡ d .term) × (d .number ≡ c .number + 1 + m)). omega (arith, p .0)) (λ (p : (c .term < d .term) × (d .number ≡ m)). omega (arith, p .0)) n
 
+-- a row that follows another is of no earlier term
+pub follows-rise : (c d : CertificateRow) → follows c d ≡ true → c .term ≤ d .term
+follows-rise c d e = rise c d 0 (follows-next c d e)
+
 -- none of an earlier term behind a row
 none-held : (t : ℕ) (d : CertificateRow) (ds : List CertificateRow) → numberedAfter d ds ≡ true → t < d .term → heldOf t (d ∷ ds) ≡ 0
 unfolding numberedAfter

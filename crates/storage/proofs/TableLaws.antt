@@ -1,19 +1,22 @@
 -- What a write in the bytes of a history does to its tables: a write in one region leaves the other regions as they were,
 -- and each single write is one change of the tables.
 -- Assumes nothing.
-use Prim.Native.Nat.{ℕ, _+_, _*_, _≤_, _<_}
+use Prim.Native.Nat.{ℕ, _+_, _-_, _*_, _≤_, _<_}
 use native.Mathlib.Nat.{zero-add}
 use native.Mathlib.Omega.{arith}
-use mathlib.Core.Path.{_≡_, ap, sym, _∙_}
+use mathlib.Core.Path.{_≡_, refl, ap, sym, _∙_}
 use mathlib.Core.List.{[], _∷_, _++_}
-use lib.ListN.{length, set, take, drop}
+use lib.ListN.{length, set, take, drop, replicate}
 use Rattle.model.specs.Sizes.{Bytes}
 use Rattle.storage_bytes.specs.Words.{wordAt, wordBytes, putBytes}
 use Rattle.storage_bytes.specs.Layout.{part}
 use Rattle.storage.specs.Tables.{Tables, NodeRow, CertificateRow, HeadRow, headRow, nodeRow, nodeRows, termRow, termRows, certificateRows, findingRows, prefixRow, prefixRows, headPart, nodesPart, termsPart, certificatesPart, findingsPart, prefixesPart, tablesIn, tablesOf, withRows, withRow, withNodes, withNode, withCommitted, withTerms, withCertificates, withFindings}
-use Rattle.storage.specs.Writes.{prefixAppended, termAppended, committedSet, certificateInserted, certificateAdded, nodeBytes, prefixBytes, prefixOf, NodeFits, CertificateFits, PrefixFits}
-use Rattle.storage_bytes.proofs.WordLaws.{put-length, word-bytes-length}
+use Rattle.storage.specs.Writes.{prefixAppended, termsLengthened, committedSet, certificateInserted, certificateAdded, nodeBytes, prefixBytes, prefixOf, NodeFits, CertificateFits, PrefixFits}
+use Rattle.storage_bytes.proofs.ListLaws.{tabulate-append, tabulate-same, tabulate-replicate}
+use Rattle.storage_bytes.proofs.WordLaws.{put-length, put-before, word-put, word-bytes-length}
 use Rattle.storage_bytes.proofs.PartLaws.{word-part, put-whole, part-length, part-put-same, part-put-before, part-put-after}
+use Rattle.storage.specs.Fresh.{zeros}
+use Rattle.storage.proofs.FreshLaws.{zeros-length, zeros-zero, word-zero}
 use Rattle.storage.proofs.WriteLaws.{inserted-length}
 use Rattle.storage.proofs.RowLaws.{certificates-inserted, rows-set, rows-append, node-own, node-length, node-back, term-own, term-back, prefix-own, prefix-length, prefix-back, word-set, word-before, word-after}
 
@@ -291,6 +294,31 @@ by-head : (p : Parts) (c : HeadRow) → headRow (p .head) ≡ c → tablesFrom p
 unfolding tablesIn
 by-head p c e = ap (λ (x : HeadRow). tablesBy x p) e
 
+-- ---- zeros behind the first n commit terms
+
+module _ (r : Bytes) (n m : ℕ) (l : n ≤ m) (room : m * 4 ≤ length r) where
+  abbrev cleared : Bytes
+  cleared = putBytes r (n * 4) (zeros ((m - n) * 4))
+
+  row-kept : (k : ℕ) → k < n → termRow cleared k ≡ termRow r k
+  row-kept k b = term-own cleared r k (λ i _ c. put-before r (n * 4) (zeros ((m - n) * 4)) i (omega arith))
+
+  row-cleared : (k : ℕ) → n ≤ k → k < m → termRow cleared k ≡ 0
+  row-cleared k a b =
+      let z = zeros-length ((m - n) * 4) in
+      ap (λ (o : ℕ). wordAt cleared o 4) (let e : k * 4 ≡ n * 4 + (k - n) * 4 = omega arith in e)
+      ∙ word-put r (n * 4) (zeros ((m - n) * 4)) ((k - n) * 4) 4 (omega arith) (omega arith)
+      ∙ word-zero (zeros ((m - n) * 4)) ((k - n) * 4) 4 (zeros-zero ((m - n) * 4))
+
+  rows-lengthened : termRows cleared m ≡ termRows r n ++ replicate (m - n) 0
+  rows-lengthened =
+      ap (termRows cleared) (let e : m ≡ n + (m - n) = omega arith in e)
+      ∙ tabulate-append (termRow cleared) 0 n (m - n)
+      ∙ (λ i.
+      tabulate-same (termRow cleared) (termRow r) 0 n (λ k _ b. row-kept k (omega arith)) i
+      ++ (tabulate-same (termRow cleared) (λ _. 0) (0 + n) (m - n) (λ k a b. row-cleared k (omega arith) (omega arith))
+      ∙ tabulate-replicate (λ _. 0) 0 (0 + n) (m - n) (λ _. refl)) i)
+
 -- ---- each single write
 
 module _ (h : Bytes) (right : length h ≡ 24137) where
@@ -355,24 +383,24 @@ module _ (h : Bytes) (right : length h ≡ 24137) where
       ap tablesFrom (in-terms h (k * 4) vs right (omega arith))
       ∙ ap (withTerms (tablesOf h)) (rows-set 4 termRow term-own (termsPart h) vs (wordAt (headPart h) 2 2) k v lv (term-back (termsPart h) k v f (omega arith)))
 
-  -- one more commit term
-  pub append-term : (n v : ℕ) → n ≡ wordAt (headPart h) 2 2 → n < 256 → v < 4294967296
-      → tablesOf (putBytes (putBytes h (393 + n * 4) (wordBytes 4 v)) 2 (wordBytes 2 (n + 1)))
-      ≡ withTerms (tablesOf h) (tablesOf h .terms ++ (v ∷ []))
+  -- the commit terms lengthened with zeros
+  lengthen-terms : (n m : ℕ) → n ≡ wordAt (headPart h) 2 2 → n ≤ m → m ≤ 256
+      → tablesOf (putBytes (putBytes h (393 + n * 4) (zeros ((m - n) * 4))) 2 (wordBytes 2 m))
+      ≡ withTerms (tablesOf h) (tablesOf h .terms ++ replicate (m - n) 0)
   unfolding tablesIn
-  append-term n v e l f =
-      let vs = wordBytes 4 v in
-      let w = wordBytes 2 (n + 1) in
+  lengthen-terms n m e l f =
+      let vs = zeros ((m - n) * 4) in
+      let w = wordBytes 2 m in
       let u = putBytes h (393 + n * 4) vs in
-      let lv : length vs ≡ 4 = word-bytes-length 4 v in
+      let lv : length vs ≡ (m - n) * 4 = zeros-length ((m - n) * 4) in
       let ru : length u ≡ 24137 = put-length h (393 + n * 4) vs ∙ right in
       let long : length (termsPart h) ≡ 1024 = part-length h 393 1024 (omega arith) in
       ap tablesFrom
-      (in-head u 2 w ru (omega (arith, word-bytes-length 2 (n + 1)))
+      (in-head u 2 w ru (omega (arith, word-bytes-length 2 m))
       ∙ ap (λ (q : Parts). putHead q 2 w) (in-terms h (n * 4) vs right (omega arith)))
-      ∙ by-head (putHead (putTerms (partsOf h) (n * 4) vs) 2 w) _ (head-terms (headPart h) (n + 1) head-long (omega arith))
-      ∙ ap (withTerms (tablesOf h)) (rows-append 4 termRow term-own (termsPart h) vs n v lv (term-back (termsPart h) n v f (omega arith))
-      ∙ ap (λ (m : ℕ). termRows (termsPart h) m ++ (v ∷ [])) e)
+      ∙ by-head (putHead (putTerms (partsOf h) (n * 4) vs) 2 w) _ (head-terms (headPart h) m head-long (omega arith))
+      ∙ ap (withTerms (tablesOf h)) (rows-lengthened (termsPart h) n m l (omega arith)
+      ∙ ap (λ (k : ℕ). termRows (termsPart h) k ++ replicate (m - n) 0) e)
 
   -- ---- the writes that are more than one row's
 
@@ -382,11 +410,11 @@ module _ (h : Bytes) (right : length h ≡ 24137) where
   unfolding prefixAppended
   prefix-appended p i t s c l f = append-prefix (wordAt h 0 2) p i t s c (sym (word-part h 0 9 0 2 (omega arith))) l f
 
-  -- one more commit term
-  pub term-appended : (v : ℕ) → wordAt h 2 2 < 256 → v < 4294967296
-      → tablesOf (termAppended h v) ≡ withTerms (tablesOf h) (tablesOf h .terms ++ (v ∷ []))
-  unfolding termAppended
-  term-appended v l f = append-term (wordAt h 2 2) v (sym (word-part h 0 9 2 2 (omega arith))) l f
+  -- the commit terms lengthened with zeros
+  pub terms-lengthened : (m : ℕ) → wordAt h 2 2 ≤ m → m ≤ 256
+      → tablesOf (termsLengthened h m) ≡ withTerms (tablesOf h) (tablesOf h .terms ++ replicate (m - wordAt h 2 2) 0)
+  unfolding termsLengthened
+  terms-lengthened m l f = lengthen-terms (wordAt h 2 2) m (sym (word-part h 0 9 2 2 (omega arith))) l f
 
   -- the committed prefix and its owner
   pub committed-set : (p n : ℕ) → p < 65536 → n < 256 → tablesOf (committedSet h p n) ≡ withCommitted (tablesOf h) p n

@@ -9,6 +9,7 @@ use Rattle.model.specs.Sizes.{Bytes}
 use Rattle.model.specs.History.{Finding}
 use Rattle.storage_bytes.specs.Words.{wordAt, wordBytes, bytesAt, putBytes}
 use Rattle.storage.specs.Tables.{PrefixRow, NodeRow, CertificateRow, certificatesPart}
+use Rattle.storage.specs.Fresh.{zeros}
 
 unfoldable pub nodeBytes : NodeRow → Bytes
 unfolding wordBytes
@@ -73,12 +74,12 @@ prefixAppended h p i t s c =
     let n = wordAt h 0 2 in
     putBytes (putBytes h (3145 + n * 41) (prefixBytes p i t s c)) 0 (wordBytes 2 (n + 1))
 
--- one more commit term
-unfoldable pub termAppended : Bytes → ℕ → Bytes
-unfolding wordAt putBytes
-termAppended h v =
+-- commit terms lengthened with zeros to m: their places, and the count
+unfoldable pub termsLengthened : Bytes → ℕ → Bytes
+unfolding wordAt putBytes zeros
+termsLengthened h m =
     let n = wordAt h 2 2 in
-    putBytes (putBytes h (393 + n * 4) (wordBytes 4 v)) 2 (wordBytes 2 (n + 1))
+    putBytes (putBytes h (393 + n * 4) (zeros ((m - n) * 4))) 2 (wordBytes 2 m)
 
 -- the committed prefix's number and owner
 unfoldable pub committedSet : Bytes → ℕ → ℕ → Bytes

@@ -11,7 +11,8 @@ pub enum Made {
     WrongLength,
 }
 
-fn clear(t: &mut [u8])
+// Every byte is zero.
+pub fn clear(t: &mut [u8])
     ensures { λ r. ⌜ now (t .exit) ≡ zeros (length (now (t .entry))) ⌝ }
 {
     let mut i = 0;

@@ -1,17 +1,15 @@
 // The table of commit terms, those of indexes 1, 2, ... Every number of 32 bits is one, so it has no storage rule but its count.
 ghost use mathlib.Core.Path.{_≡_};
-ghost use Prim.Native.Nat.{_+_, _*_, _<_};
+ghost use Prim.Native.Nat.{_+_, _-_, _*_, _≤_, _<_};
 ghost use lib.ListN.{length};
 ghost use Rattle.storage.specs.Tables.{termRow};
-ghost use Rattle.storage_bytes.specs.Words.{wordAt, wordBytes, putBytes};
-ghost use Rattle.storage.specs.Writes.{termAppended};
-use storage::head::set_term_count;
-use storage::head::term_count;
+ghost use Rattle.storage_bytes.specs.Words.{wordBytes, putBytes};
 use storage_bytes::layout::TERM_WIDTH;
 use storage_bytes::layout::TERMS_LENGTH;
 use storage_bytes::layout::TERMS_START;
 use storage_bytes::words::get32;
 use storage_bytes::words::put32;
+use units::LogIndex;
 use units::Term;
 
 // The term of index k + 1.
@@ -22,6 +20,14 @@ pub fn term_at(terms: &[u8], k: usize) -> Term
     Term(get32(terms, k * TERM_WIDTH))
 }
 
+// The term of an index.
+pub fn term_of(terms: &[u8], index: LogIndex) -> Term
+    requires { ⌜ (1 ≤ index .0) × (index .0 ≤ 256) × (length (now terms) ≡ 1024) ⌝ }
+    ensures { λ r. ⌜ r .0 ≡ termRow (now (terms .entry)) (index .0 - 1) ⌝ }
+{
+    term_at(terms, index.0 - 1)
+}
+
 // The term of index k + 1 written in the table.
 pub fn put_term(terms: &mut [u8], k: usize, t: Term)
     requires { ⌜ (k < 256) × (length (now terms) ≡ 1024) ⌝ }
@@ -30,22 +36,13 @@ pub fn put_term(terms: &mut [u8], k: usize, t: Term)
     put32(&mut terms[..], k * TERM_WIDTH, t.0);
 }
 
-// The same in the whole history, of which only the table is lent.
-pub fn set_term(history: &mut [u8], k: usize, t: Term)
-    requires { ⌜ (k < 256) × (length (now history) ≡ 24137) ⌝ }
-    ensures { λ r. ⌜ now (history .exit) ≡ putBytes (now (history .entry)) (393 + k * 4) (wordBytes 4 (t .0)) ⌝ }
+// The term of an index in the whole history, of which only the table is lent.
+pub fn set_term(history: &mut [u8], index: LogIndex, t: Term)
+    requires { ⌜ (1 ≤ index .0) × (index .0 ≤ 256) × (length (now history) ≡ 24137) ⌝ }
+    ensures { λ r. ⌜ now (history .exit) ≡ putBytes (now (history .entry)) (393 + (index .0 - 1) * 4) (wordBytes 4 (t .0)) ⌝ }
 {
+    let k = index.0 - 1;
     let a = TERMS_START;
     let e = a + TERMS_LENGTH;
     put_term(&mut history[a..e], k, t);
-}
-
-// One more term, for the index after the last.
-pub fn append_term(history: &mut [u8], t: Term)
-    requires { ⌜ (wordAt (now history) 2 2 < 256) × (length (now history) ≡ 24137) ⌝ }
-    ensures { λ r. ⌜ now (history .exit) ≡ termAppended (now (history .entry)) (t .0) ⌝ }
-{
-    let n = term_count(&history[..]);
-    set_term(&mut history[..], n, t);
-    set_term_count(&mut history[..], n + 1);
 }

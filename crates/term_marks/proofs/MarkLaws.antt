@@ -1,35 +1,37 @@
 -- What lowering marks means: the model's certificates, each lowered.
 -- Assumes nothing.
-use Prim.Native.Nat.{ℕ, _+_, _-_, _*_, _≤_, _<_}
+use Prim.Native.Nat.{ℕ, zero, suc, _+_, _-_, _*_, _≤_, _<_}
 use native.Mathlib.Nat.{zero-add}
 use native.Mathlib.Omega.{arith}
 use mathlib.Core.Path.{_≡_, refl, sym, _∙_, ap, subst}
-use mathlib.Core.Bool.{Bool, _&&_}
+use mathlib.Core.Bool.{Bool, true, cond, _&&_}
 use mathlib.Core.Logic.{⊎-elim}
-use mathlib.Core.List.{List, [], _∷_, _++_, map, append-assoc}
-use lib.Dec.{leb, ltb}
-use lib.ListN.{length, getD, set, length-append, length-set, length-map, List·getD-map}
-use lib.Seq.{getD-at, set-at}
-use borrow.Author.Tests.{ltb-true, ltb-false, lt-ltb, leb-true}
+use mathlib.Core.List.{List, [], _∷_, _++_, map, map-append, head-eq-of-cons-eq, tail-eq-of-cons-eq}
+use lib.Dec.{leb, ltb, eqb}
+use lib.ListN.{length, getD, set, length-append, length-set, List·getD-map}
+use lib.Seq.{getD-at, set-at, append-snoc}
+use borrow.Author.Tests.{ltb-true, ltb-false, lt-ltb, le-ltb, leb-true, leb-false}
 use Rattle.model.specs.Sizes.{Bytes}
+use Rattle.model.specs.Entry.{Prefix}
 use Rattle.model.specs.History.{Certificate, History}
 use Rattle.model.specs.Terms.{withMark, lowered}
-use Rattle.model.proofs.Tests.{either, cond-true, cond-false, and-right}
+use Rattle.model.proofs.Tests.{either, cond-true, cond-false}
 use Rattle.storage_bytes.specs.Words.{wordAt, wordBytes, putBytes}
 use Rattle.storage.specs.Tables.{CertificateRow, certificateRow, certificateRows, certificatesPart, headPart, tablesIn, tablesOf, withCertificates}
 use Rattle.storage.specs.Decode.{certificateIn}
-use Rattle.storage.specs.Rules.{certificateRight}
-use Rattle.storage_bytes.proofs.ListLaws.{tabulate-set, every-set, map-set}
+use Rattle.storage.specs.Rules.{certificateRight, follows, numberedAfter, numbered}
+use Rattle.storage_bytes.proofs.ListLaws.{both, tabulate-set, every-set, map-set}
 use Rattle.storage_bytes.proofs.WordLaws.{put-before, put-after, word-bytes-length}
 use Rattle.storage_bytes.proofs.PartLaws.{part-length}
 use Rattle.storage.proofs.RowLaws.{certificate-own, word-set, word-before, word-after}
-use Rattle.storage.proofs.RuleLaws.{pass, within, numbered-set}
+use Rattle.storage.proofs.RuleLaws.{pass, stop, within, numbered-set}
+use Rattle.storage.proofs.OrderLaws.{follows-rise}
 use Rattle.storage.proofs.TableLaws.{tablesFrom, in-certificates}
 use Rattle.storage.proofs.DecodeLaws.{CertificateNamed, certificate-test, kept-certificates, Kept}
-use Rattle.storage.proofs.Meanings.{Stands, stands, withElections, long, kept, is, certificates-is}
+use Rattle.storage.proofs.Meanings.{Stands, stands, withElections, certificates-read, long, kept, is, certificates-is}
 use Rattle.storage.proofs.WellFormed.{rows-count, certificates-count, certificate-row, formed}
 use Rattle.certificate_mark.specs.Marks.{markedRow}
-use Rattle.term_marks.specs.Marks.{markSet, certificateOf, isPast, lowerBytes, lowerAll}
+use Rattle.term_marks.specs.Marks.{markSet, certificateOf, lowerBytes, lowerBack}
 use Rattle.term_marks.proofs.MarkTurns.{mark-length}
 
 -- ---- a mark written
@@ -117,52 +119,142 @@ module _ (h : Bytes) (x : History) (s : Stands h x) where
 
 -- ---- marks lowered
 
+-- the last of some certificates, and those before it
+record Last (A : List Certificate) : Type 0 where
+  pub before : List Certificate
+  pub last : Certificate
+  pub are : A ≡ before ++ (last ∷ [])
+
+last-of : (a : Certificate) (A : List Certificate) → Last (a ∷ A)
+last-of a [] = record { before = []; last = a; are = refl }
+last-of a (b ∷ A) =
+    let r = last-of b A in
+    record { before = a ∷ r .before; last = r .last; are = ap (λ (l : List Certificate). a ∷ l) (r .are) }
+
 module _ (t first : ℕ) (some : 0 < first) where
-  -- the code's test of the row is the model's of the certificate
+  -- the code's tests of the row are the model's of the certificate
   lowered-test : (c : Certificate) → (ltb 0 first && ltb t (c .term) && leb first (c .mark)) ≡ (ltb t (c .term) && leb first (c .mark))
   lowered-test c = ap (λ (b : Bool). b && leb first (c .mark)) (pass (ltb t (c .term)) (lt-ltb 0 first some))
 
-  lower-one : (h : Bytes) (x : History) (A : List Certificate) (c : Certificate) (B : List Certificate) (k : ℕ) → Stands h x
-      → x .certificates ≡ A ++ (c ∷ B) → length A ≡ k → k < wordAt h 6 1
-      → Stands (lowerBytes h t first k) (withElections x (A ++ (lowered t first c ∷ B)))
-  unfolding lowerBytes isPast lowered
-  lower-one h x A c B k s e a l =
-      let r = certificateOf h k in
-      let C = certificateIn (x .prefixes) r in
-      let here : c ≡ C =
-      sym (getD-at A c B C k a) ∙ ap (λ (cs : List Certificate). getD cs k C) (sym e) ∙ certificate-at h x s k l in
-      let test : (ltb 0 first && ltb t (c .term) && leb first (c .mark)) ≡ isPast t first r =
-      lowered-test c ∙ ap (λ (y : Certificate). ltb t (y .term) && leb first (y .mark)) here in
-      ⊎-elim
-      (λ p.
-      let low : first ≤ r .mark = leb-true _ _ (and-right (ltb t (r .term)) _ p) in
-      let most = formed h (s .right) .certificate k l .mark in
-      let w = mark-written h x s k (first - 1) l (omega arith) in
-      let to : set (x .certificates) k (withMark C (first - 1)) ≡ A ++ (withMark c (first - 1) ∷ B) =
-      ap (λ (cs : List Certificate). set cs k (withMark C (first - 1))) e ∙ set-at A c B (withMark C (first - 1)) k a
-      ∙ ap (λ (y : Certificate). A ++ (withMark y (first - 1) ∷ B)) (sym here) in
-      subst (λ (u : Bytes). Stands u (withElections x (A ++ (lowered t first c ∷ B)))) (sym (cond-true (isPast t first r) _ h p))
-      (subst (λ (y : Certificate). Stands (markSet h k (first - 1)) (withElections x (A ++ (y ∷ B)))) (sym (cond-true _ (withMark c (first - 1)) c (test ∙ p)))
-      (subst (λ (cs : List Certificate). Stands (markSet h k (first - 1)) (withElections x cs)) to w)))
-      (λ p.
-      subst (λ (u : Bytes). Stands u (withElections x (A ++ (lowered t first c ∷ B)))) (sym (cond-false (isPast t first r) _ h p))
-      (subst (λ (y : Certificate). Stands h (withElections x (A ++ (y ∷ B)))) (sym (cond-false _ (withMark c (first - 1)) c (test ∙ p)))
-      (subst (λ (cs : List Certificate). Stands h (withElections x cs)) e s)))
-      (either (isPast t first r))
+  -- one of no greater term stays
+  lowered-not : (c : Certificate) → c .term ≤ t → lowered t first c ≡ c
+  unfolding lowered
+  lowered-not c l = cond-false _ (withMark c (first - 1)) c (lowered-test c ∙ stop _ (le-ltb t (c .term) l))
 
-  pub lower-means : (B : List Certificate) (h : Bytes) (x : History) (A : List Certificate) (k : ℕ) → Stands h x
-      → x .certificates ≡ A ++ B → length A ≡ k
-      → Stands (lowerAll h t first k (length B)) (withElections x (A ++ map (lowered t first) B))
-  unfolding lowerAll
-  lower-means [] h x A k s e a = subst (λ (cs : List Certificate). Stands h (withElections x cs)) e s
-  lower-means (c ∷ B) h x A k s e a =
-      let held : length (x .certificates) ≡ wordAt h 6 1 = sym (ap length (certificates-is h x s)) ∙ count-map h x s in
-      let more = ap length e ∙ length-append A (c ∷ B) in
-      let here = lower-one h x A c B k s e a (omega arith) in
-      subst (λ (cs : List Certificate). Stands (lowerAll (lowerBytes h t first k) t first (k + 1) (length B)) (withElections x cs))
-      (append-assoc A (lowered t first c ∷ []) (map (lowered t first) B))
-      (lower-means B (lowerBytes h t first k) (withElections x (A ++ (lowered t first c ∷ B))) (A ++ (lowered t first c ∷ [])) (k + 1) here
-      (sym (append-assoc A (lowered t first c ∷ []) B)) (length-append A (lowered t first c ∷ []) ∙ ap (λ (n : ℕ). n + 1) a))
-    where
-      count-map : (u : Bytes) (y : History) (w : Stands u y) → length (map (certificateIn (y .prefixes)) (tablesOf u .certificates)) ≡ wordAt u 6 1
-      count-map u y w = length-map (tablesOf u .certificates) (certificateIn (y .prefixes)) ∙ certificates-count u
+  -- of a greater term its mark alone decides
+  lowered-by : (c : Certificate) → t < c .term → lowered t first c ≡ cond (leb first (c .mark)) (withMark c (first - 1)) c
+  unfolding lowered
+  lowered-by c l = ap (λ (b : Bool). cond b (withMark c (first - 1)) c) (lowered-test c ∙ pass _ (lt-ltb t (c .term) l))
+
+  -- rows stand by term: where one is of no greater term, none before it is
+  none-after : (ps : List Prefix) (d : CertificateRow) (rs : List CertificateRow) (A : List Certificate) (c : Certificate) (B : List Certificate)
+      → numberedAfter d rs ≡ true → map (certificateIn ps) rs ≡ A ++ (c ∷ B) → c .term ≤ t
+      → (d .term ≤ c .term) × (map (lowered t first) A ≡ A)
+  unfolding numberedAfter
+  none-after ps d [] A c B n e l = absurd (let z = ap length e ∙ length-append A (c ∷ B) in omega arith)
+  none-after ps d (r ∷ rs) [] c B n e l =
+      let p = both (follows d r) _ n in
+      let q : r .term ≡ c .term = ap (λ (y : Certificate). y .term) (head-eq-of-cons-eq e) in
+      (omega (arith, follows-rise d r (p .0)), refl)
+  none-after ps d (r ∷ rs) (a ∷ A) c B n e l =
+      let p = both (follows d r) _ n in
+      let q : r .term ≡ a .term = ap (λ (y : Certificate). y .term) (head-eq-of-cons-eq e) in
+      let ih = none-after ps r rs A c B (p .1) (tail-eq-of-cons-eq e) l in
+      (omega (arith, follows-rise d r (p .0), ih .0), λ i. lowered-not a (omega (arith, ih .0)) i ∷ ih .1 i)
+
+  none-before : (ps : List Prefix) (rs : List CertificateRow) (A : List Certificate) (c : Certificate) (B : List Certificate)
+      → numbered rs ≡ true → map (certificateIn ps) rs ≡ A ++ (c ∷ B) → c .term ≤ t → map (lowered t first) A ≡ A
+  unfolding numbered
+  none-before ps [] A c B n e l = absurd (let z = ap length e ∙ length-append A (c ∷ B) in omega arith)
+  none-before ps (r ∷ rs) [] c B n e l = refl
+  none-before ps (r ∷ rs) (a ∷ A) c B n e l =
+      let q : r .term ≡ a .term = ap (λ (y : Certificate). y .term) (head-eq-of-cons-eq e) in
+      let p = none-after ps r rs A c B (both (eqb (r .number) 0) _ n .1) (tail-eq-of-cons-eq e) l in
+      λ i. lowered-not a (omega (arith, p .0)) i ∷ p .1 i
+
+  -- the last of k certificates
+  module _ (h : Bytes) (x : History) (s : Stands h x) (A : List Certificate) (c : Certificate) (B : List Certificate) (k : ℕ)
+      (e : x .certificates ≡ A ++ (c ∷ B)) (a : length A ≡ k) where
+    place : k < wordAt h 6 1
+    place =
+        let held : length (x .certificates) ≡ wordAt h 6 1 = ap (λ (y : History). length (y .certificates)) (sym (s .decodes)) ∙ certificates-read h in
+        let more = ap length e ∙ length-append A (c ∷ B) in
+        omega arith
+
+    abbrev row : CertificateRow
+    row = certificateOf h k
+
+    here : c ≡ certificateIn (x .prefixes) row
+    here =
+        sym (getD-at A c B (certificateIn (x .prefixes) row) k a)
+        ∙ ap (λ (cs : List Certificate). getD cs k (certificateIn (x .prefixes) row)) (sym e) ∙ certificate-at h x s k place
+
+    here-term : c .term ≡ row .term
+    here-term = ap (λ (y : Certificate). y .term) here
+
+    all-stay : row .term ≤ t → map (lowered t first) (A ++ (c ∷ [])) ≡ A ++ (c ∷ [])
+    all-stay l =
+        let m : c .term ≤ t = omega (arith, here-term) in
+        map-append (lowered t first) A (c ∷ [])
+        ∙ (λ i. none-before (x .prefixes) (tablesOf h .certificates) A c B (kept h x s .numbered) (certificates-is h x s ∙ e) m i ++ (lowered-not c m i ∷ []))
+
+    one-lowered : t < row .term → Stands (lowerBytes h first k) (withElections x (A ++ (lowered t first c ∷ B)))
+    unfolding lowerBytes
+    one-lowered l =
+        let C = certificateIn (x .prefixes) row in
+        let m : t < c .term = omega (arith, here-term) in
+        let to : set (x .certificates) k (withMark C (first - 1)) ≡ A ++ (withMark c (first - 1) ∷ B) =
+        ap (λ (cs : List Certificate). set cs k (withMark C (first - 1))) e ∙ set-at A c B (withMark C (first - 1)) k a
+        ∙ ap (λ (y : Certificate). A ++ (withMark y (first - 1) ∷ B)) (sym here) in
+        let by : leb first (c .mark) ≡ leb first (row .mark) = ap (λ (y : Certificate). leb first (y .mark)) here in
+        let is-low = lowered-by c m ∙ ap (λ (b : Bool). cond b (withMark c (first - 1)) c) by in
+        subst (λ (y : Certificate). Stands (cond (leb first (row .mark)) (markSet h k (first - 1)) h) (withElections x (A ++ (y ∷ B)))) (sym is-low)
+        (⊎-elim
+        (λ p.
+        let low : first ≤ row .mark = leb-true _ _ p in
+        let most = formed h (s .right) .certificate k place .mark in
+        let w = mark-written h x s k (first - 1) place (omega arith) in
+        subst (λ (b : Bool). Stands (cond b (markSet h k (first - 1)) h) (withElections x (A ++ (cond b (withMark c (first - 1)) c ∷ B)))) (sym p)
+        (subst (λ (cs : List Certificate). Stands (markSet h k (first - 1)) (withElections x cs)) to w))
+        (λ p.
+        subst (λ (b : Bool). Stands (cond b (markSet h k (first - 1)) h) (withElections x (A ++ (cond b (withMark c (first - 1)) c ∷ B)))) (sym p)
+        (subst (λ (cs : List Certificate). Stands h (withElections x cs)) e s))
+        (either (leb first (row .mark))))
+
+    abbrev Lowered : Bytes → Type 0
+    Lowered u = Stands u (withElections x (map (lowered t first) (A ++ (c ∷ [])) ++ B))
+
+    -- those before it are lowered by the loop's further turns, or there is no further turn
+    back-step : ((u : Bytes) (y : History) → Stands u y → y .certificates ≡ A ++ (lowered t first c ∷ B)
+        → Stands (lowerBack u t first k) (withElections y (map (lowered t first) A ++ (lowered t first c ∷ B))))
+        → Lowered (lowerBack h t first (suc k))
+    unfolding lowerBack
+    back-step ih =
+        ⊎-elim
+        (λ p.
+        let to = e ∙ sym (append-snoc A c B) ∙ ap (λ (l : List Certificate). l ++ B) (sym (all-stay (leb-true _ _ p))) in
+        subst Lowered (sym (cond-true (leb (row .term) t) h _ p)) (subst (λ (cs : List Certificate). Stands h (withElections x cs)) to s))
+        (λ p.
+        let to : map (lowered t first) A ++ (lowered t first c ∷ B) ≡ map (lowered t first) (A ++ (c ∷ [])) ++ B =
+        sym (append-snoc (map (lowered t first) A) (lowered t first c) B)
+        ∙ ap (λ (l : List Certificate). l ++ B) (sym (map-append (lowered t first) A (c ∷ []))) in
+        let low = one-lowered (leb-false _ _ p) in
+        subst Lowered (sym (cond-false (leb (row .term) t) h _ p))
+        (subst (λ (cs : List Certificate). Stands (lowerBack (lowerBytes h first k) t first k) (withElections x cs)) to
+        (ih (lowerBytes h first k) (withElections x (A ++ (lowered t first c ∷ B))) low refl)))
+        (either (leb (row .term) t))
+
+  -- the first k certificates of a history that stands: every one of a greater term whose mark is at or past the index is lowered
+  pub lower-means : (k : ℕ) (A B : List Certificate) (h : Bytes) (x : History) → Stands h x → x .certificates ≡ A ++ B → length A ≡ k
+      → Stands (lowerBack h t first k) (withElections x (map (lowered t first) A ++ B))
+  unfolding lowerBack
+  lower-means zero [] B h x s e a = subst (λ (cs : List Certificate). Stands h (withElections x cs)) e s
+  lower-means zero (c ∷ A) B h x s e a = absurd (omega arith)
+  lower-means (suc k) [] B h x s e a = absurd (omega arith)
+  lower-means (suc k) (d ∷ A) B h x s e a =
+      let r = last-of d A in
+      let split : x .certificates ≡ r .before ++ (r .last ∷ B) = e ∙ ap (λ (l : List Certificate). l ++ B) (r .are) ∙ append-snoc (r .before) (r .last) B in
+      let long : length (r .before) ≡ k = (let z = sym a ∙ ap length (r .are) ∙ length-append (r .before) (r .last ∷ []) in omega arith) in
+      subst (λ (l : List Certificate). Stands (lowerBack h t first (suc k)) (withElections x (map (lowered t first) l ++ B))) (sym (r .are))
+      (back-step h x s (r .before) (r .last) B k split long
+      (λ u y w q. lower-means k (r .before) (lowered t first (r .last) ∷ B) u y w q long))

@@ -1,2 +1,2 @@
-// The marks of the certificates that a late commit term lowers. Stands on certificate_rows and certificate_mark.
+// The marks of the certificates that a late commit term lowers. Stands on storage, and on certificate_mark in its laws.
 pub mod marks;

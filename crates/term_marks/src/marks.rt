@@ -1,18 +1,38 @@
-// The checked marks of certificates: a mark alone is written, so the rest of its certificate stays as it is.
+// The checked marks of certificates. Of a row only its term and its mark are read, and the mark alone is written, so the
+// rest of its certificate stays as it is.
 ghost use mathlib.Core.Path.{_≡_};
 ghost use Prim.Native.Nat.{_≤_, _<_};
 ghost use lib.ListN.{length};
-ghost use Rattle.term_marks.specs.Marks.{markSet, lowerBytes, lowerAll};
-use certificate_rows::certificates::certificate_at;
+ghost use Rattle.term_marks.specs.Marks.{certificateOf, markSet, lowerBytes, lowerBack};
 use storage_bytes::layout::CERTIFICATE_WIDTH;
 use storage_bytes::layout::CERTIFICATES_LENGTH;
 use storage_bytes::layout::CERTIFICATES_START;
 use storage_bytes::layout::part;
+use storage_bytes::words::get16;
+use storage_bytes::words::get32;
 use storage_bytes::words::put16;
 use units::LogIndex;
 use units::Term;
 
+// The term of certificate k.
+fn election_term(history: &[u8], k: usize) -> Term
+    requires { ⌜ (k < 64) × (length (now history) ≡ 24137) ⌝ }
+    ensures { λ r. ⌜ r .0 ≡ certificateOf (now (history .entry)) k .term ⌝ }
+{
+    let certificates = part(history, CERTIFICATES_START, CERTIFICATES_LENGTH);
+    Term(get32(certificates, k * CERTIFICATE_WIDTH))
+}
+
 // The mark of certificate k.
+pub fn checked_mark(history: &[u8], k: usize) -> LogIndex
+    requires { ⌜ (k < 64) × (length (now history) ≡ 24137) ⌝ }
+    ensures { λ r. ⌜ r .0 ≡ certificateOf (now (history .entry)) k .mark ⌝ }
+{
+    let certificates = part(history, CERTIFICATES_START, CERTIFICATES_LENGTH);
+    LogIndex(get16(certificates, k * CERTIFICATE_WIDTH + 6))
+}
+
+// The mark of certificate k, written.
 pub fn set_mark(history: &mut [u8], k: usize, mark: LogIndex)
     requires { ⌜ (k < 64) × (length (now history) ≡ 24137) ⌝ }
     ensures { λ r. ⌜ now (history .exit) ≡ markSet (now (history .entry)) k (mark .0) ⌝ }
@@ -21,32 +41,28 @@ pub fn set_mark(history: &mut [u8], k: usize, mark: LogIndex)
     put16(&mut history[..], CERTIFICATES_START + o, mark.0);
 }
 
-// Where certificate k is of a greater term and its mark is at or past the first changed index, the mark goes before it.
-fn lower_mark(history: &mut [u8], k: usize, term: Term, first: LogIndex)
+// Where the mark of certificate k is at or past the first changed index, it goes before that.
+fn lower_mark(history: &mut [u8], k: usize, first: LogIndex)
     requires { ⌜ (k < 64) × (1 ≤ first .0) × (length (now history) ≡ 24137) ⌝ }
-    ensures { λ r. ⌜ now (history .exit) ≡ lowerBytes (now (history .entry)) (term .0) (first .0) k ⌝ }
+    ensures { λ r. ⌜ now (history .exit) ≡ lowerBytes (now (history .entry)) (first .0) k ⌝ }
 {
-    let c = certificate_at(
-        part(&history[..], CERTIFICATES_START, CERTIFICATES_LENGTH),
-        k,
-    );
-    if c.term.0 <= term.0 {
-        return;
+    if first.0 <= checked_mark(&history[..], k).0 {
+        set_mark(&mut history[..], k, LogIndex(first.0 - 1));
     }
-    if c.mark.0 < first.0 {
-        return;
-    }
-    set_mark(&mut history[..], k, LogIndex(first.0 - 1));
 }
 
-// Of each of n certificates.
+// Of the n certificates, those of a greater term. They stand by term, so it goes from the last back and stops at the
+// first whose term is not greater: none before that is.
 pub fn lower_marks(history: &mut [u8], n: usize, term: Term, first: LogIndex)
     requires { ⌜ (n ≤ 64) × (1 ≤ first .0) × (length (now history) ≡ 24137) ⌝ }
-    ensures { λ r. ⌜ now (history .exit) ≡ lowerAll (now (history .entry)) (term .0) (first .0) 0 n ⌝ }
+    ensures { λ r. ⌜ now (history .exit) ≡ lowerBack (now (history .entry)) (term .0) (first .0) n ⌝ }
 {
-    let mut k = 0;
-    while k < n {
-        lower_mark(&mut history[..], k, term, first);
-        k += 1;
+    let mut k = n;
+    while 0 < k {
+        k -= 1;
+        if election_term(&history[..], k).0 <= term.0 {
+            return;
+        }
+        lower_mark(&mut history[..], k, first);
     }
 }
