@@ -9,7 +9,7 @@ use borrow.Author.Tests.{lt-ltb, le-ltb}
 use Rattle.model.specs.Sizes.{Bytes}
 use Rattle.model.proofs.Tests.{cond-cases, cond-true, cond-false}
 use Rattle.storage_bytes.specs.Words.{wordAt}
-use Rattle.storage.specs.Tables.{CertificateRow, certificateRow, certificatesPart}
+use Rattle.storage.specs.Tables.{CertificateRow}
 use Rattle.term_marks.specs.Marks.{markSet, certificateOf}
 use Rattle.term_marks.proofs.MarkTurns.{mark-length}
 use Rattle.certificate_mark.specs.Marks.{markedRow}
@@ -23,20 +23,17 @@ moved-length h k end =
     cond-cases (λ (u : Bytes). length u ≡ length h) (ltb (certificateOf h k .mark) end) (markSet h k end) h (λ _. mark-length h k end)
     (λ _. refl)
 
-module _ (h : Bytes) (k end : ℕ) (p : Bytes) (ep : p ≡ certificatesPart h) (c : CertificateRow) (e : c ≡ certificateRow p k) where
-  here : c ≡ certificateOf h k
-  here = e ∙ ap (λ (q : Bytes). certificateRow q k) ep
-
-  pub mark-passed : c .mark < end → (d : CertificateRow) → d ≡ markedRow c end → (u : Bytes) → u ≡ markSet h k (d .mark) → u ≡ markMoved h k end
+module _ (h : Bytes) (k end m : ℕ) (e : m ≡ certificateOf h k .mark) where
+  pub mark-stays : end ≤ m → h ≡ markMoved h k end
   unfolding markMoved
-  mark-passed l d ed u eu =
+  mark-stays l = sym (cond-false (ltb (certificateOf h k .mark) end) _ h (le-ltb _ end (subst (λ (y : ℕ). end ≤ y) e l)))
+
+  -- the certificate that was lent has the end as its mark
+  pub mark-passed : m < end → (c d : CertificateRow) → d ≡ markedRow c end → (u : Bytes) → u ≡ markSet h k (d .mark) → u ≡ markMoved h k end
+  unfolding markMoved
+  mark-passed l c d ed u eu =
       eu ∙ ap (λ (x : CertificateRow). markSet h k (x .mark)) ed
-      ∙ sym (cond-true (ltb (certificateOf h k .mark) end) _ h (lt-ltb _ end (subst (λ (x : CertificateRow). x .mark < end) here l)))
-
-  pub mark-stays : end ≤ c .mark → h ≡ markMoved h k end
-  unfolding markMoved
-  mark-stays l =
-      sym (cond-false (ltb (certificateOf h k .mark) end) _ h (le-ltb _ end (subst (λ (x : CertificateRow). end ≤ x .mark) here l)))
+      ∙ sym (cond-true (ltb (certificateOf h k .mark) end) _ h (lt-ltb _ end (subst (λ (y : ℕ). y < end) e l)))
 
 -- ---- all of them
 

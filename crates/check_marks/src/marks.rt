@@ -1,5 +1,5 @@
 // Checked marks: that of a certificate moves to the committed end where that passes it, with or without a relevant index.
-// Only the mark moves.
+// Only the mark moves. One that is not passed is left as it is, and nothing else of its certificate is read.
 ghost use mathlib.Core.Path.{_≡_};
 ghost use Prim.Native.Nat.{_≤_, _<_};
 ghost use lib.ListN.{length};
@@ -11,6 +11,7 @@ use storage::head::certificate_count;
 use storage_bytes::layout::CERTIFICATES_LENGTH;
 use storage_bytes::layout::CERTIFICATES_START;
 use storage_bytes::layout::part;
+use term_marks::marks::checked_mark;
 use term_marks::marks::set_mark as store_mark;
 use units::LogIndex;
 
@@ -19,14 +20,15 @@ pub fn move_mark(history: &mut [u8], k: usize, end: LogIndex)
     requires { ⌜ (k < 64) × (length (now history) ≡ 24137) ⌝ }
     ensures { λ r. ⌜ now (history .exit) ≡ markMoved (now (history .entry)) k (end .0) ⌝ }
 {
+    if end.0 <= checked_mark(&history[..], k).0 {
+        return;
+    }
     let c = certificate_at(
         part(&history[..], CERTIFICATES_START, CERTIFICATES_LENGTH),
         k,
     );
-    if c.mark.0 < end.0 {
-        let moved = with_mark(c, end);
-        store_mark(&mut history[..], k, moved.mark);
-    }
+    let moved = with_mark(c, end);
+    store_mark(&mut history[..], k, moved.mark);
 }
 
 // The marks of all certificates.

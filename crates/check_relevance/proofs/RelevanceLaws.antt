@@ -19,7 +19,7 @@ use Rattle.storage_bytes.specs.Words.{wordAt}
 use Rattle.storage.specs.Tables.{CertificateRow, termRow, termsPart}
 use Rattle.storage.specs.Values.{committedEnd}
 use Rattle.storage_bytes.proofs.ListLaws.{tabulate-length, tabulate-snoc}
-use Rattle.check_relevance.specs.Relevance.{lastRelevant, recordedEnd, relevantIn}
+use Rattle.check_relevance.specs.Relevance.{lastRelevant, recordedThrough, recordedEnd, relevantIn}
 
 -- ---- the turns of the loop
 
@@ -143,22 +143,22 @@ module _ (mark end t : ℕ) where
 -- ---- what is read
 
 module _ (h : Bytes) where
-  module _ (a b : ℕ) (ea : a ≡ committedEnd h) (eb : b ≡ wordAt h 2 2) where
-    lesser : min a b ≡ recordedEnd h
-    unfolding recordedEnd
-    lesser = λ i. min (ea i) (eb i)
+  module _ (end n : ℕ) (e : n ≡ wordAt h 2 2) where
+    pub recorded-shorter : end < n → end ≡ recordedThrough h end
+    recorded-shorter l = (let z : end ≡ min end n = omega arith in z) ∙ ap (min end) e
 
-    pub recorded-shorter : a < b → a ≡ recordedEnd h
-    recorded-shorter l = (let e : a ≡ min a b = omega arith in e) ∙ lesser
+    pub recorded-longer : n ≤ end → n ≡ recordedThrough h end
+    recorded-longer l = (let z : n ≡ min end n = omega arith in z) ∙ ap (min end) e
 
-    pub recorded-longer : b ≤ a → b ≡ recordedEnd h
-    recorded-longer l = (let e : b ≡ min a b = omega arith in e) ∙ lesser
+  module _ (c : CertificateRow) (end : ℕ) (ee : end ≡ committedEnd h) where
+    pub relevant-read : (ts : Bytes) (e r : ℕ) → ts ≡ termsPart h → e ≡ recordedThrough h end
+        → r ≡ lastRelevant (termRow ts) (c .mark) (c .term) e → r ≡ relevantIn h c
+    unfolding relevantIn recordedEnd
+    relevant-read ts e r a b q = q ∙ (λ i. lastRelevant (termRow (a i)) (c .mark) (c .term) ((b ∙ ap (recordedThrough h) ee) i))
 
-  pub recorded-within : recordedEnd h ≤ wordAt h 2 2
-  unfolding recordedEnd
-  recorded-within = omega arith
-
-  pub relevant-read : (c : CertificateRow) (ts : Bytes) (e r : ℕ) → ts ≡ termsPart h → e ≡ recordedEnd h
-      → r ≡ lastRelevant (termRow ts) (c .mark) (c .term) e → r ≡ relevantIn h c
-  unfolding relevantIn
-  relevant-read c ts e r a b q = q ∙ (λ i. lastRelevant (termRow (a i)) (c .mark) (c .term) (b i))
+    -- the mark is not passed: no index is after it
+    pub relevant-not-passed : end ≤ c .mark → 0 ≡ relevantIn h c
+    unfolding relevantIn recordedEnd
+    relevant-not-passed l =
+        let z : committedEnd h ≤ c .mark = subst (λ (y : ℕ). y ≤ c .mark) ee l in
+        sym (at-none (termRow (termsPart h)) (c .mark) (c .term) (recordedThrough h (committedEnd h)) (omega arith))

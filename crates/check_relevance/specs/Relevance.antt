@@ -15,10 +15,14 @@ lastRelevant row mark t zero = 0
 lastRelevant row mark t (suc k) =
     cond (ltb mark (suc k)) (cond (ltb (row k) t) (suc k) (lastRelevant row mark t k)) 0
 
--- the last committed index with a recorded term: an absent one is not relevant
+-- the last index up to the end with a recorded term: an absent one is not relevant
+abbrev pub recordedThrough : Bytes → ℕ → ℕ
+recordedThrough h end = min end (wordAt h 2 2)
+
+-- the last committed one
 unfoldable pub recordedEnd : Bytes → ℕ
 unfolding committedEnd wordAt
-recordedEnd h = min (committedEnd h) (wordAt h 2 2)
+recordedEnd h = recordedThrough h (committedEnd h)
 
 -- the certificate's relevant index, 0 where it has none
 unfoldable pub relevantIn : Bytes → CertificateRow → ℕ

@@ -2,9 +2,21 @@
 -- Assumes nothing.
 use Rattle.check_marks.proofs.MarkLaws.{mark-passed, mark-stays}
 use Rattle.certificate_rows.specs.Values.{certificateValue}
+use native.Mathlib.Omega.{arith}
 use borrow.Author.Needs.{needs}
 use Rattle.check_marks.proofs.marks.move_mark.Statement.{statement}
 use Rattle.check_marks.proofs.marks.move_mark.Tie as tie
+
+checked-mark-requires : tie.Need-checked-mark-requires
+checked-mark-requires c κs = search needs
+
+same-length : tie.Need-same-length
+same-length c = search needs
+
+returns : tie.Need-returns
+returns c =
+    let s = c .before .before .before .before .before .before .args in
+    mark-stays (s .history .now) (s .k) (s .end .0) _ (c .before .before .before .checked-mark .ensures) (c .if1 .taken)
 
 part-requires : tie.Need-part-requires
 part-requires c κs = search needs
@@ -16,33 +28,26 @@ with-mark-requires : tie.Need-with-mark-requires
 with-mark-requires c κs = search needs
 
 set-mark-requires : tie.Need-set-mark-requires
-set-mark-requires c κs = search needs
-
-same-length : tie.Need-same-length
-same-length c = search needs
-
-returns : tie.Need-returns
-returns c =
-    let s = c .before .before .before .before .before .before .before .before .before .before .before .before .args in
-    mark-passed (s .history .now) (s .k) (s .end .0) _ (c .before .before .before .before .before .before .before .before .before .part .ensures .is) _ (c .before .before .before .before .before .before .before .before .certificate-at .ensures) (c .before .before .before .before .before .if1 .taken) (certificateValue (c .before .before .before .before .with-mark .result)) (c .before .before .before .before .with-mark .ensures) _ (c .before .before .set-mark .ensures)
+set-mark-requires c κs = let s = c .before .before .before .before .before .before .before .before .before .before .before in (omega (arith, s .pre .0), s .pre .1)
 
 same-length-2 : tie.Need-same-length-2
 same-length-2 c = search needs
 
 returns-2 : tie.Need-returns-2
 returns-2 c =
-    let s = c .before .before .before .before .before .before .before .args in
-    mark-stays (s .history .now) (s .k) (s .end .0) _ (c .before .before .before .before .part .ensures .is) _ (c .before .before .before .certificate-at .ensures) (c .if1 .left)
+    let s = c .before .before .before .before .before .before .before .before .before .before .before .before .before .before .args in
+    mark-passed (s .history .now) (s .k) (s .end .0) _ (c .before .before .before .before .before .before .before .before .before .before .before .checked-mark .ensures) (c .before .before .before .before .before .before .before .before .if1 .left) (certificateValue (c .before .before .before .before .before .certificate-at .result)) (certificateValue (c .before .before .before .before .with-mark .result)) (c .before .before .before .before .with-mark .ensures) _ (c .before .before .set-mark .ensures)
 
 pub move-mark-spec : {M : Type 1} → statement M
 move-mark-spec =
     tie.close
     (tie.spec
+    checked-mark-requires
+    same-length
+    returns
     part-requires
     certificate-at-requires
     with-mark-requires
     set-mark-requires
-    same-length
-    returns
     same-length-2
     returns-2)

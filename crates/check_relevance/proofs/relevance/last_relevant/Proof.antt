@@ -11,45 +11,47 @@ use Rattle.check_relevance.proofs.relevance.last_relevant.Statement.{st
 use Rattle.check_relevance.proofs.relevance.last_relevant.Tie as tie
 
 abbrev Inv-loop : tie.InvT-loop
-Inv-loop terms end mark term i₀ i = (i ≤ end) × (lastRelevant (termRow terms) (mark .0) (term .0) end ≡ lastRelevant (termRow terms) (mark .0) (term .0) i)
+Inv-loop terms mark term index₀ index = (index .0 ≤ index₀ .0) × (lastRelevant (termRow terms) (mark .0) (term .0) (index₀ .0) ≡ lastRelevant (termRow terms) (mark .0) (term .0) (index .0))
 
 abbrev μ-loop : tie.MeasureT-loop
-μ-loop terms end mark term i₀ i = i
+μ-loop terms mark term index₀ index = index .0
 
 loop-holds : tie.Need-loop-holds Inv-loop μ-loop
 loop-holds c = (omega arith, refl)
 
-sub-term-at : tie.Need-sub-term-at Inv-loop μ-loop
-sub-term-at c = search needs
-
-term-at-requires : tie.Need-term-at-requires Inv-loop μ-loop
-term-at-requires c κs = search needs
+term-of-requires : tie.Need-term-of-requires Inv-loop μ-loop
+term-of-requires c κs =
+    let s = c .before .before .before .before .before .pre in
+    let i = c .before .before .before .loop .inv .0 in
+    let l = c .if1 .taken in
+    (omega arith, omega (arith, s .0), s .1)
 
 returns : tie.Need-returns Inv-loop μ-loop
 returns c =
-    let l = c .before .before .before .before .before .before in
-    let s = l .before .before .args in
-    relevant-found (termRow (s .terms .now)) (s .mark .0) (s .term .0) (s .end) (l .loop .i) (l .loop .inv .1) (c .before .before .before .before .if1 .taken) _ (c .before .before .before .term-at .ensures) (c .if2 .taken)
+    let l = c .before .before .before .before .before .before .before .loop in
+    let s = c .before .before .before .before .before .before .before .before .before .args in
+    relevant-found (termRow (s .terms .now)) (s .mark .0) (s .term .0) (s .end .0) (l .index .0) (l .inv .1) (c .before .before .before .before .if1 .taken) _ (c .before .before .before .term-of .ensures) (c .if2 .taken)
 
-sub-i : tie.Need-sub-i Inv-loop μ-loop
-sub-i c = search needs
+sub-t8 : tie.Need-sub-t8 Inv-loop μ-loop
+sub-t8 c = search needs
 
 loop-less : tie.Need-loop-less Inv-loop μ-loop
 loop-less c = search needs
 
 loop-again : tie.Need-loop-again Inv-loop μ-loop
 loop-again c =
-    let l = c .before .before .before .before .before .before in
-    let s = l .before .before .args in (
+    let l = c .before .before .before .before .before .before .before .before .loop in
+    let i = l .inv .0 in
+    let s = c .before .before .before .before .before .before .before .before .before .before .args in (
       omega arith,
-      relevant-next (termRow (s .terms .now)) (s .mark .0) (s .term .0) (s .end) (l .loop .i) (l .loop .inv .1) (c .before .before .before .before .if1 .taken) _ (c .before .before .before .term-at .ensures) (c .if2 .left),
+      relevant-next (termRow (s .terms .now)) (s .mark .0) (s .term .0) (s .end .0) (l .index .0) (l .inv .1) (c .before .before .before .before .before .if1 .taken) _ (c .before .before .before .before .term-of .ensures) (c .before .if2 .left),
     )
 
 returns-2 : tie.Need-returns-2 Inv-loop μ-loop
 returns-2 c =
-    let l = c .before .before in
-    let s = l .before .before .args in
-    relevant-none (termRow (s .terms .now)) (s .mark .0) (s .term .0) (s .end) (l .loop .i) (l .loop .inv .1) (c .if1 .left)
+    let l = c .before .before .before .loop in
+    let s = c .before .before .before .before .before .args in
+    relevant-none (termRow (s .terms .now)) (s .mark .0) (s .term .0) (s .end .0) (l .index .0) (l .inv .1) (c .if1 .left)
 
 pub last-relevant-spec : {M : Type 1} → statement M
 last-relevant-spec =
@@ -58,10 +60,9 @@ last-relevant-spec =
     Inv-loop
     μ-loop
     loop-holds
-    sub-term-at
-    term-at-requires
+    term-of-requires
     returns
-    sub-i
+    sub-t8
     loop-less
     loop-again
     returns-2)
