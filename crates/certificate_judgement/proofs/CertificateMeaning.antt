@@ -16,13 +16,14 @@ use Rattle.model.specs.Sizes.{Bytes}
 use Rattle.model.specs.Entry.{Prefix, prefixes, same, begins}
 use Rattle.model.specs.History.{History}
 use Rattle.model.specs.Check.{lastBelow, relevant, lacks, lacking, lackings, someRelevant}
-use Rattle.model.proofs.Tests.{either, cond-false, no-begins}
+use Rattle.model.proofs.Tests.{either, no-begins}
 use Rattle.storage_bytes.specs.Words.{wordAt}
 use Rattle.storage.specs.Tables.{CertificateRow, termRow, termsPart}
 use Rattle.storage.specs.Decode.{prefixAt, certificateIn}
 use Rattle.storage.proofs.Meanings.{Stands, committed-stored, terms-stored, end-is}
-use Rattle.committed_prefix.specs.Prefix.{keptOf, agreeIn}
-use Rattle.committed_prefix.specs.declared.committed.Kept.{Kept}
+use Rattle.prefix_lookup.specs.Prefix.{storedOf}
+use Rattle.prefix_lookup.proofs.StoredLaws.{stored-none, stored-read}
+use Rattle.committed_prefix.specs.Prefix.{agreeIn}
 use Rattle.committed_prefix.proofs.PrefixLaws.{agree-at, agree-beyond}
 use Rattle.storage.specs.Values.{committedEnd}
 use Rattle.check_relevance.specs.Relevance.{lastRelevant, recordedEnd, relevantIn}
@@ -65,10 +66,11 @@ joined r b xs = by (eqb r 0) ∙ ap (λ (t : Bool). cond (t && b) xs []) (positi
     by true = refl
     by false = refl
 
-either-flag : (r : ℕ) (b c : Bool) → (cond (eqb r 0) b true || c) ≡ (b || (ltb 0 r || c))
-either-flag r b c = by (eqb r 0) b ∙ ap (λ (t : Bool). b || (t || c)) (positive r)
+-- flag 4 is set before, by the first, or by a later one
+either-flag : (r b : ℕ) (c : Bool) → cond c 4 (cond (eqb r 0) b 4) ≡ cond (ltb 0 r || c) 4 b
+either-flag r b c = by (eqb r 0) c ∙ ap (λ (t : Bool). cond (t || c) 4 b) (positive r)
   where
-    by : (z d : Bool) → (cond z d true || c) ≡ (d || (not z || c))
+    by : (z d : Bool) → cond d 4 (cond z b 4) ≡ cond (not z || d) 4 b
     by true d = refl
     by false true = refl
     by false false = refl
@@ -109,13 +111,14 @@ module _ (h : Bytes) (x : History) (s : Stands h x) where
 
     -- where none is kept the committed prefix is empty, and every log begins with it
     kept-means : (n : ℕ) → wordAt h 4 2 ≡ n
-        → lacksKept h (c .log) i (keptOf n) ≡ not (begins (prefixAt (x .prefixes) (c .log)) (take i (x .committed)))
+        → lacksKept h (c .log) i (storedOf n) ≡ not (begins (prefixAt (x .prefixes) (c .log)) (take i (x .committed)))
     kept-means zero e =
         let none-kept : x .committed ≡ [] = sym (committed-stored h x s) ∙ ap (prefixAt (x .prefixes)) e in
         let first : i ≡ 0 = (let l = ap length none-kept in omega arith) in
-        sym (ap not ((λ j. begins (prefixAt (x .prefixes) (c .log)) (take (first j) (none-kept j))) ∙ begins-empty (prefixAt (x .prefixes) (c .log))))
+        ap (lacksKept h (c .log) i) (sym (stored-none 0 refl))
+        ∙ sym (ap not ((λ j. begins (prefixAt (x .prefixes) (c .log)) (take (first j) (none-kept j))) ∙ begins-empty (prefixAt (x .prefixes) (c .log))))
     kept-means (suc n) e =
-        ap (lacksKept h (c .log) i) (cond-false (eqb (suc n) 0) Kept.Nothing (Kept.Prefix (suc n)) (ne-eqb (suc n) 0 (λ z. omega arith)))
+        ap (lacksKept h (c .log) i) (sym (stored-read (suc n) (suc n) refl (λ z. omega arith)))
         ∙ ap not (ap (λ (m : ℕ). agreeIn h (c .log) m i) (sym e) ∙ compared)
 
     pub lacks-means : lacksThrough h c i ≡ lacks (certificateIn (x .prefixes) c .log) (take i (x .committed))
@@ -143,13 +146,12 @@ module _ (h : Bytes) (x : History) (s : Stands h x) where
 
   -- ---- flag 4
 
-  pub flags-mean : (cs : List CertificateRow) (b : Bool)
-      → flagsIn h b cs ≡ (b || someRelevant (x .committed) (x .terms) (map (certificateIn (x .prefixes)) cs))
+  pub flags-mean : (cs : List CertificateRow) (b : ℕ)
+      → flagsIn h b cs ≡ cond (someRelevant (x .committed) (x .terms) (map (certificateIn (x .prefixes)) cs)) 4 b
   unfolding flagsIn flagIn someRelevant
-  flags-mean [] true = refl
-  flags-mean [] false = refl
+  flags-mean [] b = refl
   flags-mean (c ∷ cs) b =
       let later = someRelevant (x .committed) (x .terms) (map (certificateIn (x .prefixes)) cs) in
-      flags-mean cs (cond (eqb (relevantIn h c) 0) b true)
+      flags-mean cs (cond (eqb (relevantIn h c) 0) b 4)
       ∙ either-flag (relevantIn h c) b later
-      ∙ ap (λ (r : ℕ). b || (ltb 0 r || later)) (relevant-means c)
+      ∙ ap (λ (r : ℕ). cond (ltb 0 r || later) 4 b) (relevant-means c)

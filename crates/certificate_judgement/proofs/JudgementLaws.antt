@@ -19,8 +19,10 @@ use Rattle.log_violation.specs.Violation.{noteHeld, noteBytes, heldAll, bytesAl
 use Rattle.log_violation.proofs.ViolationLaws.{all-length, held-append, bytes-append, held-few}
 use Rattle.storage.proofs.WellFormed.{Formed}
 use Rattle.check_relevance.specs.Relevance.{relevantIn}
-use Rattle.committed_prefix.specs.Prefix.{keptOf, agreeIn}
-use Rattle.committed_prefix.specs.declared.committed.Kept.{Kept}
+use Rattle.units.specs.declared.LogPrefixWitness.{LogPrefixWitness}
+use Rattle.prefix_lookup.specs.Prefix.{storedOf}
+use Rattle.prefix_lookup.specs.declared.lookup.Stored.{Stored}
+use Rattle.committed_prefix.specs.Prefix.{agreeIn}
 use Rattle.certificate_judgement.specs.Judgement.{lacksKept, lacksThrough, lackingOf, lackingAt, lackingIn, flagIn, NotedAs, JudgedAs, lackingsIn, flagsIn, JudgedAll}
 
 -- a certificate as it is read, and its log, which is stored
@@ -38,15 +40,15 @@ module _ (h : Bytes) (c : CertificateRow) (i : ℕ) where
   unfolding lacksThrough
   lacks-absent e = sym (cond-true (eqb (c .present) 0) true _ (eq-eqb (c .present) 0 e))
 
-  module _ (there : c .present ≡ 0 → ⊥) (k : Kept) (ek : k ≡ keptOf (wordAt h 4 2)) where
+  module _ (there : c .present ≡ 0 → ⊥) (k : Stored) (ek : k ≡ storedOf (wordAt h 4 2)) where
     kept-is : lacksKept h (c .log) i k ≡ lacksThrough h c i
     unfolding lacksThrough
     kept-is = ap (lacksKept h (c .log) i) ek ∙ sym (cond-false (eqb (c .present) 0) true _ (ne-eqb (c .present) 0 there))
 
-    pub lacks-nothing : k ≡ Kept.Nothing → false ≡ lacksThrough h c i
+    pub lacks-nothing : k ≡ Stored.Nothing → false ≡ lacksThrough h c i
     lacks-nothing g = sym (ap (lacksKept h (c .log) i) g) ∙ kept-is
 
-    pub lacks-there : (p : ℕ) → k ≡ Kept.Prefix p → (b : Bool) → b ≡ agreeIn h (c .log) p i → not b ≡ lacksThrough h c i
+    pub lacks-there : (p : LogPrefixWitness) → k ≡ Stored.Prefix p → (b : Bool) → b ≡ agreeIn h (c .log) (p .0) i → not b ≡ lacksThrough h c i
     lacks-there p g b e = ap not e ∙ sym (ap (lacksKept h (c .log) i) g) ∙ kept-is
 
 -- ---- one certificate
@@ -75,7 +77,7 @@ module _ (h : Bytes) (c : CertificateRow) where
   pub noted-length : (i : ℕ) (t : Bytes) (held held′ : ℕ) (t′ : Bytes) → NotedAs h c i t held held′ t′ → length t′ ≡ length t
   noted-length i t held held′ t′ w = ap length (w .table) ∙ all-length (lackingAt h c i) t held
 
-  module _ (t : Bytes) (b : Bool) (held r : ℕ) (e : r ≡ relevantIn h c) where
+  module _ (t : Bytes) (b held r : ℕ) (e : r ≡ relevantIn h c) where
     irrelevant : r ≡ 0 → eqb (relevantIn h c) 0 ≡ true
     irrelevant z = eq-eqb (relevantIn h c) 0 (sym e ∙ z)
 
@@ -84,30 +86,30 @@ module _ (h : Bytes) (c : CertificateRow) where
     judged-none z =
         let n : lackingIn h c ≡ [] = cond-true (eqb (relevantIn h c) 0) [] _ (irrelevant z) in
         record {
-          flag = sym (cond-true (eqb (relevantIn h c) 0) b true (irrelevant z));
+          flag = sym (cond-true (eqb (relevantIn h c) 0) b 4 (irrelevant z));
           holds = sym (ap (heldAll t held) n);
           table = sym (ap (bytesAll t held) n);
         }
 
-    pub judged-some : (r ≡ 0 → ⊥) → (held′ : ℕ) (t′ : Bytes) → NotedAs h c r t held held′ t′ → JudgedAs h c t b held true held′ t′
+    pub judged-some : (r ≡ 0 → ⊥) → (held′ : ℕ) (t′ : Bytes) → NotedAs h c r t held held′ t′ → JudgedAs h c t b held 4 held′ t′
     unfolding flagIn lackingIn
     judged-some z held′ t′ w =
         let f : eqb (relevantIn h c) 0 ≡ false = ne-eqb (relevantIn h c) 0 (λ q. z (e ∙ q)) in
         let n : lackingAt h c r ≡ lackingIn h c = ap (lackingAt h c) e ∙ sym (cond-false (eqb (relevantIn h c) 0) [] _ f) in
         record {
-          flag = sym (cond-false (eqb (relevantIn h c) 0) b true f);
+          flag = sym (cond-false (eqb (relevantIn h c) 0) b 4 f);
           holds = w .holds ∙ ap (heldAll t held) n;
           table = w .table ∙ ap (bytesAll t held) n;
         }
 
-  pub judged-length : (t : Bytes) (b : Bool) (held : ℕ) (b′ : Bool) (held′ : ℕ) (t′ : Bytes) → JudgedAs h c t b held b′ held′ t′ → length t′ ≡ length t
+  pub judged-length : (t : Bytes) (b held b′ held′ : ℕ) (t′ : Bytes) → JudgedAs h c t b held b′ held′ t′ → length t′ ≡ length t
   judged-length t b held b′ held′ t′ w = ap length (w .table) ∙ all-length (lackingIn h c) t held
 
 -- ---- the walk over all of them
 
 -- what is left of the certificates from the k-th on gives the rest
-pub record Walking (h t₀ : Bytes) (held m : ℕ) (t : Bytes) (b : Bool) (n k : ℕ) : Type 0 where
-  pub flag : flagsIn h false (certificatesOf h) ≡ flagsIn h b (tabulate (certificateRow (certificatesPart h)) k (m - k))
+pub record Walking (h t₀ : Bytes) (held m : ℕ) (t : Bytes) (b n k : ℕ) : Type 0 where
+  pub flag : flagsIn h 0 (certificatesOf h) ≡ flagsIn h b (tabulate (certificateRow (certificatesPart h)) k (m - k))
   pub holds : heldAll t₀ held (lackingsIn h (certificatesOf h)) ≡ heldAll t n (lackingsIn h (tabulate (certificateRow (certificatesPart h)) k (m - k)))
   pub table : bytesAll t₀ held (lackingsIn h (certificatesOf h)) ≡ bytesAll t n (lackingsIn h (tabulate (certificateRow (certificatesPart h)) k (m - k)))
   pub few : n ≤ 129
@@ -115,12 +117,12 @@ pub record Walking (h t₀ : Bytes) (held m : ℕ) (t : Bytes) (b : Bool) (n k :
   pub within : k ≤ m
 
 module _ (h t₀ : Bytes) (held m : ℕ) where
-  pub walking-starts : m ≡ wordAt h 6 1 → held ≤ 129 → length t₀ ≡ 1024 → Walking h t₀ held m t₀ false held 0
+  pub walking-starts : m ≡ wordAt h 6 1 → held ≤ 129 → length t₀ ≡ 1024 → Walking h t₀ held m t₀ 0 held 0
   walking-starts e f l =
       let s : certificatesOf h ≡ tabulate (certificateRow (certificatesPart h)) 0 (m - 0) =
       ap (λ (x : ℕ). tabulate (certificateRow (certificatesPart h)) 0 x) (let z : wordAt h 6 1 ≡ m - 0 = omega arith in z) in
       record {
-        flag = ap (flagsIn h false) s;
+        flag = ap (flagsIn h 0) s;
         holds = ap (λ (cs : List CertificateRow). heldAll t₀ held (lackingsIn h cs)) s;
         table = ap (λ (cs : List CertificateRow). bytesAll t₀ held (lackingsIn h cs)) s;
         few = f;
@@ -128,7 +130,7 @@ module _ (h t₀ : Bytes) (held m : ℕ) where
         within = omega arith;
       }
 
-  module _ (t : Bytes) (b : Bool) (n k : ℕ) (w : Walking h t₀ held m t b n k) where
+  module _ (t : Bytes) (b n k : ℕ) (w : Walking h t₀ held m t b n k) where
     pub walking-ends : m ≤ k → JudgedAll h t₀ held b n t
     unfolding flagsIn lackingsIn heldAll bytesAll
     walking-ends l =
@@ -149,11 +151,11 @@ module _ (h t₀ : Bytes) (held m : ℕ) where
       unfolding rest
       more = tabulate-cons (certificateRow (certificatesPart h)) k m l ∙ ap (λ (x : CertificateRow). x ∷ rest) (sym e)
 
-      pub walking-next : (b′ : Bool) (n′ : ℕ) (t′ : Bytes) → JudgedAs h c t b n b′ n′ t′ → Walking h t₀ held m t′ b′ n′ (k + 1)
+      pub walking-next : (b′ n′ : ℕ) (t′ : Bytes) → JudgedAs h c t b n b′ n′ t′ → Walking h t₀ held m t′ b′ n′ (k + 1)
       unfolding rest flagsIn lackingsIn
       walking-next b′ n′ t′ j =
           record {
-            flag = w .flag ∙ ap (flagsIn h b) more ∙ ap (λ (x : Bool). flagsIn h x rest) (sym (j .flag));
+            flag = w .flag ∙ ap (flagsIn h b) more ∙ ap (λ (x : ℕ). flagsIn h x rest) (sym (j .flag));
             holds = w .holds ∙ ap (λ (cs : List CertificateRow). heldAll t n (lackingsIn h cs)) more
                 ∙ held-append (lackingIn h c) (lackingsIn h rest) t n
                 ∙ (λ i. heldAll (sym (j .table) i) (sym (j .holds) i) (lackingsIn h rest));

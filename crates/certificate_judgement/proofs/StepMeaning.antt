@@ -3,7 +3,7 @@
 -- Assumes nothing.
 use Prim.Native.Nat.{ℕ, _<_}
 use mathlib.Core.Path.{_≡_, refl, sym, _∙_, ap, subst, subst₂}
-use mathlib.Core.Bool.{Bool, true, false, cond, not, _||_}
+use mathlib.Core.Bool.{Bool, true, false, cond, not}
 use mathlib.Core.List.{List}
 use lib.Dec.{ltb, eqb}
 use lib.ListN.{length, set}
@@ -25,27 +25,25 @@ use Rattle.certificate_judgement.proofs.CertificateMeaning.{positive, r
 use Rattle.check_marks.proofs.MarkMeaning.{raised, mark-means}
 use Rattle.certificate_judgement.proofs.FindingMeaning.{fitting, lacking-fits}
 
--- what judging a certificate c of the history x comes to, after a flag b and the findings fs
-pub record StepMeans (x : History) (c : Certificate) (b : Bool) (fs : List Finding) (b′ : Bool) (held′ : ℕ) (t′ : Bytes) : Type 0 where
+-- what judging a certificate c of the history x comes to, after the flags b and the findings fs
+pub record StepMeans (x : History) (c : Certificate) (b : ℕ) (fs : List Finding) (b′ held′ : ℕ) (t′ : Bytes) : Type 0 where
   -- flag 4 was set before, or is by its relevant index
-  pub flag : b′ ≡ (b || ltb 0 (relevant (x .committed) (x .terms) c))
+  pub flag : b′ ≡ cond (ltb 0 (relevant (x .committed) (x .terms) c)) 4 b
   -- the table holds the findings with its LG-05, or there are too many
   pub findings : Holds t′ held′ (noted fs (lacking (x .committed) (x .terms) c))
 
-either-set : (z b : Bool) → cond z b true ≡ (b || not z)
-either-set true true = refl
-either-set true false = refl
-either-set false true = refl
-either-set false false = refl
+either-set : (z : Bool) (b : ℕ) → cond z b 4 ≡ cond (not z) 4 b
+either-set true b = refl
+either-set false b = refl
 
 module _ (h : Bytes) (x : History) (s : Stands h x) where
-  pub judge-means : (c : CertificateRow) → Stored (wordAt h 0 2) c → (t : Bytes) (b : Bool) (held : ℕ) (b′ : Bool) (held′ : ℕ) (t′ : Bytes) (fs : List Finding)
+  pub judge-means : (c : CertificateRow) → Stored (wordAt h 0 2) c → (t : Bytes) (b held b′ held′ : ℕ) (t′ : Bytes) (fs : List Finding)
       → length t ≡ 1024 → Holds t held fs → JudgedAs h c t b held b′ held′ t′ → StepMeans x (certificateIn (x .prefixes) c) b fs b′ held′ t′
   unfolding flagIn
   judge-means c w t b held b′ held′ t′ fs l k j =
       record {
-        flag = j .flag ∙ either-set (eqb (relevantIn h c) 0) b ∙ ap (λ (z : Bool). b || z) (positive (relevantIn h c))
-            ∙ ap (λ (r : ℕ). b || ltb 0 r) (relevant-means h x s c);
+        flag = j .flag ∙ either-set (eqb (relevantIn h c) 0) b ∙ ap (λ (z : Bool). cond z 4 b) (positive (relevantIn h c))
+            ∙ ap (λ (r : ℕ). cond (ltb 0 r) 4 b) (relevant-means h x s c);
         findings = subst (λ (gs : List Finding). Holds t′ held′ (noted fs gs)) (lacking-means h x s c (w .named .log))
             (subst₂ (λ (u : Bytes) (n : ℕ). Holds u n (noted fs (lackingIn h c))) (sym (j .table)) (sym (j .holds))
             (all-hold (lackingIn h c) t held fs l (λ g m. fitting g (lacking-fits h x s c w g m)) k));

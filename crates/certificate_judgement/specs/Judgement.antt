@@ -12,22 +12,23 @@ use Rattle.storage_bytes.specs.Words.{wordAt}
 use Rattle.storage.specs.Tables.{CertificateRow}
 use Rattle.storage.specs.Values.{certificatesOf}
 use Rattle.storage.specs.Rules.{wellFormed}
-use Rattle.committed_prefix.specs.Prefix.{keptOf, agreeIn}
-use Rattle.committed_prefix.specs.declared.committed.Kept.{Kept}
+use Rattle.prefix_lookup.specs.Prefix.{storedOf}
+use Rattle.prefix_lookup.specs.declared.lookup.Stored.{Stored}
+use Rattle.committed_prefix.specs.Prefix.{agreeIn}
 use Rattle.log_violation.specs.Violation.{heldAll, bytesAll}
 use Rattle.check_relevance.specs.Relevance.{relevantIn}
 
 -- ---- one certificate
 
 -- a log that is shorter than the committed prefix through index i, or different; where none is kept nothing is lacking
-abbrev pub lacksKept : Bytes → ℕ → ℕ → Kept → Bool
-lacksKept h log i (Kept.Prefix p) = not (agreeIn h log p i)
-lacksKept h log i Kept.Nothing = false
+abbrev pub lacksKept : Bytes → ℕ → ℕ → Stored → Bool
+lacksKept h log i (Stored.Prefix p) = not (agreeIn h log (p .0) i)
+lacksKept h log i Stored.Nothing = false
 
 -- "a log that is absent, shorter or different"
 unfoldable pub lacksThrough : Bytes → CertificateRow → ℕ → Bool
-unfolding agreeIn wordAt
-lacksThrough h c i = cond (eqb (c .present) 0) true (lacksKept h (c .log) i (keptOf (wordAt h 4 2)))
+unfolding storedOf agreeIn wordAt
+lacksThrough h c i = cond (eqb (c .present) 0) true (lacksKept h (c .log) i (storedOf (wordAt h 4 2)))
 
 -- LG-05 (leader, index, term)
 abbrev pub lackingOf : CertificateRow → ℕ → Finding
@@ -43,9 +44,9 @@ unfolding relevantIn lackingAt
 lackingIn h c = cond (eqb (relevantIn h c) 0) [] (lackingAt h c (relevantIn h c))
 
 -- flag 4 is set before it, or by it
-unfoldable pub flagIn : Bytes → CertificateRow → Bool → Bool
+unfoldable pub flagIn : Bytes → CertificateRow → ℕ → ℕ
 unfolding relevantIn
-flagIn h c b = cond (eqb (relevantIn h c) 0) b true
+flagIn h c b = cond (eqb (relevantIn h c) 0) b 4
 
 -- what noting asks: a well-formed history, a log that is stored, a table of findings
 pub record Noting (h : Bytes) (c : CertificateRow) (t : Bytes) (held : ℕ) : Type 0 where
@@ -58,7 +59,7 @@ pub record NotedAs (h : Bytes) (c : CertificateRow) (i : ℕ) (t : Bytes) (held 
   pub holds : held′ ≡ heldAll t held (lackingAt h c i)
   pub table : t′ ≡ bytesAll t held (lackingAt h c i)
 
-pub record JudgedAs (h : Bytes) (c : CertificateRow) (t : Bytes) (b : Bool) (held : ℕ) (b′ : Bool) (held′ : ℕ) (t′ : Bytes) : Type 0 where
+pub record JudgedAs (h : Bytes) (c : CertificateRow) (t : Bytes) (b held b′ held′ : ℕ) (t′ : Bytes) : Type 0 where
   pub flag : b′ ≡ flagIn h c b
   pub holds : held′ ≡ heldAll t held (lackingIn h c)
   pub table : t′ ≡ bytesAll t held (lackingIn h c)
@@ -70,7 +71,7 @@ unfolding lackingIn
 lackingsIn h [] = []
 lackingsIn h (c ∷ cs) = lackingIn h c ++ lackingsIn h cs
 
-unfoldable pub flagsIn : Bytes → Bool → List CertificateRow → Bool
+unfoldable pub flagsIn : Bytes → ℕ → List CertificateRow → ℕ
 unfolding flagIn
 flagsIn h b [] = b
 flagsIn h b (c ∷ cs) = flagsIn h (flagIn h c b) cs
@@ -80,8 +81,8 @@ pub record Judging (h t : Bytes) (held : ℕ) : Type 0 where
   pub long : length t ≡ 1024
   pub few : held ≤ 129
 
-pub record JudgedAll (h t : Bytes) (held : ℕ) (b : Bool) (held′ : ℕ) (t′ : Bytes) : Type 0 where
-  pub flag : b ≡ flagsIn h false (certificatesOf h)
+pub record JudgedAll (h t : Bytes) (held b held′ : ℕ) (t′ : Bytes) : Type 0 where
+  pub flag : b ≡ flagsIn h 0 (certificatesOf h)
   pub holds : held′ ≡ heldAll t held (lackingsIn h (certificatesOf h))
   pub table : t′ ≡ bytesAll t held (lackingsIn h (certificatesOf h))
   pub few : held′ ≤ 129

@@ -5,15 +5,17 @@ ghost use Prim.Native.Nat.{_≤_};
 ghost use mathlib.Core.Bool.{true};
 ghost use Rattle.storage_bytes.specs.Words.{wordAt};
 ghost use Rattle.storage.specs.Rules.{wellFormed};
+ghost use Rattle.storage.specs.Values.{committedEnd};
 ghost use Rattle.certificate_rows.specs.Values.{certificateValue};
 ghost use Rattle.certificate_judgement.specs.Judgement.{lacksThrough, Noting, NotedAs, Judging, JudgedAs, JudgedAll};
 use certificate_rows::certificates::Certificate;
 use certificate_rows::certificates::certificate_at;
+use check_relevance::relevance::Relevant;
 use check_relevance::relevance::relevant_index;
-use committed_prefix::committed::Kept;
 use committed_prefix::committed::agree_through;
 use committed_prefix::committed::committed_prefix;
 use log_violation::violation::note;
+use prefix_lookup::lookup::Stored;
 use storage::head::certificate_count;
 use storage_bytes::layout::CERTIFICATES_LENGTH;
 use storage_bytes::layout::CERTIFICATES_START;
@@ -21,87 +23,83 @@ use storage_bytes::layout::part;
 use table_rows::findings::Found;
 use units::LogIndex;
 
-// How far the judging has come: whether an index was relevant, and how many findings are held.
+// How far the judging has come: the sum of the flags, 4 where an index was relevant, and how many findings are held.
 pub struct Judged {
-    pub relevant: bool,
+    pub flags: usize,
     pub held: usize,
 }
 
 // The certificate's log is absent, or shorter than the committed prefix through the index, or different. Where none is kept, nothing
 // is lacking but an absent log.
-fn lacks_through(history: &[u8], c: Certificate, through: LogIndex) -> bool
-    requires { ⌜ (wellFormed (now history) ≡ true) × (c .log ≤ wordAt (now history) 0 2) ⌝ }
-    ensures { λ r. ⌜ r ≡ lacksThrough (now (history .entry)) (certificateValue c) (through .0) ⌝ }
+fn lacks_through(history: &[u8], c: Certificate, index: LogIndex) -> bool
+    requires { ⌜ (wellFormed (now history) ≡ true) × (c .log .0 ≤ wordAt (now history) 0 2) ⌝ }
+    ensures { λ r. ⌜ r ≡ lacksThrough (now (history .entry)) (certificateValue c) (index .0) ⌝ }
 {
     if c.present == 0 {
         return true;
     }
-    let Kept::Prefix(committed) = committed_prefix(history) else {
+    let Stored::Prefix(committed) = committed_prefix(history) else {
         return false;
     };
     let log = c.log;
-    !agree_through(history, log, committed, through)
+    !agree_through(history, log, committed, index)
 }
 
 // LG-05 is noted where the log lacks the committed prefix through the index.
 fn note_lacking(
     history: &[u8],
     c: Certificate,
-    through: LogIndex,
+    index: LogIndex,
     findings: &mut [u8],
     held: usize,
 ) -> usize
     requires { ⌜ Noting (now history) (certificateValue c) (now findings) held ⌝ }
-    ensures { λ r. ⌜ NotedAs (now (history .entry)) (certificateValue c) (through .0) (now (findings .entry)) held r (now (findings .exit)) ⌝ }
+    ensures { λ r. ⌜ NotedAs (now (history .entry)) (certificateValue c) (index .0) (now (findings .entry)) held r (now (findings .exit)) ⌝ }
 {
-    if !lacks_through(history, c, through) {
+    if !lacks_through(history, c, index) {
         return held;
     }
     let node = c.leader;
     let term = c.term;
-    note(
-        &mut findings[..],
-        held,
-        Found {
-            name: 5,
-            node,
-            index: through,
-            term,
-        },
-    )
+    let lg05 = Found {
+        name: 5,
+        node,
+        index,
+        term,
+    };
+    note(&mut findings[..], held, lg05)
 }
 
-// One certificate.
-pub fn judge(history: &[u8], c: Certificate, findings: &mut [u8], earlier: Judged) -> Judged
-    requires { ⌜ Noting (now history) (certificateValue c) (now findings) (earlier .held) ⌝ }
-    ensures { λ r. ⌜ JudgedAs (now (history .entry)) (certificateValue c) (now (findings .entry)) (earlier .relevant) (earlier .held) (r .relevant) (r .held) (now (findings .exit)) ⌝ }
+// One certificate, up to the committed end.
+pub fn judge(
+    history: &[u8],
+    end: LogIndex,
+    c: Certificate,
+    findings: &mut [u8],
+    earlier: Judged,
+) -> Judged
+    requires { ⌜ Noting (now history) (certificateValue c) (now findings) (earlier .held) × (end .0 ≡ committedEnd (now history)) ⌝ }
+    ensures { λ r. ⌜ JudgedAs (now (history .entry)) (certificateValue c) (now (findings .entry)) (earlier .flags) (earlier .held) (r .flags) (r .held) (now (findings .exit)) ⌝ }
 {
-    let through = relevant_index(history, c);
-    if through.0 == 0 {
+    let Relevant::Index(index) = relevant_index(history, end, c) else {
         return earlier;
-    }
-    let held = note_lacking(history, c, through, &mut findings[..], earlier.held);
-    Judged {
-        relevant: true,
-        held,
-    }
+    };
+    let held = note_lacking(history, c, index, &mut findings[..], earlier.held);
+    Judged { flags: 4, held }
 }
 
 // Every certificate, by term, then arrival, as they are stored.
-pub fn judge_all(history: &[u8], findings: &mut [u8], held: usize) -> Judged
-    requires { ⌜ Judging (now history) (now findings) held ⌝ }
-    ensures { λ r. ⌜ JudgedAll (now (history .entry)) (now (findings .entry)) held (r .relevant) (r .held) (now (findings .exit)) ⌝ }
+pub fn judge_all(history: &[u8], end: LogIndex, findings: &mut [u8], held: usize) -> Judged
+    requires { ⌜ Judging (now history) (now findings) held × (end .0 ≡ committedEnd (now history)) ⌝ }
+    ensures { λ r. ⌜ JudgedAll (now (history .entry)) (now (findings .entry)) held (r .flags) (r .held) (now (findings .exit)) ⌝ }
 {
     let m = certificate_count(history);
     let certificates = part(history, CERTIFICATES_START, CERTIFICATES_LENGTH);
-    let mut earlier = Judged {
-        relevant: false,
-        held,
-    };
+    let mut earlier = Judged { flags: 0, held };
     let mut k = 0;
     while k < m {
         let c = certificate_at(certificates, k);
-        earlier = judge(history, c, &mut findings[..], earlier);
+        earlier = judge(history, end, c, &mut findings[..], earlier);
         k += 1;
     }
     earlier

@@ -7,7 +7,7 @@ abbrev pub certificateValue : Certificate → CertificateRow
 certificateValue x =
     record {
       term = x .term .0;
-      log = x .log;
+      log = x .log .0;
       mark = x .mark .0;
       leader = x .leader .0;
       number = x .number;

@@ -1,4 +1,4 @@
-// The table of certificates, by term, then arrival. A log is the prefix of that number, where it is present.
+// The table of certificates, by term, then arrival. A log is a stored prefix, where it is present.
 ghost use mathlib.Core.Path.{_≡_};
 ghost use Prim.Native.Nat.{_+_, _*_, _≤_, _<_};
 ghost use mathlib.Core.List.{_++_};
@@ -20,12 +20,13 @@ use storage_bytes::words::put8;
 use storage_bytes::words::put16;
 use storage_bytes::words::put32;
 use units::LogIndex;
+use units::LogPrefixWitness;
 use units::NodeId;
 use units::Term;
 
 pub struct Certificate {
     pub term: Term,
-    pub log: usize,
+    pub log: LogPrefixWitness,
     pub mark: LogIndex,
     pub leader: NodeId,
     // Its number within its term.
@@ -41,7 +42,7 @@ pub fn certificate_at(certificates: &[u8], k: usize) -> Certificate
     let o = k * CERTIFICATE_WIDTH;
     Certificate {
         term: Term(get32(certificates, o)),
-        log: get16(certificates, o + 4),
+        log: LogPrefixWitness(get16(certificates, o + 4)),
         mark: LogIndex(get16(certificates, o + 6)),
         leader: NodeId(get8(certificates, o + 8) as u8),
         number: get8(certificates, o + 9),
@@ -51,10 +52,10 @@ pub fn certificate_at(certificates: &[u8], k: usize) -> Certificate
 
 fn put_log(t: &mut [u8], o: usize, c: Certificate)
     requires { ⌜ o + 11 ≤ length (now t) ⌝ }
-    ensures { λ r. ⌜ now (t .exit) ≡ putBytes (now (t .entry)) o (wordBytes 4 (c .term .0) ++ wordBytes 2 (c .log) ++ wordBytes 2 (c .mark .0)) ⌝ }
+    ensures { λ r. ⌜ now (t .exit) ≡ putBytes (now (t .entry)) o (wordBytes 4 (c .term .0) ++ wordBytes 2 (c .log .0) ++ wordBytes 2 (c .mark .0)) ⌝ }
 {
     put32(&mut t[..], o, c.term.0);
-    put16(&mut t[..], o + 4, c.log);
+    put16(&mut t[..], o + 4, c.log.0);
     put16(&mut t[..], o + 6, c.mark.0);
 }
 

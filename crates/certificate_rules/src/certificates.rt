@@ -15,7 +15,7 @@ use units::NODE_LIMIT;
 fn certificate_right(n: usize, c: Certificate) -> bool
     ensures { λ r. ⌜ r ≡ certificateRight n (certificateValue c) ⌝ }
 {
-    if n < c.log {
+    if n < c.log.0 {
         return false;
     }
     if INDEX_LIMIT < c.mark.0 {

@@ -1,1 +1,2 @@
 pub mod RelevanceLaws
+pub mod RelevantLaws

@@ -151,10 +151,9 @@ module _ (h : Bytes) where
     recorded-longer l = (let z : n ≡ min end n = omega arith in z) ∙ ap (min end) e
 
   module _ (c : CertificateRow) (end : ℕ) (ee : end ≡ committedEnd h) where
-    pub relevant-read : (ts : Bytes) (e r : ℕ) → ts ≡ termsPart h → e ≡ recordedThrough h end
-        → r ≡ lastRelevant (termRow ts) (c .mark) (c .term) e → r ≡ relevantIn h c
+    pub relevant-read : (ts : Bytes) (e : ℕ) → ts ≡ termsPart h → e ≡ recordedThrough h end → lastRelevant (termRow ts) (c .mark) (c .term) e ≡ relevantIn h c
     unfolding relevantIn recordedEnd
-    relevant-read ts e r a b q = q ∙ (λ i. lastRelevant (termRow (a i)) (c .mark) (c .term) ((b ∙ ap (recordedThrough h) ee) i))
+    relevant-read ts e a b = (λ i. lastRelevant (termRow (a i)) (c .mark) (c .term) ((b ∙ ap (recordedThrough h) ee) i))
 
     -- the mark is not passed: no index is after it
     pub relevant-not-passed : end ≤ c .mark → 0 ≡ relevantIn h c

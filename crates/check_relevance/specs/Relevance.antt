@@ -2,11 +2,12 @@
 -- Assumes nothing.
 use Prim.Native.Nat.{ℕ, zero, suc, min}
 use mathlib.Core.Bool.{cond}
-use lib.Dec.{ltb}
+use lib.Dec.{ltb, eqb}
 use Rattle.model.specs.Sizes.{Bytes}
 use Rattle.storage_bytes.specs.Words.{wordAt}
 use Rattle.storage.specs.Tables.{CertificateRow, termRow, termsPart}
 use Rattle.storage.specs.Values.{committedEnd}
+use Rattle.check_relevance.specs.declared.relevance.Relevant.{Relevant}
 
 -- the last of the indexes up to the given one that is after the mark and has a term below t, 0 where none has. The term of
 -- index k + 1 is `row k`.
@@ -28,3 +29,7 @@ recordedEnd h = recordedThrough h (committedEnd h)
 unfoldable pub relevantIn : Bytes → CertificateRow → ℕ
 unfolding lastRelevant recordedEnd wordAt
 relevantIn h c = lastRelevant (termRow (termsPart h)) (c .mark) (c .term) (recordedEnd h)
+
+-- what the search answers, by the index it finds; 0 is none
+unfoldable pub relevantOf : ℕ → Relevant
+relevantOf i = cond (eqb i 0) Relevant.Nothing (Relevant.Index (record { 0 = i }))

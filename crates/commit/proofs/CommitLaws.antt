@@ -9,7 +9,7 @@ use mathlib.Core.List.{List, [], _∷_, List·Memᴰ·eq-of-singleton}
 use mathlib.Core.Option.{none, some}
 use lib.Dec.{leb, ltb, eqb}
 use lib.ListN.{length, take}
-use borrow.Author.Tests.{eqb-true, eqb-false, lt-ltb, le-ltb, le-leb, lt-leb, ne-eqb, eq-eqb}
+use borrow.Author.Tests.{eqb-true, eqb-false, lt-ltb, le-ltb, le-leb, lt-leb}
 use Rattle.model.specs.Sizes.{Bytes}
 use Rattle.model.specs.Entry.{Prefix, same, agree, withAll}
 use Rattle.model.specs.Refusal.{findingsFull}
@@ -24,10 +24,10 @@ use Rattle.storage.proofs.DecodeLaws.{FindingNamed}
 use Rattle.storage.proofs.Meanings.{Stands, withNoted, findings-right, noted-right}
 use Rattle.prefix_lookup.specs.declared.lookup.Slice.{Slice}
 use Rattle.log_violation.specs.Violation.{findingsKept}
-use Rattle.prefix_lookup.specs.Prefix.{sliceOf, frontThrough}
-use Rattle.committed_prefix.specs.Prefix.{keptOf, rowsOf, nodeOf, longerIn, endIn, agreeIn, unseenSet, keepBytes, difference, heldWith, tableWith, noteAnswer, noteLeaves}
+use Rattle.prefix_lookup.specs.Prefix.{witness, storedOf, sliceOf, frontThrough}
+use Rattle.committed_prefix.specs.Prefix.{rowsOf, nodeOf, longerIn, endIn, agreeIn, unseenSet, keepBytes, difference, heldWith, tableWith, noteAnswer, noteLeaves}
 use Rattle.commit.specs.Prefix.{flagsOf, commitAnswer, commitBytes, Inserted, Observed}
-use Rattle.committed_prefix.specs.declared.committed.Kept.{Kept}
+use Rattle.prefix_lookup.proofs.StoredLaws.{stored-none, stored-read}
 use Rattle.committed_prefix.specs.declared.committed.CommitAnswer.{CommitAnswer}
 use Rattle.storage.proofs.WellFormed.{formed}
 use Rattle.commit.proofs.PrefixTurns.{insert-differs, insert-longer, insert-shorter, observe-unseen, observe-zero, observe-first, observe-later}
@@ -286,20 +286,20 @@ module _ (h : Bytes) (x : History) (n i : ℕ) (s : Stands h x) (here : n < 64) 
     shown =
         cond-true (leb i (length (frontOf x n))) (take i (frontOf x n)) [] reaches ∙ ap (take i) (front-is h x s n here) ∙ sym (b .first)
 
-    told : frontThrough h n i ≡ Slice.Prefix (b .part)
-    told = seen-told (Slice.Prefix (b .part)) (b .told)
+    told : frontThrough h n i ≡ Slice.Prefix (witness (b .part))
+    told = seen-told (Slice.Prefix (witness (b .part))) (b .told)
 
     index-zero : b .part ≡ 0 → Told
     index-zero z =
-        from (CommitAnswer.Accepted 0) (unseenSet h n 0) (observe-zero h n i (frontThrough h n i) refl (b .part) told z (unseenSet h n 0) refl)
+        from (CommitAnswer.Accepted 0) (unseenSet h n 0) (observe-zero h n i (frontThrough h n i) refl (witness (b .part)) told z (unseenSet h n 0) refl)
         (inl (0, refl, nothing-seen x n i h s here limit 0 (omega arith) cleared (shown ∙ ap (at h x s) z)))
 
     module _ (some-seen : b .part ≡ 0 → ⊥) where
       first-one : wordAt h 4 2 ≡ 0 → Told
       first-one z =
           from (CommitAnswer.Accepted 0) (keepBytes h n (b .part))
-          (observe-first h n i (frontThrough h n i) refl (b .part) told some-seen (keptOf (wordAt h 4 2)) refl
-          (cond-true (eqb (wordAt h 4 2) 0) _ _ (eq-eqb (wordAt h 4 2) 0 z)) (keepBytes h n (b .part)) refl)
+          (observe-first h n i (frontThrough h n i) refl (witness (b .part)) told some-seen (storedOf (wordAt h 4 2)) refl
+          (sym (stored-none (wordAt h 4 2) z)) (keepBytes h n (b .part)) refl)
           (inl (0, refl, first-seen x n i h s here limit (b .part) (b .within) cleared shown some-seen (committed-is h x s ∙ ap (at h x s) z)))
 
       module _ (some-kept : wordAt h 4 2 ≡ 0 → ⊥) where
@@ -309,8 +309,8 @@ module _ (h : Bytes) (x : History) (n i : ℕ) (s : Stands h x) (here : n < 64) 
         later : (r : CommitAnswer) (h′ : Bytes) → Inserted h n c (b .part) r h′ → Outcome x n i h r h′ → Told
         later r h′ w o =
             from r h′
-            (observe-later h n i (frontThrough h n i) refl (b .part) told some-seen (keptOf c) refl c
-            (cond-false (eqb c 0) Kept.Nothing (Kept.Prefix c) (ne-eqb c 0 some-kept)) r h′ w)
+            (observe-later h n i (frontThrough h n i) refl (witness (b .part)) told some-seen (storedOf c) refl (witness c)
+            (sym (stored-read c c refl some-kept)) r h′ w)
             o
 
         lc : c ≤ wordAt h 0 2

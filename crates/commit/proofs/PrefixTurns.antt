@@ -10,12 +10,13 @@ use Rattle.model.specs.Sizes.{Bytes}
 use Rattle.model.proofs.Tests.{cond-cases, cond-true, cond-false}
 use Rattle.storage_bytes.specs.Words.{wordAt}
 use Rattle.log_violation.specs.Violation.{findingsKept}
-use Rattle.prefix_lookup.specs.Prefix.{frontThrough}
+use Rattle.prefix_lookup.specs.Prefix.{storedOf, frontThrough}
 use Rattle.prefix_lookup.specs.declared.lookup.Slice.{Slice}
 use Rattle.log_violation.proofs.ViolationLaws.{kept-length}
-use Rattle.committed_prefix.specs.Prefix.{keptOf, longerIn, endIn, agreeIn, unseenSet, keepBytes, heldWith, tableWith, noteAnswer, noteLeaves, Noted}
+use Rattle.committed_prefix.specs.Prefix.{longerIn, endIn, agreeIn, unseenSet, keepBytes, heldWith, tableWith, noteAnswer, noteLeaves, Noted}
 use Rattle.commit.specs.Prefix.{flagsOf, insertAnswer, insertLeaves, keptAnswer, keptLeaves, seenAnswer, seenLeaves, commitAnswer, commitBytes, Inserted, Observed}
-use Rattle.committed_prefix.specs.declared.committed.Kept.{Kept}
+use Rattle.prefix_lookup.specs.declared.lookup.Stored.{Stored}
+use Rattle.units.specs.declared.LogPrefixWitness.{LogPrefixWitness}
 use Rattle.committed_prefix.specs.declared.committed.CommitAnswer.{CommitAnswer}
 use Rattle.committed_prefix.proofs.PrefixTurns.{unseen-length, keep-length}
 
@@ -82,31 +83,31 @@ module _ (h : Bytes) (n i : ℕ) (s : Slice) (es : s ≡ frontThrough h n i) whe
         leaves = w ∙ sym (ap (seenLeaves h n i) (sym es ∙ e));
       }
 
-  module _ (p : ℕ) (e : s ≡ Slice.Prefix p) where
-    pub observe-zero : p ≡ 0 → (h′ : Bytes) → h′ ≡ unseenSet h n 0 → Observed h n i (CommitAnswer.Accepted 0) h′
+  module _ (p : LogPrefixWitness) (e : s ≡ Slice.Prefix p) where
+    pub observe-zero : p .0 ≡ 0 → (h′ : Bytes) → h′ ≡ unseenSet h n 0 → Observed h n i (CommitAnswer.Accepted 0) h′
     unfolding commitAnswer commitBytes
     observe-zero z h′ w =
         record {
-          answers = sym (ap (seenAnswer h n) (sym es ∙ e) ∙ cond-true (eqb p 0) _ _ (eq-eqb p 0 z));
-          leaves = w ∙ sym (ap (seenLeaves h n i) (sym es ∙ e) ∙ cond-true (eqb p 0) _ _ (eq-eqb p 0 z));
+          answers = sym (ap (seenAnswer h n) (sym es ∙ e) ∙ cond-true (eqb (p .0) 0) _ _ (eq-eqb (p .0) 0 z));
+          leaves = w ∙ sym (ap (seenLeaves h n i) (sym es ∙ e) ∙ cond-true (eqb (p .0) 0) _ _ (eq-eqb (p .0) 0 z));
         }
 
-    module _ (z : p ≡ 0 → ⊥) (k : Kept) (ek : k ≡ keptOf (wordAt h 4 2)) where
-      answer-is : commitAnswer h n i ≡ keptAnswer h n p k
+    module _ (z : p .0 ≡ 0 → ⊥) (k : Stored) (ek : k ≡ storedOf (wordAt h 4 2)) where
+      answer-is : commitAnswer h n i ≡ keptAnswer h n (p .0) k
       unfolding commitAnswer
-      answer-is = ap (seenAnswer h n) (sym es ∙ e) ∙ cond-false (eqb p 0) _ _ (ne-eqb p 0 z) ∙ ap (keptAnswer h n p) (sym ek)
+      answer-is = ap (seenAnswer h n) (sym es ∙ e) ∙ cond-false (eqb (p .0) 0) _ _ (ne-eqb (p .0) 0 z) ∙ ap (keptAnswer h n (p .0)) (sym ek)
 
-      bytes-are : commitBytes h n i ≡ keptLeaves h n p k
+      bytes-are : commitBytes h n i ≡ keptLeaves h n (p .0) k
       unfolding commitBytes
-      bytes-are = ap (seenLeaves h n i) (sym es ∙ e) ∙ cond-false (eqb p 0) _ _ (ne-eqb p 0 z) ∙ ap (keptLeaves h n p) (sym ek)
+      bytes-are = ap (seenLeaves h n i) (sym es ∙ e) ∙ cond-false (eqb (p .0) 0) _ _ (ne-eqb (p .0) 0 z) ∙ ap (keptLeaves h n (p .0)) (sym ek)
 
-      pub observe-first : k ≡ Kept.Nothing → (h′ : Bytes) → h′ ≡ keepBytes h n p → Observed h n i (CommitAnswer.Accepted 0) h′
+      pub observe-first : k ≡ Stored.Nothing → (h′ : Bytes) → h′ ≡ keepBytes h n (p .0) → Observed h n i (CommitAnswer.Accepted 0) h′
       observe-first g h′ w =
-          record { answers = sym (answer-is ∙ ap (keptAnswer h n p) g); leaves = w ∙ sym (bytes-are ∙ ap (keptLeaves h n p) g) }
+          record { answers = sym (answer-is ∙ ap (keptAnswer h n (p .0)) g); leaves = w ∙ sym (bytes-are ∙ ap (keptLeaves h n (p .0)) g) }
 
-      pub observe-later : (c : ℕ) → k ≡ Kept.Prefix c → (r : CommitAnswer) (h′ : Bytes) → Inserted h n c p r h′ → Observed h n i r h′
+      pub observe-later : (c : LogPrefixWitness) → k ≡ Stored.Prefix c → (r : CommitAnswer) (h′ : Bytes) → Inserted h n (c .0) (p .0) r h′ → Observed h n i r h′
       observe-later c g r h′ w =
           record {
-            answers = w .answers ∙ sym (answer-is ∙ ap (keptAnswer h n p) g);
-            leaves = w .leaves ∙ sym (bytes-are ∙ ap (keptLeaves h n p) g);
+            answers = w .answers ∙ sym (answer-is ∙ ap (keptAnswer h n (p .0)) g);
+            leaves = w .leaves ∙ sym (bytes-are ∙ ap (keptLeaves h n (p .0)) g);
           }

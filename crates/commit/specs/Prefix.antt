@@ -8,11 +8,11 @@ use Rattle.model.specs.Sizes.{Bytes}
 use Rattle.model.specs.Refusal.{findingsFull}
 use Rattle.model.specs.Answer.{Answer, accepted, refused}
 use Rattle.storage_bytes.specs.Words.{wordAt}
-use Rattle.prefix_lookup.specs.Prefix.{frontThrough}
+use Rattle.prefix_lookup.specs.Prefix.{storedOf, frontThrough}
 use Rattle.prefix_lookup.specs.declared.lookup.Slice.{Slice}
-use Rattle.committed_prefix.specs.declared.committed.Kept.{Kept}
+use Rattle.prefix_lookup.specs.declared.lookup.Stored.{Stored}
 use Rattle.committed_prefix.specs.declared.committed.CommitAnswer.{CommitAnswer}
-use Rattle.committed_prefix.specs.Prefix.{keptOf, longerIn, endIn, agreeIn, unseenSet, keepBytes, noteAnswer, noteLeaves}
+use Rattle.committed_prefix.specs.Prefix.{longerIn, endIn, agreeIn, unseenSet, keepBytes, noteAnswer, noteLeaves}
 
 -- ---- judged: nothing is written
 
@@ -34,30 +34,30 @@ insertLeaves h n c p =
     cond (agreeIn h c p (endIn h c p)) (cond (longerIn h c p) (keepBytes h n p) (unseenSet h n 0)) (noteLeaves h n (endIn h c p))
 
 -- a prefix p that is seen: the first is kept
-abbrev pub keptAnswer : Bytes → ℕ → ℕ → Kept → CommitAnswer
-keptAnswer h n p Kept.Nothing = CommitAnswer.Accepted 0
-keptAnswer h n p (Kept.Prefix c) = insertAnswer h n c p
+abbrev pub keptAnswer : Bytes → ℕ → ℕ → Stored → CommitAnswer
+keptAnswer h n p Stored.Nothing = CommitAnswer.Accepted 0
+keptAnswer h n p (Stored.Prefix c) = insertAnswer h n (c .0) p
 
-abbrev pub keptLeaves : Bytes → ℕ → ℕ → Kept → Bytes
-keptLeaves h n p Kept.Nothing = keepBytes h n p
-keptLeaves h n p (Kept.Prefix c) = insertLeaves h n c p
+abbrev pub keptLeaves : Bytes → ℕ → ℕ → Stored → Bytes
+keptLeaves h n p Stored.Nothing = keepBytes h n p
+keptLeaves h n p (Stored.Prefix c) = insertLeaves h n (c .0) p
 
 -- "index zero does nothing more" than clear the mark
 abbrev pub seenAnswer : Bytes → ℕ → Slice → CommitAnswer
 seenAnswer h n Slice.Beyond = CommitAnswer.Accepted 0
-seenAnswer h n (Slice.Prefix p) = cond (eqb p 0) (CommitAnswer.Accepted 0) (keptAnswer h n p (keptOf (wordAt h 4 2)))
+seenAnswer h n (Slice.Prefix p) = cond (eqb (p .0) 0) (CommitAnswer.Accepted 0) (keptAnswer h n (p .0) (storedOf (wordAt h 4 2)))
 
 abbrev pub seenLeaves : Bytes → ℕ → ℕ → Slice → Bytes
 seenLeaves h n i Slice.Beyond = unseenSet h n i
-seenLeaves h n i (Slice.Prefix p) = cond (eqb p 0) (unseenSet h n 0) (keptLeaves h n p (keptOf (wordAt h 4 2)))
+seenLeaves h n i (Slice.Prefix p) = cond (eqb (p .0) 0) (unseenSet h n 0) (keptLeaves h n (p .0) (storedOf (wordAt h 4 2)))
 
 -- the answer and the bytes after it
 unfoldable pub commitAnswer : Bytes → ℕ → ℕ → CommitAnswer
-unfolding frontThrough insertAnswer wordAt
+unfolding frontThrough storedOf insertAnswer wordAt
 commitAnswer h n i = seenAnswer h n (frontThrough h n i)
 
 unfoldable pub commitBytes : Bytes → ℕ → ℕ → Bytes
-unfolding frontThrough unseenSet keepBytes insertLeaves wordAt
+unfolding frontThrough storedOf unseenSet keepBytes insertLeaves wordAt
 commitBytes h n i = seenLeaves h n i (frontThrough h n i)
 
 -- ---- what each function does

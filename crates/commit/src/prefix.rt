@@ -7,47 +7,48 @@ ghost use Rattle.storage_bytes.specs.Words.{wordAt};
 ghost use Rattle.storage.specs.Rules.{wellFormed};
 ghost use Rattle.commit.specs.Prefix.{flagsOf, Inserted, Observed};
 use committed_prefix::committed::CommitAnswer;
-use committed_prefix::committed::Kept;
 use committed_prefix::committed::agree_through;
 use committed_prefix::committed::committed_prefix;
 use committed_prefix::committed::is_longer;
 use committed_prefix::committed::keep;
 use committed_prefix::committed::note_difference;
+use committed_prefix::committed::owner;
 use committed_prefix::committed::set_unseen;
 use committed_prefix::committed::shorter_end;
 use prefix_lookup::lookup::Slice;
+use prefix_lookup::lookup::Stored;
 use prefix_lookup::lookup::front_through;
-use storage::head::owner_number;
 use units::LogIndex;
+use units::LogPrefixWitness;
 use units::NodeId;
 
 // The flags of agreement with the committed prefix of the owner.
-fn flags(owner: usize, node: NodeId) -> usize
-    ensures { λ r. ⌜ r ≡ flagsOf owner (node .0) ⌝ }
+fn flags(owner: NodeId, node: NodeId) -> usize
+    ensures { λ r. ⌜ r ≡ flagsOf (owner .0) (node .0) ⌝ }
 {
-    if owner == node.0 as usize { 1 } else { 3 }
+    if owner.0 == node.0 { 1 } else { 3 }
 }
 
 // The prefix seen is compared with the committed one; a longer one replaces it.
 fn insert_committed_prefix(
     history: &mut [u8],
     node: NodeId,
-    committed: usize,
-    seen: usize,
+    committed: LogPrefixWitness,
+    seen: LogPrefixWitness,
 ) -> CommitAnswer
-    requires { ⌜ (wellFormed (now history) ≡ true) × (node .0 < 64) × (committed ≤ wordAt (now history) 0 2) × (seen ≤ wordAt (now history) 0 2) ⌝ }
-    ensures { λ r. ⌜ Inserted (now (history .entry)) (node .0) committed seen r (now (history .exit)) ⌝ }
+    requires { ⌜ (wellFormed (now history) ≡ true) × (node .0 < 64) × (committed .0 ≤ wordAt (now history) 0 2) × (seen .0 ≤ wordAt (now history) 0 2) ⌝ }
+    ensures { λ r. ⌜ Inserted (now (history .entry)) (node .0) (committed .0) (seen .0) r (now (history .exit)) ⌝ }
 {
-    let through = shorter_end(&history[..], committed, seen);
-    if !agree_through(&history[..], committed, seen, through) {
-        return note_difference(&mut history[..], node, through);
+    let end = shorter_end(&history[..], committed, seen);
+    if !agree_through(&history[..], committed, seen, end) {
+        return note_difference(&mut history[..], node, end);
     }
-    let sum = flags(owner_number(&history[..]), node);
+    let sum = flags(owner(&history[..]), node);
     if is_longer(&history[..], committed, seen) {
         keep(&mut history[..], node, seen);
-        return CommitAnswer::Accepted(sum);
+    } else {
+        set_unseen(&mut history[..], node, LogIndex::ZERO);
     }
-    set_unseen(&mut history[..], node, LogIndex::ZERO);
     CommitAnswer::Accepted(sum)
 }
 
@@ -60,11 +61,11 @@ pub fn observe_committed_prefixes(history: &mut [u8], node: NodeId, index: LogIn
         set_unseen(&mut history[..], node, index);
         return CommitAnswer::Accepted(0);
     };
-    if seen == 0 {
-        set_unseen(&mut history[..], node, LogIndex::ZERO);
+    if seen.0 == 0 {
+        set_unseen(&mut history[..], node, LogIndex::ZERO); // index zero does nothing more
         return CommitAnswer::Accepted(0);
     }
-    let Kept::Prefix(committed) = committed_prefix(&history[..]) else {
+    let Stored::Prefix(committed) = committed_prefix(&history[..]) else {
         keep(&mut history[..], node, seen);
         return CommitAnswer::Accepted(0);
     };

@@ -56,13 +56,7 @@ fn lengthen(history: &mut [u8], new: LogIndex)
 fn is_replaced(x: Term, term: Term) -> bool
     ensures { λ r. ⌜ r ≡ isReplaced (term .0) (x .0) ⌝ }
 {
-    if term.0 == 0 {
-        return false;
-    }
-    if x.0 == 0 {
-        return true;
-    }
-    term.0 < x.0
+    term.0 != 0 && (x.0 == 0 || term.0 < x.0)
 }
 
 // The first index from old + 1 to new whose place the term replaces; zero where there is none. Nothing is written.

@@ -23,7 +23,7 @@ use Rattle.storage.specs.Rules.{findingRight}
 use Rattle.storage.proofs.RowFacts.{Facts}
 use Rattle.storage.proofs.Meanings.{Stands, withNoted, prefixes-read, findings-read, owner-read, front-read, last-read, node-written, committed-written, prefixes-stored, findings-stored, committed-stored, findings-taken}
 use Rattle.log_violation.specs.Violation.{findingsKept}
-use Rattle.prefix_lookup.specs.Prefix.{sliceOf}
+use Rattle.prefix_lookup.specs.Prefix.{witness, sliceOf}
 use Rattle.log_comparison.specs.Comparison.{sameFrom}
 use Rattle.prefix_lookup.specs.declared.lookup.Slice.{Slice}
 use Rattle.prefix_lookup.proofs.TableLaws.{rows-length, rows-at}
@@ -114,7 +114,7 @@ module _ (h : Bytes) (x : History) (s : Stands h x) where
   -- a part of a stored prefix, by number
   pub record Part (p i : ℕ) : Type 0 where
     pub part : ℕ
-    pub told : sliceOf (rowsOf h) p i ≡ Slice.Prefix part
+    pub told : sliceOf (rowsOf h) p i ≡ Slice.Prefix (witness part)
     pub reaches : i ≤ length (at p)
     pub within : part ≤ wordAt h 0 2
     pub first : at part ≡ take i (at p)

@@ -1,46 +1,38 @@
 -- What the steps on the committed prefix answer and leave, by what they read.
 -- Assumes nothing.
-use Prim.Native.Nat.{ℕ, zero, suc, _+_, _*_, _≤_, _<_}
-use native.Mathlib.Omega.{arith}
-use mathlib.Core.Path.{_≡_, refl, sym, _∙_, ap}
+use Prim.Native.Nat.{ℕ, _+_, _*_, _≤_, _<_}
+use mathlib.Core.Path.{_≡_, refl, sym, _∙_, ap, subst}
 use mathlib.Core.Bool.{Bool, true, false}
-use lib.Dec.{ltb, eqb}
+use lib.Dec.{leb, ltb}
 use lib.ListN.{length}
-use borrow.Author.Tests.{ne-eqb, lt-ltb, le-ltb}
+use borrow.Author.Tests.{lt-ltb, le-ltb, lt-leb, le-leb}
 use Rattle.model.specs.Sizes.{Bytes}
 use Rattle.model.proofs.Tests.{cond-true, cond-false}
 use Rattle.storage_bytes.specs.Words.{wordAt, wordBytes, putBytes}
 use Rattle.storage.specs.Tables.{NodeRow, nodeRow, prefixRow, nodesPart, findingsPart, prefixesPart}
 use Rattle.storage.specs.Values.{numberIndex}
-use Rattle.storage.specs.Rules.{wellFormed}
 use Rattle.storage.specs.Writes.{nodeBytes, committedSet}
 use Rattle.storage_bytes.proofs.WordLaws.{put-length}
-use Rattle.prefix_lookup.specs.Prefix.{sliceOf}
+use Rattle.prefix_lookup.specs.Prefix.{storedOf, sliceOf}
 use Rattle.log_comparison.specs.Comparison.{sameFrom}
-use Rattle.log_violation.specs.Violation.{noteHeld, noteBytes, findingsKept}
+use Rattle.log_violation.specs.Violation.{noteHeld, notedIn}
 use Rattle.prefix_lookup.specs.declared.lookup.Slice.{Slice}
+use Rattle.prefix_lookup.specs.declared.lookup.Stored.{Stored}
+use Rattle.prefix_lookup.proofs.StoredLaws.{stored-number}
 use Rattle.prefix_lookup.proofs.TableLaws.{whole-table, slice-within}
 use Rattle.prefix_lookup.proofs.FrontLaws.{node-read}
-use Rattle.log_violation.proofs.ViolationLaws.{note-length, findings-long}
-use Rattle.committed_prefix.specs.Prefix.{rowsOf, keptOf, nodeOf, longerIn, endIn, sameSlices, agreeIn, unseenSet, keepBytes, difference, heldWith, tableWith, noteAnswer, noteLeaves, Noted}
-use Rattle.committed_prefix.specs.declared.committed.Kept.{Kept}
+use Rattle.committed_prefix.specs.Prefix.{rowsOf, nodeOf, longerIn, endIn, sameSlices, agreeIn, unseenSet, keepBytes, difference, heldWith, tableWith, noteAnswer, noteLeaves, Noted}
+use Rattle.units.specs.declared.LogPrefixWitness.{LogPrefixWitness}
 use Rattle.committed_prefix.specs.declared.committed.CommitAnswer.{CommitAnswer}
 use Rattle.storage.proofs.WellFormed.{Formed}
 
 -- a part of a stored prefix is stored
-stored-within : (h : Bytes) (p i q : ℕ) → Formed h → p ≤ wordAt h 0 2 → sliceOf (rowsOf h) p i ≡ Slice.Prefix q → q ≤ wordAt h 0 2
+stored-within : (h : Bytes) (p i : ℕ) (q : LogPrefixWitness) → Formed h → p ≤ wordAt h 0 2 → sliceOf (rowsOf h) p i ≡ Slice.Prefix q → q .0 ≤ wordAt h 0 2
 stored-within h p i q f l e = slice-within (prefixesPart h) (wordAt h 0 2) p i q (whole-table h f) l e
 
 -- the committed prefix, where one is kept, is stored
-pub kept-within : (h : Bytes) → Formed h → (k : Kept) → k ≡ keptOf (wordAt h 4 2) → (c : ℕ) → k ≡ Kept.Prefix c → c ≤ wordAt h 0 2
-kept-within h f k ek c g = within (wordAt h 4 2) c (f .committed) (sym ek ∙ g)
-  where
-    within : (x y : ℕ) → x ≤ wordAt h 0 2 → keptOf x ≡ Kept.Prefix y → y ≤ wordAt h 0 2
-    within zero y l q = absurd (let v : _≡_ {A = ℕ} 0 1 = cc in omega arith)
-    within (suc x) y l q =
-        let d : Kept.Prefix (suc x) ≡ Kept.Prefix y = sym (cond-false (eqb (suc x) 0) Kept.Nothing (Kept.Prefix (suc x)) (ne-eqb (suc x) 0 (λ o. omega arith))) ∙ q in
-        let same : suc x ≡ y = cc in
-        omega arith
+pub kept-within : (h : Bytes) → Formed h → (k : Stored) → k ≡ storedOf (wordAt h 4 2) → (c : LogPrefixWitness) → k ≡ Stored.Prefix c → c .0 ≤ wordAt h 0 2
+kept-within h f k ek c g = subst (λ (x : ℕ). x ≤ wordAt h 0 2) (sym (stored-number (wordAt h 4 2) k ek c g .0)) (f .committed)
 
 -- ---- the unseen mark
 
@@ -84,10 +76,10 @@ module _ (h : Bytes) (a b i : ℕ) (q : Bytes) (eq : q ≡ prefixesPart h) (r : 
   agree-short e =
       sym (ap (λ (x : Slice). sameSlices (rowsOf h) x (sliceOf (rowsOf h) b i)) (first-slice ∙ e) ∙ none-first (sliceOf (rowsOf h) b i))
 
-  pub slice-kept : (p : ℕ) → Formed h → a ≤ wordAt h 0 2 → r ≡ Slice.Prefix p → p ≤ wordAt h 0 2
+  pub slice-kept : (p : LogPrefixWitness) → Formed h → a ≤ wordAt h 0 2 → r ≡ Slice.Prefix p → p .0 ≤ wordAt h 0 2
   slice-kept p f l e = stored-within h a i p f l (first-slice ∙ e)
 
-  module _ (p : ℕ) (e : r ≡ Slice.Prefix p) (s : Slice) (es : s ≡ sliceOf (prefixRow q) b i) where
+  module _ (p : LogPrefixWitness) (e : r ≡ Slice.Prefix p) (s : Slice) (es : s ≡ sliceOf (prefixRow q) b i) where
     both-slices : agreeIn h a b i ≡ sameSlices (rowsOf h) (Slice.Prefix p) s
     unfolding agreeIn
     both-slices =
@@ -97,9 +89,9 @@ module _ (h : Bytes) (a b i : ℕ) (q : Bytes) (eq : q ≡ prefixesPart h) (r : 
     pub agree-short-2 : s ≡ Slice.Beyond → false ≡ agreeIn h a b i
     agree-short-2 g = sym (both-slices ∙ ap (sameSlices (rowsOf h) (Slice.Prefix p)) g)
 
-    pub agree-same : (p′ : ℕ) → s ≡ Slice.Prefix p′ → (v : Bool) → v ≡ sameFrom (prefixRow q) p p p′ → v ≡ agreeIn h a b i
+    pub agree-same : (p′ : LogPrefixWitness) → s ≡ Slice.Prefix p′ → (v : Bool) → v ≡ sameFrom (prefixRow q) (p .0) (p .0) (p′ .0) → v ≡ agreeIn h a b i
     agree-same p′ g v w =
-        w ∙ ap (λ (u : Bytes). sameFrom (prefixRow u) p p p′) eq ∙ sym (both-slices ∙ ap (sameSlices (rowsOf h) (Slice.Prefix p)) g)
+        w ∙ ap (λ (u : Bytes). sameFrom (prefixRow u) (p .0) (p .0) (p′ .0)) eq ∙ sym (both-slices ∙ ap (sameSlices (rowsOf h) (Slice.Prefix p)) g)
 
 -- ---- lengths
 
@@ -114,32 +106,30 @@ keep-length h n p =
 
 -- ---- a difference noted
 
-module _ (h : Bytes) (n i : ℕ) (held : ℕ) (t : Bytes) (et : (held ≡ wordAt h 7 1) × (t ≡ findingsPart h))
-    (m : ℕ) (u : Bytes) (em : (m ≡ noteHeld t held (difference n i)) × (u ≡ noteBytes t held (difference n i))) where
+module _ (h : Bytes) (n i m : ℕ) (u : Bytes) (em : (m ≡ noteHeld (findingsPart h) (wordAt h 7 1) (difference n i)) × (u ≡ notedIn h (difference n i))) where
   held-is : m ≡ heldWith h n i
   unfolding heldWith
-  held-is = em .0 ∙ (λ y. noteHeld (et .1 y) (et .0 y) (difference n i))
+  held-is = em .0
 
-  noted-is : u ≡ tableWith h n i
-  unfolding tableWith
-  noted-is = em .1 ∙ (λ y. noteBytes (et .1 y) (et .0 y) (difference n i))
-
-  pub note-room : wellFormed h ≡ true → length u ≡ 1024
-  note-room right = ap length (em .1) ∙ note-length t held (difference n i) ∙ ap length (et .1) ∙ findings-long h right
-
-  pub note-full : 128 < m → Noted h n i CommitAnswer.FindingsFull h
-  unfolding noteAnswer noteLeaves
+  pub note-full : 128 < m → Noted h n i CommitAnswer.FindingsFull u
+  unfolding noteAnswer noteLeaves notedIn
   note-full l =
       let f : ltb 128 (heldWith h n i) ≡ true = ap (ltb 128) (sym held-is) ∙ lt-ltb 128 m l in
-      record { answers = sym (cond-true (ltb 128 (heldWith h n i)) _ _ f); leaves = sym (cond-true (ltb 128 (heldWith h n i)) h _ f) }
+      record {
+        answers = sym (cond-true (ltb 128 (heldWith h n i)) _ _ f);
+        leaves =
+            em .1 ∙ cond-false (leb (noteHeld (findingsPart h) (wordAt h 7 1) (difference n i)) 128) _ h (lt-leb _ 128 (subst (λ (x : ℕ). 128 < x) (em .0) l))
+            ∙ sym (cond-true (ltb 128 (heldWith h n i)) h _ f);
+      }
 
-  pub note-so : m ≤ 128 → (v : Bytes) → v ≡ findingsKept h u m → (w : Bytes) → w ≡ unseenSet v n 0 → Noted h n i (CommitAnswer.Accepted 0) w
-  unfolding noteAnswer noteLeaves
-  note-so l v ev w ew =
+  pub note-so : m ≤ 128 → (w : Bytes) → w ≡ unseenSet u n 0 → Noted h n i (CommitAnswer.Accepted 0) w
+  unfolding noteAnswer noteLeaves notedIn heldWith tableWith
+  note-so l w ew =
       let f : ltb 128 (heldWith h n i) ≡ false = ap (ltb 128) (sym held-is) ∙ le-ltb 128 m l in
       record {
         answers = sym (cond-false (ltb 128 (heldWith h n i)) _ _ f);
         leaves =
-            ew ∙ ap (λ (y : Bytes). unseenSet y n 0) (ev ∙ (λ y. findingsKept h (noted-is y) (held-is y)))
+            ew ∙ ap (λ (y : Bytes). unseenSet y n 0)
+            (em .1 ∙ cond-true (leb (noteHeld (findingsPart h) (wordAt h 7 1) (difference n i)) 128) _ h (le-leb _ 128 (subst (λ (x : ℕ). x ≤ 128) (em .0) l)))
             ∙ sym (cond-false (ltb 128 (heldWith h n i)) h _ f);
       }

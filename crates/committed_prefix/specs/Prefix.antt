@@ -3,7 +3,7 @@
 use Prim.Native.Nat.{ℕ, _+_, _*_}
 use mathlib.Core.Path.{_≡_}
 use mathlib.Core.Bool.{Bool, false, cond}
-use lib.Dec.{ltb, eqb}
+use lib.Dec.{ltb}
 use Rattle.model.specs.Sizes.{Bytes}
 use Rattle.model.specs.History.{Finding}
 use Rattle.storage_bytes.specs.Words.{wordAt, putBytes}
@@ -14,17 +14,12 @@ use Rattle.prefix_lookup.specs.Prefix.{sliceOf}
 use Rattle.log_comparison.specs.Comparison.{sameFrom}
 use Rattle.log_violation.specs.Violation.{noteHeld, noteBytes, findingsKept}
 use Rattle.prefix_lookup.specs.declared.lookup.Slice.{Slice}
-use Rattle.committed_prefix.specs.declared.committed.Kept.{Kept}
 use Rattle.committed_prefix.specs.declared.committed.CommitAnswer.{CommitAnswer}
 
 -- ---- judged: nothing is written
 
 abbrev pub rowsOf : Bytes → ℕ → PrefixRow
 rowsOf h = prefixRow (prefixesPart h)
-
--- the committed prefix by its number; 0 is none
-abbrev pub keptOf : ℕ → Kept
-keptOf p = cond (eqb p 0) Kept.Nothing (Kept.Prefix p)
 
 abbrev pub nodeOf : Bytes → ℕ → NodeRow
 nodeOf h n = nodeRow (nodesPart h) n
@@ -39,7 +34,7 @@ endIn h a b = cond (longerIn h a b) (indexOf (rowsOf h) a) (indexOf (rowsOf h) b
 
 -- both parts are there and the same
 abbrev pub sameSlices : (ℕ → PrefixRow) → Slice → Slice → Bool
-sameSlices row (Slice.Prefix p) (Slice.Prefix q) = sameFrom row p p q
+sameSlices row (Slice.Prefix p) (Slice.Prefix q) = sameFrom row (p .0) (p .0) (q .0)
 sameSlices row (Slice.Prefix p) Slice.Beyond = false
 sameSlices row Slice.Beyond (Slice.Prefix q) = false
 sameSlices row Slice.Beyond Slice.Beyond = false

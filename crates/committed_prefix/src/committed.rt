@@ -5,15 +5,16 @@ ghost use Prim.Native.Nat.{_≤_, _<_};
 ghost use lib.ListN.{length};
 ghost use Rattle.storage_bytes.specs.Words.{wordAt};
 ghost use Rattle.storage.specs.Rules.{wellFormed};
-ghost use Rattle.committed_prefix.specs.Prefix.{keptOf, unseenSet, endIn, longerIn, agreeIn, keepBytes, Noted};
+ghost use Rattle.prefix_lookup.specs.Prefix.{storedOf};
+ghost use Rattle.committed_prefix.specs.Prefix.{unseenSet, endIn, longerIn, agreeIn, keepBytes, Noted};
 use log_comparison::comparison::same_prefix;
-use log_violation::violation::copy_findings;
-use log_violation::violation::keep_findings;
-use log_violation::violation::note;
+use log_violation::violation::note_in;
 use prefix_lookup::lookup::Slice;
+use prefix_lookup::lookup::Stored;
 use prefix_lookup::lookup::slice_through;
-use prefix_rows::prefixes::index_of;
+use prefix_rows::prefixes::through;
 use storage::head::committed_number;
+use storage::head::owner_number;
 use storage::head::prefix_count;
 use storage::head::set_committed;
 use storage_bytes::layout::NODES_LENGTH;
@@ -27,14 +28,9 @@ use table_rows::nodes::node_at;
 use table_rows::nodes::set_node;
 use units::FINDING_LIMIT;
 use units::LogIndex;
+use units::LogPrefixWitness;
 use units::NodeId;
 use units::Term;
-
-// The number of the committed prefix, or that none is kept.
-pub enum Kept {
-    Prefix(usize),
-    Nothing,
-}
 
 // What observing a node's commit index answers.
 pub enum CommitAnswer {
@@ -44,30 +40,40 @@ pub enum CommitAnswer {
     FindingsFull,
 }
 
-pub fn committed_prefix(history: &[u8]) -> Kept
+// The committed prefix, where one is kept.
+pub fn committed_prefix(history: &[u8]) -> Stored
     requires { ⌜ 9 ≤ length (now history) ⌝ }
-    ensures { λ r. ⌜ r ≡ keptOf (wordAt (now (history .entry)) 4 2) ⌝ }
+    ensures { λ r. ⌜ r ≡ storedOf (wordAt (now (history .entry)) 4 2) ⌝ }
 {
     let p = committed_number(history);
     if p == 0 {
-        return Kept::Nothing;
+        return Stored::Nothing;
     }
-    Kept::Prefix(p)
+    Stored::Prefix(LogPrefixWitness(p))
 }
 
-// The node's unseen mark.
+// The owner of the committed prefix.
+pub fn owner(history: &[u8]) -> NodeId
+    requires { ⌜ 9 ≤ length (now history) ⌝ }
+    ensures { λ r. ⌜ r .0 ≡ wordAt (now (history .entry)) 8 1 ⌝ }
+{
+    NodeId(owner_number(history) as u8)
+}
+
+// The node's unseen mark is set; its view stays.
 pub fn set_unseen(history: &mut [u8], node: NodeId, mark: LogIndex)
     requires { ⌜ (node .0 < 64) × (length (now history) ≡ 24137) ⌝ }
     ensures { λ r. ⌜ now (history .exit) ≡ unseenSet (now (history .entry)) (node .0) (mark .0) ⌝ }
 {
     let k = node.0 as usize;
     let x = node_at(part(&history[..], NODES_START, NODES_LENGTH), k);
+    let front = x.front;
     let last = x.last;
     set_node(
         &mut history[..],
         k,
         Node {
-            front: x.front,
+            front,
             last,
             unseen: mark,
         },
@@ -75,71 +81,69 @@ pub fn set_unseen(history: &mut [u8], node: NodeId, mark: LogIndex)
 }
 
 // The shorter end of two prefixes.
-pub fn shorter_end(history: &[u8], a: usize, b: usize) -> LogIndex
-    requires { ⌜ (a ≤ 512) × (b ≤ 512) × (length (now history) ≡ 24137) ⌝ }
-    ensures { λ r. ⌜ r .0 ≡ endIn (now (history .entry)) a b ⌝ }
+pub fn shorter_end(history: &[u8], a: LogPrefixWitness, b: LogPrefixWitness) -> LogIndex
+    requires { ⌜ (a .0 ≤ 512) × (b .0 ≤ 512) × (length (now history) ≡ 24137) ⌝ }
+    ensures { λ r. ⌜ r .0 ≡ endIn (now (history .entry)) (a .0) (b .0) ⌝ }
 {
     let prefixes = part(history, PREFIXES_START, PREFIXES_LENGTH);
-    let i = index_of(prefixes, a);
-    let j = index_of(prefixes, b);
-    if i < j { LogIndex(i) } else { LogIndex(j) }
+    let i = through(prefixes, a);
+    let j = through(prefixes, b);
+    if i.0 < j.0 { i } else { j }
 }
 
 // The second of two prefixes is the longer one.
-pub fn is_longer(history: &[u8], a: usize, b: usize) -> bool
-    requires { ⌜ (a ≤ 512) × (b ≤ 512) × (length (now history) ≡ 24137) ⌝ }
-    ensures { λ r. ⌜ r ≡ longerIn (now (history .entry)) a b ⌝ }
+pub fn is_longer(history: &[u8], a: LogPrefixWitness, b: LogPrefixWitness) -> bool
+    requires { ⌜ (a .0 ≤ 512) × (b .0 ≤ 512) × (length (now history) ≡ 24137) ⌝ }
+    ensures { λ r. ⌜ r ≡ longerIn (now (history .entry)) (a .0) (b .0) ⌝ }
 {
     let prefixes = part(history, PREFIXES_START, PREFIXES_LENGTH);
-    index_of(prefixes, a) < index_of(prefixes, b)
+    through(prefixes, a).0 < through(prefixes, b).0
 }
 
 // Both prefixes reach the index, and are the same through it.
-pub fn agree_through(history: &[u8], a: usize, b: usize, through: LogIndex) -> bool
-    requires { ⌜ (wellFormed (now history) ≡ true) × (a ≤ wordAt (now history) 0 2) × (b ≤ wordAt (now history) 0 2) ⌝ }
-    ensures { λ r. ⌜ r ≡ agreeIn (now (history .entry)) a b (through .0) ⌝ }
+pub fn agree_through(
+    history: &[u8],
+    a: LogPrefixWitness,
+    b: LogPrefixWitness,
+    index: LogIndex,
+) -> bool
+    requires { ⌜ (wellFormed (now history) ≡ true) × (a .0 ≤ wordAt (now history) 0 2) × (b .0 ≤ wordAt (now history) 0 2) ⌝ }
+    ensures { λ r. ⌜ r ≡ agreeIn (now (history .entry)) (a .0) (b .0) (index .0) ⌝ }
 {
     let prefixes = part(history, PREFIXES_START, PREFIXES_LENGTH);
     let count = prefix_count(history);
-    let Slice::Prefix(p) = slice_through(prefixes, count, a, through) else {
+    let Slice::Prefix(p) = slice_through(prefixes, count, a, index) else {
         return false;
     };
-    let Slice::Prefix(q) = slice_through(prefixes, count, b, through) else {
+    let Slice::Prefix(q) = slice_through(prefixes, count, b, index) else {
         return false;
     };
     same_prefix(prefixes, count, p, q)
 }
 
-// The prefix seen becomes the committed one, and the node its owner.
-pub fn keep(history: &mut [u8], node: NodeId, p: usize)
+// The prefix becomes the committed one, and the node its owner; the node's unseen mark is cleared.
+pub fn keep(history: &mut [u8], node: NodeId, p: LogPrefixWitness)
     requires { ⌜ (node .0 < 64) × (length (now history) ≡ 24137) ⌝ }
-    ensures { λ r. ⌜ now (history .exit) ≡ keepBytes (now (history .entry)) (node .0) p ⌝ }
+    ensures { λ r. ⌜ now (history .exit) ≡ keepBytes (now (history .entry)) (node .0) (p .0) ⌝ }
 {
     set_unseen(&mut history[..], node, LogIndex::ZERO);
-    set_committed(&mut history[..], p, node);
+    set_committed(&mut history[..], p.0, node);
 }
 
-// A difference adds LG-04 and changes nothing else.
-pub fn note_difference(history: &mut [u8], node: NodeId, through: LogIndex) -> CommitAnswer
+// A difference through the shorter end adds LG-04 and changes nothing else. The finding is noted in place: it is the only one.
+pub fn note_difference(history: &mut [u8], node: NodeId, end: LogIndex) -> CommitAnswer
     requires { ⌜ (wellFormed (now history) ≡ true) × (node .0 < 64) ⌝ }
-    ensures { λ r. ⌜ Noted (now (history .entry)) (node .0) (through .0) r (now (history .exit)) ⌝ }
+    ensures { λ r. ⌜ Noted (now (history .entry)) (node .0) (end .0) r (now (history .exit)) ⌝ }
 {
-    let mut findings = [0u8; 1024];
-    let held = copy_findings(&history[..], &mut findings);
-    let n = note(
-        &mut findings,
-        held,
-        Found {
-            name: 4,
-            node,
-            index: through,
-            term: Term::ZERO,
-        },
-    );
-    if FINDING_LIMIT < n {
+    let lg04 = Found {
+        name: 4,
+        node,
+        index: end,
+        term: Term::ZERO,
+    };
+    if FINDING_LIMIT < note_in(&mut history[..], lg04) {
         return CommitAnswer::FindingsFull;
     }
-    keep_findings(&mut history[..], &findings, n);
     set_unseen(&mut history[..], node, LogIndex::ZERO);
     CommitAnswer::Accepted(0)
 }

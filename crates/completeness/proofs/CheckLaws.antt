@@ -2,7 +2,6 @@
 -- Assumes nothing.
 use Prim.Native.Nat.{ℕ, _<_, _≤_}
 use mathlib.Core.Path.{_≡_, sym, _∙_, ap, subst}
-use mathlib.Core.Bool.{Bool}
 use lib.Dec.{ltb}
 use lib.ListN.{length}
 use borrow.Author.Tests.{lt-ltb, le-ltb}
@@ -16,7 +15,7 @@ use Rattle.completeness.specs.declared.leader_completeness.Checked.{Chec
 use Rattle.storage.specs.Values.{certificatesOf, committedEnd}
 use Rattle.certificate_judgement.specs.Judgement.{lackingsIn, JudgedAll}
 use Rattle.check_marks.specs.Marks.{marksMoved}
-use Rattle.completeness.specs.Check.{valueOf, checkHeld, checkTable, checkWritten, checkAnswer, checkBytes, CheckedAs}
+use Rattle.completeness.specs.Check.{checkHeld, checkTable, checkWritten, checkAnswer, checkBytes, CheckedAs}
 use Rattle.check_marks.proofs.MarkLaws.{marks-length}
 
 -- ---- written
@@ -32,7 +31,7 @@ module _ (h t : Bytes) (held end : ℕ) where
 
 -- ---- judged on a copy of the findings
 
-module _ (h u : Bytes) (n : ℕ) (b : Bool) (m : ℕ) (t : Bytes) (eu : (n ≡ wordAt h 7 1) × (u ≡ findingsPart h)) (j : JudgedAll h u n b m t) where
+module _ (h u : Bytes) (n b m : ℕ) (t : Bytes) (eu : (n ≡ wordAt h 7 1) × (u ≡ findingsPart h)) (j : JudgedAll h u n b m t) where
   held-is : m ≡ checkHeld h
   unfolding checkHeld
   held-is = j .holds ∙ (λ i. heldAll (eu .1 i) (eu .0 i) (lackingsIn h (certificatesOf h)))
@@ -50,12 +49,11 @@ module _ (h u : Bytes) (n : ℕ) (b : Bool) (m : ℕ) (t : Bytes) (eu : (n ≡ w
         bytes = sym (cond-true (ltb 128 (checkHeld h)) h _ f);
       }
 
-  pub checked-accepted : m ≤ 128 → (end : ℕ) → end ≡ committedEnd h → (h′ : Bytes) → h′ ≡ checkWritten h t m end → (v : ℕ) → v ≡ valueOf b
-      → CheckedAs h (Checked.Accepted v) h′
+  pub checked-accepted : m ≤ 128 → (end : ℕ) → end ≡ committedEnd h → (h′ : Bytes) → h′ ≡ checkWritten h t m end → CheckedAs h (Checked.Accepted b) h′
   unfolding checkAnswer checkBytes
-  checked-accepted l end ee h′ eh v ev =
+  checked-accepted l end ee h′ eh =
       let f = le-ltb 128 (checkHeld h) (subst (λ (x : ℕ). x ≤ 128) held-is l) in
       record {
-        is = ap Checked.Accepted (ev ∙ ap valueOf (j .flag)) ∙ sym (cond-false (ltb 128 (checkHeld h)) Checked.FindingsFull _ f);
+        is = ap Checked.Accepted (j .flag) ∙ sym (cond-false (ltb 128 (checkHeld h)) Checked.FindingsFull _ f);
         bytes = eh ∙ (λ i. checkWritten h (table-is i) (held-is i) (ee i)) ∙ sym (cond-false (ltb 128 (checkHeld h)) h _ f);
       }

@@ -4,7 +4,7 @@
 use Prim.Native.Nat.{ℕ, _<_, _≤_}
 use native.Mathlib.Omega.{arith}
 use mathlib.Core.Path.{_≡_, sym, _∙_, ap, subst, subst₂}
-use mathlib.Core.Bool.{true, false}
+use mathlib.Core.Bool.{true, cond}
 use mathlib.Core.Logic.{inl, ⊎-elim}
 use mathlib.Core.List.{List, [], map, List·Memᴰ}
 use mathlib.Core.Option.{none, some}
@@ -31,7 +31,7 @@ use Rattle.completeness.specs.declared.leader_completeness.Checked.{Chec
 use Rattle.storage.specs.Values.{certificatesOf, committedEnd}
 use Rattle.certificate_judgement.specs.Judgement.{lackingsIn, flagsIn}
 use Rattle.check_marks.specs.Marks.{marksMoved}
-use Rattle.completeness.specs.Check.{checkReply, valueOf, checkHeld, checkTable, checkWritten, checkAnswer, checkBytes, CheckedAs}
+use Rattle.completeness.specs.Check.{checkReply, checkHeld, checkTable, checkWritten, checkAnswer, checkBytes, CheckedAs}
 use Rattle.storage.proofs.WellFormed.{formed, end-small}
 use Rattle.certificate_judgement.proofs.Fits.{TermsFit, Stored, stored}
 use Rattle.certificate_judgement.proofs.CertificateMeaning.{lackings-mean, flags-mean}
@@ -59,11 +59,10 @@ module _ (h : Bytes) (x : History) (s : Stands h x) (f : TermsFit x) where
       (all-hold (lackingsIn h (certificatesOf h)) (findingsPart h) (wordAt h 7 1) (x .findings) (findings-long h (s .right))
       (λ g m. fitting g (notes-fit g m)) (inl (formed h (s .right) .findings, findings-stored h x s)))
 
-  flag : valueOf (flagsIn h false (certificatesOf h)) ≡ checkValue x
+  flag : flagsIn h 0 (certificatesOf h) ≡ checkValue x
   unfolding checkValue
   flag =
-      ap valueOf
-      (flags-mean h x s (certificatesOf h) false ∙ ap (someRelevant (x .committed) (x .terms)) (certificates-stored h x s))
+      flags-mean h x s (certificatesOf h) 0 ∙ ap (λ (cs : List Certificate). cond (someRelevant (x .committed) (x .terms) cs) 4 0) (certificates-stored h x s)
 
   -- the marks have moved, as the model's
   marks : Stands (marksMoved h (committedEnd h) 0 (wordAt h 6 1)) (withElections x (map (moved (x .committed)) (x .certificates)))

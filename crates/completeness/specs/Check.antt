@@ -1,10 +1,9 @@
 -- The check of a history in bytes: its answer and the bytes that it leaves. A refused check leaves every byte.
 -- Assumes nothing.
-use Prim.Native.Nat.{ℕ, _≤_}
+use Prim.Native.Nat.{ℕ}
 use mathlib.Core.Path.{_≡_}
-use mathlib.Core.Bool.{Bool, false, cond}
+use mathlib.Core.Bool.{cond}
 use lib.Dec.{ltb}
-use lib.ListN.{length}
 use Rattle.model.specs.Sizes.{Bytes}
 use Rattle.model.specs.Refusal.{findingsFull}
 use Rattle.model.specs.Answer.{Answer, accepted, refused}
@@ -22,10 +21,6 @@ abbrev pub checkReply : Checked → Answer
 checkReply (Accepted v) = accepted v 0
 checkReply FindingsFull = refused findingsFull
 
--- flag 4
-abbrev pub valueOf : Bool → ℕ
-valueOf b = cond b 4 0
-
 -- the findings of the history with those of the check: how many, and their table
 unfoldable pub checkHeld : Bytes → ℕ
 unfolding wordAt heldAll lackingsIn
@@ -40,16 +35,10 @@ unfoldable pub checkWritten : Bytes → Bytes → ℕ → ℕ → Bytes
 unfolding wordAt marksMoved findingsKept
 checkWritten h t held end = findingsKept (marksMoved h end 0 (wordAt h 6 1)) t held
 
--- what writing asks
-pub record Writing (h t : Bytes) : Type 0 where
-  pub certificates : wordAt h 6 1 ≤ 64
-  pub history : length h ≡ 24137
-  pub table : length t ≡ 1024
-
 -- the answer, and the bytes after it
 unfoldable pub checkAnswer : Bytes → Checked
 unfolding checkHeld flagsIn wordAt
-checkAnswer h = cond (ltb 128 (checkHeld h)) FindingsFull (Accepted (valueOf (flagsIn h false (certificatesOf h))))
+checkAnswer h = cond (ltb 128 (checkHeld h)) FindingsFull (Accepted (flagsIn h 0 (certificatesOf h)))
 
 unfoldable pub checkBytes : Bytes → Bytes
 unfolding checkHeld checkTable checkWritten committedEnd

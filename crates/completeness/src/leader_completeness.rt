@@ -2,14 +2,13 @@
 ghost use mathlib.Core.Path.{_≡_};
 ghost use mathlib.Core.Bool.{true};
 ghost use Rattle.storage.specs.Rules.{wellFormed};
-ghost use Rattle.completeness.specs.Check.{valueOf, Writing, checkWritten, CheckedAs};
+ghost use Rattle.completeness.specs.Check.{CheckedAs};
 use certificate_judgement::judgement::judge_all;
 use check_marks::marks::move_marks;
 use log_violation::violation::copy_findings;
 use log_violation::violation::keep_findings;
 use prefix_rows::prefixes::committed_end;
 use units::FINDING_LIMIT;
-use units::LogIndex;
 
 pub enum Checked {
     // Accepted, with its value: 4 where an index was relevant, else 0.
@@ -18,34 +17,19 @@ pub enum Checked {
     FindingsFull,
 }
 
-// Flag 4.
-fn value(relevant: bool) -> usize
-    ensures { λ r. ⌜ r ≡ valueOf relevant ⌝ }
-{
-    if relevant { 4 } else { 0 }
-}
-
-// The marks, then the findings.
-fn write(history: &mut [u8], findings: &[u8], held: usize, end: LogIndex)
-    requires { ⌜ Writing (now history) (now findings) ⌝ }
-    ensures { λ r. ⌜ now (history .exit) ≡ checkWritten (now (history .entry)) (now (findings .entry)) held (end .0) ⌝ }
-{
-    move_marks(&mut history[..], end);
-    keep_findings(&mut history[..], findings, held);
-}
-
-// The check: judged on a copy of the findings, then written.
+// The check: judged on a copy of the findings, then the marks and the findings are written.
 pub fn record_leader_completeness(history: &mut [u8]) -> Checked
     requires { ⌜ wellFormed (now history) ≡ true ⌝ }
     ensures { λ r. ⌜ CheckedAs (now (history .entry)) r (now (history .exit)) ⌝ }
 {
+    let end = committed_end(&history[..]);
     let mut findings = [0u8; 1024];
     let held = copy_findings(&history[..], &mut findings);
-    let judged = judge_all(&history[..], &mut findings, held);
+    let judged = judge_all(&history[..], end, &mut findings, held);
     if FINDING_LIMIT < judged.held {
         return Checked::FindingsFull;
     }
-    let end = committed_end(&history[..]);
-    write(&mut history[..], &findings, judged.held, end);
-    Checked::Accepted(value(judged.relevant))
+    move_marks(&mut history[..], end);
+    keep_findings(&mut history[..], &findings, judged.held);
+    Checked::Accepted(judged.flags)
 }

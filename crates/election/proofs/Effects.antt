@@ -31,7 +31,7 @@ use Rattle.storage.proofs.WellFormed.{certificates-are, formed, formed-rows}
 use Rattle.storage.proofs.Meanings as meanings
 use Rattle.storage.proofs.Meanings.{Stands, withElections, front-read, prefixes-stored, certificates-stored}
 use Rattle.storage.proofs.OrderLaws.{held-is, election-written}
-use Rattle.prefix_lookup.specs.Prefix.{frontIn, frontThrough}
+use Rattle.prefix_lookup.specs.Prefix.{witness, frontIn, frontThrough}
 use Rattle.prefix_lookup.specs.declared.lookup.Slice.{Slice}
 use Rattle.prefix_lookup.proofs.TableLaws.{rows-length, rows-at}
 use Rattle.prefix_lookup.proofs.SliceLaws.{slice-cases}
@@ -85,7 +85,7 @@ abbrev found : Bool → ℕ → ℕ → Numbering
 found b place number = cond b Numbering.Taken (Numbering.Next place number)
 
 room-is : (q : ℕ) (a b : Bool) (place number : ℕ)
-    → refusalOf (answerOf (Slice.Prefix q) a (found b place number)) ≡ cond a (some certificatesFull) (cond b (some numberTaken) none)
+    → refusalOf (answerOf (Slice.Prefix (witness q)) a (found b place number)) ≡ cond a (some certificatesFull) (cond b (some numberTaken) none)
 room-is q true b place number = refl
 room-is q false true place number = refl
 room-is q false false place number = refl
@@ -143,12 +143,12 @@ module _ (h : Bytes) (x : History) (s : Stands h x) where
 
   -- 10 and 11 are the model's
   room-same : (t q : ℕ)
-      → refusalOf (answerOf (Slice.Prefix q) (fullIn h) (numberingIn h t))
+      → refusalOf (answerOf (Slice.Prefix (witness q)) (fullIn h) (numberingIn h t))
       ≡ cond (leb 64 (length (x .certificates))) (some certificatesFull) (cond (taken t (held t (x .certificates)) (x .certificates)) (some numberTaken) none)
   room-same t q =
       let k = taken-same t (number t) ∙ ap (λ (m : ℕ). taken t m (x .certificates)) (held-same t) in
       let c = count-is in
-      ap (λ (m : Numbering). refusalOf (answerOf (Slice.Prefix q) (fullIn h) m)) (numbering-same t)
+      ap (λ (m : Numbering). refusalOf (answerOf (Slice.Prefix (witness q)) (fullIn h) m)) (numbering-same t)
       ∙ room-is q (fullIn h) (takenOf t (number t) cs) (place t) (number t)
       ∙ (λ i. cond (leb 64 (c i)) (some certificatesFull) (cond (k i) (some numberTaken) none))
 
@@ -179,19 +179,19 @@ module _ (h : Bytes) (x : History) (s : Stands h x) where
     unfolding answerIn
     answer-beyond e = ap (λ (y : Slice). answerOf y (fullIn h) (numberingIn h t)) e
 
-    answer-within : (q : ℕ) → frontThrough h l n ≡ Slice.Prefix q → answerIn h l t n ≡ answerOf (Slice.Prefix q) (fullIn h) (numberingIn h t)
+    answer-within : (q : ℕ) → frontThrough h l n ≡ Slice.Prefix (witness q) → answerIn h l t n ≡ answerOf (Slice.Prefix (witness q)) (fullIn h) (numberingIn h t)
     unfolding answerIn
     answer-within q e = ap (λ (y : Slice). answerOf y (fullIn h) (numberingIn h t)) e
 
-    bytes-within : (q : ℕ) → frontThrough h l n ≡ Slice.Prefix q
-        → bytesOf h l t p (Slice.Prefix q) (fullIn h) (found (takenOf t (number t) cs) (place t) (number t)) ≡ bytesIn h l t p n
+    bytes-within : (q : ℕ) → frontThrough h l n ≡ Slice.Prefix (witness q)
+        → bytesOf h l t p (Slice.Prefix (witness q)) (fullIn h) (found (takenOf t (number t) cs) (place t) (number t)) ≡ bytesIn h l t p n
     unfolding bytesIn
     bytes-within q e = sym (λ i. bytesOf h l t p (e i) (fullIn h) (numbering-same t i))
 
     -- the log is beyond the front, or the first n entries of it are stored under q
     data Cut : Type 0 where
       beyond : frontThrough h l n ≡ Slice.Beyond → length front < n → Cut
-      within : (q : ℕ) → frontThrough h l n ≡ Slice.Prefix q → n ≤ length front → q ≤ length rows → prefixAt (resolve rows) q ≡ take n front → Cut
+      within : (q : ℕ) → frontThrough h l n ≡ Slice.Prefix (witness q) → n ≤ length front → q ≤ length rows → prefixAt (resolve rows) q ≡ take n front → Cut
 
     cut : Cut
     unfolding frontThrough
@@ -253,8 +253,8 @@ module _ (h : Bytes) (x : History) (s : Stands h x) where
 
     -- an accepted election is kept
     effect-within : (q : ℕ) → q ≤ length rows → prefixAt (resolve rows) q ≡ take n front → (a b : Bool) → fullIn h ≡ a
-        → answerOf (Slice.Prefix q) a (found b (place t) (number t)) ≡ ElectionAnswer.Accepted
-        → Stands (bytesOf h l t p (Slice.Prefix q) a (found b (place t) (number t))) (electionEffect x l t p n)
+        → answerOf (Slice.Prefix (witness q)) a (found b (place t) (number t)) ≡ ElectionAnswer.Accepted
+        → Stands (bytesOf h l t p (Slice.Prefix (witness q)) a (found b (place t) (number t))) (electionEffect x l t p n)
     effect-within q stored log true b e r = absurd (tf (sym (ap isAccepted r)))
     effect-within q stored log false true e r = absurd (tf (sym (ap isAccepted r)))
     effect-within q stored log false false e r = kept-stands q stored log (leb-false 64 (wordAt h 6 1) e)
@@ -264,7 +264,7 @@ module _ (h : Bytes) (x : History) (s : Stands h x) where
     effect-cut (within q e _ stored log) a =
         subst (λ (y : Bytes). Stands y (electionEffect x l t p n)) (bytes-within q e)
         (effect-within q stored log (fullIn h) (takenOf t (number t) cs) refl
-        (sym (ap (λ (m : Numbering). answerOf (Slice.Prefix q) (fullIn h) m) (numbering-same t)) ∙ sym (answer-within q e) ∙ a))
+        (sym (ap (λ (m : Numbering). answerOf (Slice.Prefix (witness q)) (fullIn h) m) (numbering-same t)) ∙ sym (answer-within q e) ∙ a))
 
     -- the answer is the model's
     pub refusal-is : refusalOf (answerIn h l t n) ≡ electionRefusal x l t n

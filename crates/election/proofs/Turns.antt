@@ -10,11 +10,20 @@ use Rattle.storage.specs.Tables.{CertificateRow, certificateRow, certificatesPa
 use Rattle.storage.specs.Writes.{certificateAdded}
 use Rattle.prefix_lookup.specs.Prefix.{frontThrough}
 use Rattle.prefix_lookup.specs.declared.lookup.Slice.{Slice}
+use Rattle.units.specs.declared.LogPrefixWitness.{LogPrefixWitness}
 use Rattle.election_judging.specs.declared.judging.ElectionAnswer.{ElectionAnswer}
 use Rattle.election_judging.specs.declared.judging.Numbering.{Numbering}
 use Rattle.election_judging.specs.Certify.{fullIn, numberingIn}
 use Rattle.election_judging.proofs.Turns as judged
 use Rattle.election.specs.Certify.{kept, bytesOf, answerIn, bytesIn, Recorded}
+
+-- a new certificate's row, with a log and without
+module _ (l t number log : ℕ) (p : Bool) where
+  pub present-kept : p ≡ true → _≡_ {A = CertificateRow} (record { term = t; log = log; mark = 0; leader = l; number = number; present = 1 }) (kept l t number p log)
+  present-kept e = ap (λ (b : Bool). kept l t number b log) (sym e)
+
+  pub absent-kept : p ≡ false → _≡_ {A = CertificateRow} (record { term = t; log = log; mark = 0; leader = l; number = number; present = 0 }) (kept l t number p log)
+  absent-kept e = ap (λ (b : Bool). kept l t number b log) (sym e)
 
 -- where the certificates are not full, fewer than 64 are held
 pub room-left : (h : Bytes) (b : Bool) → b ≡ fullIn h → b ≡ false → wordAt h 6 1 < 64
@@ -41,7 +50,7 @@ module _ (h : Bytes) (l t : ℕ) (p : Bool) (n : ℕ) where
           bytes = sym (ap (λ (y : Slice). bytesOf h l t p y (fullIn h) (numberingIn h t)) q);
         }
 
-    module _ (log : ℕ) (e : s ≡ Slice.Prefix log) (b : Bool) (eb : b ≡ fullIn h) where
+    module _ (log : LogPrefixWitness) (e : s ≡ Slice.Prefix log) (b : Bool) (eb : b ≡ fullIn h) where
       within : frontThrough h l n ≡ Slice.Prefix log
       within = sym es ∙ e
 
@@ -71,7 +80,7 @@ module _ (h : Bytes) (l t : ℕ) (p : Bool) (n : ℕ) where
               }
 
           -- the certificate is kept
-          pub accepted : (place number : ℕ) → m ≡ Numbering.Next place number → (x : CertificateRow) → x ≡ kept l t number p log
+          pub accepted : (place number : ℕ) → m ≡ Numbering.Next place number → (x : CertificateRow) → x ≡ kept l t number p (log .0)
               → (h′ : Bytes) → h′ ≡ certificateAdded h place x
               → Gives ElectionAnswer.Accepted h′
           unfolding answerIn bytesIn

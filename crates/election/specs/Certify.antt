@@ -22,7 +22,7 @@ abbrev pub bytesOf : Bytes → ℕ → ℕ → Bool → Slice → Bool → Numbe
 bytesOf h l t p Slice.Beyond full m = h
 bytesOf h l t p (Slice.Prefix log) true m = h
 bytesOf h l t p (Slice.Prefix log) false Numbering.Taken = h
-bytesOf h l t p (Slice.Prefix log) false (Numbering.Next place number) = certificateAdded h place (kept l t number p log)
+bytesOf h l t p (Slice.Prefix log) false (Numbering.Next place number) = certificateAdded h place (kept l t number p (log .0))
 
 -- ---- in the bytes of a history, with a log of n entries
 

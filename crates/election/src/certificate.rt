@@ -2,7 +2,7 @@
 // the leader's front, or no log.
 ghost use mathlib.Core.Path.{_≡_};
 ghost use Prim.Native.Nat.{_<_};
-ghost use mathlib.Core.Bool.{true, cond};
+ghost use mathlib.Core.Bool.{true};
 ghost use Rattle.storage.specs.Rules.{wellFormed};
 ghost use Rattle.certificate_rows.specs.Values.{certificateValue};
 ghost use Rattle.election.specs.Certify.{kept, Recorded};
@@ -15,14 +15,9 @@ use election_judging::judging::number_in_term;
 use prefix_lookup::lookup::Slice;
 use prefix_lookup::lookup::front_through;
 use units::LogIndex;
+use units::LogPrefixWitness;
 use units::NodeId;
 use units::Term;
-
-fn flag(present: bool) -> usize
-    ensures { λ r. ⌜ r ≡ cond present 1 0 ⌝ }
-{
-    if present { 1 } else { 0 }
-}
 
 // A new certificate: nothing of its log is checked yet.
 fn new_certificate(
@@ -30,9 +25,9 @@ fn new_certificate(
     term: Term,
     number: usize,
     present: bool,
-    log: usize,
+    log: LogPrefixWitness,
 ) -> Certificate
-    ensures { λ r. ⌜ certificateValue r ≡ kept (leader .0) (term .0) number present log ⌝ }
+    ensures { λ r. ⌜ certificateValue r ≡ kept (leader .0) (term .0) number present (log .0) ⌝ }
 {
     Certificate {
         term,
@@ -40,7 +35,7 @@ fn new_certificate(
         mark: LogIndex::ZERO,
         leader,
         number,
-        present: flag(present),
+        present: if present { 1 } else { 0 },
     }
 }
 

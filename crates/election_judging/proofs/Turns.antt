@@ -7,6 +7,7 @@ use mathlib.Core.Bool.{Bool, true, false}
 use Rattle.model.proofs.Tests.{cond-cases, cond-true, cond-false}
 use Rattle.storage.specs.Tables.{CertificateRow}
 use Rattle.prefix_lookup.specs.declared.lookup.Slice.{Slice}
+use Rattle.units.specs.declared.LogPrefixWitness.{LogPrefixWitness}
 use Rattle.certificate_order.specs.Order.{placeFrom, heldBefore, takenBefore}
 use Rattle.certificate_order.proofs.Loops.{place-within, held-within}
 use Rattle.election_judging.specs.declared.judging.ElectionAnswer.{ElectionAnswer}
@@ -64,7 +65,7 @@ module _ (full : Bool) (m : Numbering) where
   pub nine : (s : Slice) → s ≡ Slice.Beyond → ElectionAnswer.LengthExceedsFront ≡ answerOf s full m
   nine s e = sym (ap (λ (y : Slice). answerOf y full m) e)
 
-  module _ (s : Slice) (log : ℕ) (e : s ≡ Slice.Prefix log) where
+  module _ (s : Slice) (log : LogPrefixWitness) (e : s ≡ Slice.Prefix log) where
     pub ten : full ≡ true → ElectionAnswer.CertificatesFull ≡ answerOf s full m
     ten f = sym (λ i. answerOf (e i) (f i) m)
 

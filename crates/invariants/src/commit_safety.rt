@@ -20,13 +20,6 @@ pub enum Verdict {
 // In the place of a rule where none fails: it comes after all four.
 const NO_RULE: u8 = 5;
 
-// Rule 1: the commit index is below its floor.
-fn commit_regressed(r: Row) -> bool
-    ensures { λ b. ⌜ b ≡ model.rule1 (rowOf r) ⌝ }
-{
-    r.commit.0 < r.floor.0
-}
-
 // Rule 2: there was a committed configuration, and there is none now or one of a lower index.
 fn configuration_regressed(r: Row) -> bool
     ensures { λ b. ⌜ b ≡ model.rule2 (rowOf r) ⌝ }
@@ -48,18 +41,12 @@ fn configuration_changed(r: Row) -> bool
         && floor.identity != actual.identity
 }
 
-// Rule 4: the commit index is above the last index.
-fn commit_beyond_log(r: Row) -> bool
-    ensures { λ b. ⌜ b ≡ model.rule4 (rowOf r) ⌝ }
-{
-    r.last.0 < r.commit.0
-}
-
-// The first rule that the row fails, 1 to 4, or NO_RULE.
+// The first rule that the row fails, 1 to 4, or NO_RULE. Rule 1: the commit index is below its floor. Rule 4: it is above the
+// last index.
 fn first_rule(r: Row) -> u8
     ensures { λ k. ⌜ k ≡ firstRule (rowOf r) ⌝ }
 {
-    if commit_regressed(r) {
+    if r.commit.0 < r.floor.0 {
         return 1;
     }
     if configuration_regressed(r) {
@@ -68,7 +55,7 @@ fn first_rule(r: Row) -> u8
     if configuration_changed(r) {
         return 3;
     }
-    if commit_beyond_log(r) {
+    if r.last.0 < r.commit.0 {
         return 4;
     }
     NO_RULE

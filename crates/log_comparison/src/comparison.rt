@@ -9,33 +9,30 @@ use prefix_rows::prefixes::parent_at;
 use prefix_rows::prefixes::size_at;
 use prefix_rows::prefixes::term_at;
 use storage_bytes::layout::PREFIX_WIDTH;
+use units::LogPrefixWitness;
 
-// Whether the prefixes of two numbers are the same. From the last entries back, left at the first byte that differs.
-pub fn same_prefix(prefixes: &[u8], count: usize, a: usize, b: usize) -> bool
-    requires { ⌜ Table (now prefixes) count × (a ≤ count) × (b ≤ count) ⌝ }
-    ensures { λ r. ⌜ r ≡ sameFrom (prefixRow (now (prefixes .entry))) a a b ⌝ }
+// Whether two stored prefixes are the same. From the last entries back, left at the first byte that differs;
+// the two have met where they are the same.
+pub fn same_prefix(prefixes: &[u8], count: usize, a: LogPrefixWitness, b: LogPrefixWitness) -> bool
+    requires { ⌜ Table (now prefixes) count × (a .0 ≤ count) × (b .0 ≤ count) ⌝ }
+    ensures { λ r. ⌜ r ≡ sameFrom (prefixRow (now (prefixes .entry))) (a .0) (a .0) (b .0) ⌝ }
 {
-    let mut p = a;
-    let mut q = b;
-    let mut same = true;
+    let mut p = a.0;
+    let mut q = b.0;
     'entries: while p != q {
         if p == 0 {
-            same = false;
             break 'entries;
         }
         if q == 0 {
-            same = false;
             break 'entries;
         }
         let i = p - 1;
         let j = q - 1;
         if term_at(prefixes, i).0 != term_at(prefixes, j).0 {
-            same = false;
             break 'entries;
         }
         let n = size_at(prefixes, i);
         if n != size_at(prefixes, j) {
-            same = false;
             break 'entries;
         }
         let x = i * PREFIX_WIDTH + 9;
@@ -43,13 +40,12 @@ pub fn same_prefix(prefixes: &[u8], count: usize, a: usize, b: usize) -> bool
         let mut k = 0;
         while k < n {
             if prefixes[x + k] != prefixes[y + k] {
-                same = false;
                 break 'entries;
             }
             k += 1;
         }
-        p = parent_at(prefixes, i);
-        q = parent_at(prefixes, j);
+        p = parent_at(prefixes, i).0;
+        q = parent_at(prefixes, j).0;
     }
-    same
+    p == q
 }

@@ -2,7 +2,7 @@
 -- Assumes nothing.
 use Prim.Native.Nat.{ℕ, _+_, _*_, _<_, _≤_}
 use native.Mathlib.Omega.{arith}
-use mathlib.Core.Path.{_≡_, refl, sym, _∙_, ap, subst}
+use mathlib.Core.Path.{_≡_, refl, sym, _∙_, ap}
 use mathlib.Core.Bool.{Bool, true, false}
 use mathlib.Core.Logic.{⊎-elim}
 use mathlib.Core.List.{List, [], _∷_}
@@ -15,11 +15,15 @@ use Rattle.model.proofs.Tests.{tf, either, cond-cases, cond-true, cond-false}
 use Rattle.record_walk.specs.declared.walk.ShownEntry.{ShownEntry}
 use Rattle.storage_bytes.specs.Words.{bytesAt, wordAt, putBytes, wordBytes}
 use Rattle.storage.specs.Tables.{prefixRow, prefixesPart}
+use Rattle.storage.specs.Values.{numberIndex}
 use Rattle.storage.specs.Writes.{prefixBytes, prefixAppended}
 use Rattle.storage_bytes.proofs.ListLaws.{tabulate-length}
 use Rattle.storage_bytes.proofs.WordLaws.{put-length}
 use Rattle.prefix_lookup.specs.Table.{entryValue}
-use Rattle.prefix_lookup.specs.Prefix.{rowOf, find}
+use Rattle.prefix_lookup.specs.Prefix.{witness, storedOf, rowOf, find}
+use Rattle.prefix_lookup.specs.declared.lookup.Stored.{Stored}
+use Rattle.prefix_lookup.proofs.StoredLaws.{stored-number, stored-nothing}
+use Rattle.units.specs.declared.LogPrefixWitness.{LogPrefixWitness}
 use Rattle.log_prefix.specs.Extension.{extensionIn, storedContent, appended, extendedBytes, extendedCount, extendedNumber, extended, nextIndex, extension, extensionBytes, Extending, writtenBytes, writtenCount, writtenNumber}
 use Rattle.log_prefix.specs.declared.prefix.Extended.{Extended}
 use Rattle.log_prefix.specs.declared.prefix.Extension.{Extension}
@@ -66,34 +70,33 @@ appended-length h p i t m c =
 abbrev Made : Bytes → ℕ → ℕ → ShownEntry → Extended → Bytes → Type 0
 Made h n p e y h′ = (y ≡ extended h n p (entryValue e)) × (h′ ≡ extendedBytes h n p (e .index .0) (entryValue e))
 
-module _ (h : Bytes) (n p : ℕ) (e : ShownEntry) (q : Bytes) (eq : q ≡ prefixesPart h) (x : ℕ) (ex : x ≡ find (prefixRow q) n (rowOf p 0 (entryValue e))) where
-  extension-is : x ≡ extensionIn h n p (entryValue e)
+module _ (h : Bytes) (n p : ℕ) (e : ShownEntry) (q : Bytes) (eq : q ≡ prefixesPart h) (r : Stored) (er : r ≡ storedOf (find (prefixRow q) n (rowOf p 0 (entryValue e)))) where
+  extension-is : r ≡ storedOf (extensionIn h n p (entryValue e))
   unfolding extensionIn
-  extension-is = ex ∙ ap (λ (t : Bytes). find (prefixRow t) n (rowOf p 0 (entryValue e))) eq
+  extension-is = er ∙ ap (λ (t : Bytes). storedOf (find (prefixRow t) n (rowOf p 0 (entryValue e)))) eq
 
-  pub extend-found : (x ≡ 0 → ⊥) → Made h n p e (record { number = x; count = n }) h
-  extend-found z = found (subst (λ (y : ℕ). eqb y 0 ≡ false) extension-is (ne-eqb x 0 z))
-    where
-      found : eqb (extensionIn h n p (entryValue e)) 0 ≡ false → Made h n p e (record { number = x; count = n }) h
-      found f =
-          let a = extension-is ∙ sym (number-found h n p (entryValue e) f) in
-          let b = sym (count-found h n p (entryValue e) f) in
-          ((λ j. record { number = a j; count = b j }), sym (bytes-found h n p (e .index .0) (entryValue e) f))
+  pub extend-found : (w : LogPrefixWitness) → r ≡ Stored.Prefix w → Made h n p e (record { prefix = w; count = n }) h
+  extend-found w z =
+      let s = stored-number (extensionIn h n p (entryValue e)) r extension-is w z in
+      let f = ne-eqb (extensionIn h n p (entryValue e)) 0 (s .1) in
+      let a = s .0 ∙ sym (number-found h n p (entryValue e) f) in
+      let b = sym (count-found h n p (entryValue e) f) in
+      ((λ j. record { prefix = witness (a j); count = b j }), sym (bytes-found h n p (e .index .0) (entryValue e) f))
 
-  module _ (g : Extending h n p e) (i : e .index .0 ≡ nextIndex h p) (z : x ≡ 0) where
+  module _ (g : Extending h n p e) (i : e .index .0 ≡ nextIndex h p) (z : r ≡ Stored.Nothing) where
     nowhere : eqb (extensionIn h n p (entryValue e)) 0 ≡ true
-    nowhere = subst (λ (y : ℕ). eqb y 0 ≡ true) extension-is (eq-eqb x 0 z)
+    nowhere = eq-eqb (extensionIn h n p (entryValue e)) 0 (stored-nothing (extensionIn h n p (entryValue e)) r extension-is z)
 
     pub extend-room : wordAt h 0 2 < 512
     extend-room = (let r = g .room i in let c = count-made h n p (entryValue e) nowhere in let k = g .count in omega arith)
 
     pub extend-made : (h′ : Bytes)
         → h′ ≡ prefixAppended h p (e .index .0) (e .term .0) (e .length) (e .content)
-        → Made h n p e (record { number = n + 1; count = n + 1 }) h′
+        → Made h n p e (record { prefix = witness (n + 1); count = n + 1 }) h′
     extend-made h′ w =
         let a = sym (number-made h n p (entryValue e) nowhere) in
         let b = sym (count-made h n p (entryValue e) nowhere) in
-        ((λ j. record { number = a j; count = b j }), w ∙ same-bytes ∙ sym (bytes-made h n p (e .index .0) (entryValue e) nowhere))
+        ((λ j. record { prefix = witness (a j); count = b j }), w ∙ same-bytes ∙ sym (bytes-made h n p (e .index .0) (entryValue e) nowhere))
       where
         same-bytes : prefixAppended h p (e .index .0) (e .term .0) (e .length) (e .content) ≡ appended h p (e .index .0) (entryValue e)
         same-bytes =
@@ -102,6 +105,10 @@ module _ (h : Bytes) (n p : ℕ) (e : ShownEntry) (q : Bytes) (eq : q ≡ prefix
             λ j. prefixAppended h p (e .index .0) (e .term .0) (a j) (b j)
 
 -- ---- an entry of the next index, and any other
+
+-- the end that was read, and the index after it
+pub next-read : (h q : Bytes) (p i : ℕ) → q ≡ prefixesPart h → i ≡ numberIndex q p → i + 1 ≡ nextIndex h p
+next-read h q p i eq ei = ap (λ (m : ℕ). m + 1) (ei ∙ ap (λ (t : Bytes). numberIndex t p) eq)
 
 module _ (h : Bytes) (n p : ℕ) (e : ShownEntry) where
   abbrev Answered : Extension → Bytes → Type 0

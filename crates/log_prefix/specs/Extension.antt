@@ -17,7 +17,7 @@ use Rattle.log_prefix.specs.declared.prefix.Extended.{Extended}
 use Rattle.log_prefix.specs.declared.prefix.Extension.{Extension}
 use Rattle.record_walk.specs.declared.walk.ShownEntry.{ShownEntry}
 use Rattle.prefix_lookup.specs.Table.{entryValue}
-use Rattle.prefix_lookup.specs.Prefix.{rowOf, find}
+use Rattle.prefix_lookup.specs.Prefix.{witness, rowOf, find}
 
 -- an extension that is stored has its number, one that is not gets the next
 abbrev pub orNext : ℕ → ℕ → ℕ
@@ -50,7 +50,7 @@ unfolding extensionIn
 extendedNumber h n p e = orNext (extensionIn h n p e) n
 
 abbrev pub extended : Bytes → ℕ → ℕ → Entry → Extended
-extended h n p e = record { number = extendedNumber h n p e; count = extendedCount h n p e }
+extended h n p e = record { prefix = witness (extendedNumber h n p e); count = extendedCount h n p e }
 
 -- the index after the last of the prefix of number p
 abbrev pub nextIndex : Bytes → ℕ → ℕ

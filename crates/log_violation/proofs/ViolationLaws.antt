@@ -1,32 +1,32 @@
 -- Findings are noted once: what the tests of the code say of a row, what noting means of the list of findings, and the history's
 -- findings copied and written back.
 -- Assumes nothing.
-use Prim.Native.Nat.{ℕ, zero, suc, _+_, _*_, _<_, _≤_}
+use Prim.Native.Nat.{ℕ, zero, suc, _+_, _-_, _*_, _<_, _≤_}
 use native.Mathlib.Omega.{arith}
 use mathlib.Core.Path.{_≡_, refl, sym, _∙_, ap, subst}
-use mathlib.Core.Bool.{true, false}
+use mathlib.Core.Bool.{Bool, true, false, _||_}
 use mathlib.Core.Logic.{_⊎_, inl, inr, ⊎-elim}
 use mathlib.Core.List.{List, [], _∷_, _++_, List·Memᴰ, List·Memᴰ·head, List·Memᴰ·tail, List·Memᴰ·not-nil, List·Memᴰ·cases-cons}
 use lib.Dec.{leb, ltb, eqb}
-use lib.ListN.{length, getD, length-append}
+use lib.ListN.{length, take, drop, length-append, take-append-drop}
 use borrow.Author.Tests.{eq-eqb, ne-eqb, eqb-true, lt-ltb, le-ltb, le-leb, lt-leb, leb-true, leb-false, ltb-false}
 use Rattle.model.specs.Sizes.{Bytes}
 use Rattle.model.specs.Entry.{with, withAll}
 use Rattle.model.specs.History.{Finding, sameFinding, noted}
 use Rattle.model.proofs.Tests.{tf, either, cond-cases, cond-true, cond-false, and-left, and-right, and-both}
 use Rattle.model.proofs.Members.{with-there, with-fresh, member}
-use Rattle.storage_bytes.specs.Words.{putBytes, wordBytes}
+use Rattle.storage_bytes.specs.Lists.{tabulate}
+use Rattle.storage_bytes.specs.Words.{wordAt, putBytes, wordBytes}
 use Rattle.storage.specs.Tables.{findingRow, findingRows, findingsPart}
 use Rattle.storage.specs.Rules.{wellFormed}
 use Rattle.storage.specs.Writes.{findingBytes, FindingFits}
-use Rattle.storage_bytes.proofs.ListLaws.{tabulate-length, tabulate-at}
+use Rattle.storage_bytes.proofs.ListLaws.{tabulate-length}
 use Rattle.storage_bytes.proofs.WordLaws.{put-length}
-use Rattle.storage_bytes.proofs.PartLaws.{part-length, put-whole}
+use Rattle.storage_bytes.proofs.PartLaws.{part-length, part-lent, put-whole}
 use Rattle.storage.proofs.WellFormed.{formed}
+use Rattle.storage.proofs.WriteLaws.{part-written}
 use Rattle.storage.proofs.RowLaws.{rows-append, finding-own, finding-length, finding-back}
-use Rattle.prefix_lookup.specs.Prefix.{searchFrom}
-use Rattle.log_violation.specs.Violation.{sameNumbers, notedAt, noteHeld, noteBytes, heldAll, bytesAll, findingsKept}
-use Rattle.prefix_lookup.proofs.PrefixLaws.{Hit, Miss, searched}
+use Rattle.log_violation.specs.Violation.{sameNumbers, notedFrom, isNoted, noteHeld, noteBytes, heldAll, bytesAll, findingsKept, notedIn}
 
 -- ---- a row held against a finding, number by number
 
@@ -34,81 +34,86 @@ module _ (x g f : Finding) (e : g ≡ x) where
   at-value : sameNumbers g f ≡ sameNumbers x f
   at-value = ap (λ (y : Finding). sameNumbers y f) e
 
-  pub other-name : (g .name ≡ f .name → ⊥) → false ≡ sameNumbers x f
+  pub other-index : (g .index ≡ f .index → ⊥) → false ≡ sameNumbers x f
   unfolding sameNumbers
-  other-name d = (rw (ne-eqb _ _ d)) ∙ at-value
+  other-index d = (rw (ne-eqb _ _ d)) ∙ at-value
 
-  module _ (a : g .name ≡ f .name) where
-    pub other-node : (g .node ≡ f .node → ⊥) → false ≡ sameNumbers x f
+  module _ (a : g .index ≡ f .index) where
+    pub other-term : (g .term ≡ f .term → ⊥) → false ≡ sameNumbers x f
     unfolding sameNumbers
-    other-node d = (rw (eq-eqb _ _ a, ne-eqb _ _ d)) ∙ at-value
+    other-term d = (rw (eq-eqb _ _ a, ne-eqb _ _ d)) ∙ at-value
 
-    module _ (b : g .node ≡ f .node) where
-      pub other-index : (g .index ≡ f .index → ⊥) → false ≡ sameNumbers x f
+    module _ (b : g .term ≡ f .term) where
+      pub other-node : (g .node ≡ f .node → ⊥) → false ≡ sameNumbers x f
       unfolding sameNumbers
-      other-index d = (rw (eq-eqb _ _ a, eq-eqb _ _ b, ne-eqb _ _ d)) ∙ at-value
+      other-node d = (rw (eq-eqb _ _ a, eq-eqb _ _ b, ne-eqb _ _ d)) ∙ at-value
 
-      pub other-term : g .index ≡ f .index → eqb (g .term) (f .term) ≡ sameNumbers x f
+      pub other-name : g .node ≡ f .node → eqb (g .name) (f .name) ≡ sameNumbers x f
       unfolding sameNumbers
-      other-term d = (rw (eq-eqb _ _ a, eq-eqb _ _ b, eq-eqb _ _ d)) ∙ at-value
+      other-name d = (rw (eq-eqb _ _ a, eq-eqb _ _ b, eq-eqb _ _ d)) ∙ at-value
 
 -- ---- noting means one finding more, once
 
 pub same-finding : (f g : Finding) → sameNumbers f g ≡ true → f ≡ g
 unfolding sameNumbers
 same-finding f g e =
-    let a = eqb-true (f .name) (g .name) (and-left _ _ e) in
-    let x = and-right (eqb (f .name) (g .name)) _ e in
-    let b = eqb-true (f .node) (g .node) (and-left _ _ x) in
-    let y = and-right (eqb (f .node) (g .node)) _ x in
-    let c = eqb-true (f .index) (g .index) (and-left _ _ y) in
-    let d = eqb-true (f .term) (g .term) (and-right (eqb (f .index) (g .index)) _ y) in
+    let c = eqb-true (f .index) (g .index) (and-left _ _ e) in
+    let x = and-right (eqb (f .index) (g .index)) _ e in
+    let d = eqb-true (f .term) (g .term) (and-left _ _ x) in
+    let y = and-right (eqb (f .term) (g .term)) _ x in
+    let b = eqb-true (f .node) (g .node) (and-left _ _ y) in
+    let a = eqb-true (f .name) (g .name) (and-right (eqb (f .node) (g .node)) _ y) in
     λ i. record { name = a i; node = b i; index = c i; term = d i }
 
 finding-same : (f g : Finding) → f ≡ g → sameNumbers f g ≡ true
 unfolding sameNumbers
 finding-same f g e =
-    and-both _ _ (eq-eqb _ _ (ap (λ (x : Finding). x .name) e))
-    (and-both _ _ (eq-eqb _ _ (ap (λ (x : Finding). x .node) e))
-    (and-both _ _ (eq-eqb _ _ (ap (λ (x : Finding). x .index) e)) (eq-eqb _ _ (ap (λ (x : Finding). x .term) e))))
+    and-both _ _ (eq-eqb _ _ (ap (λ (x : Finding). x .index) e))
+    (and-both _ _ (eq-eqb _ _ (ap (λ (x : Finding). x .term) e))
+    (and-both _ _ (eq-eqb _ _ (ap (λ (x : Finding). x .node) e)) (eq-eqb _ _ (ap (λ (x : Finding). x .name) e))))
 
-at-place : {A : Type 0} (d : A) (xs : List A) (k : ℕ) → k < length xs → List·Memᴰ (getD xs k d) xs
-at-place d [] k h = absurd (omega arith)
-at-place d (x ∷ xs) zero h = List·Memᴰ·head refl
-at-place d (x ∷ xs) (suc k) h = List·Memᴰ·tail (at-place d xs k (omega arith))
+module _ (t : Bytes) (f : Finding) where
+  -- the row at place k is the finding, or the rest decides
+  noted-here : (n k : ℕ) → sameNumbers (findingRow t k) f ≡ true → notedFrom t k (suc n) f ≡ true
+  unfolding notedFrom
+  noted-here n k e = ap (λ (b : Bool). b || notedFrom t (k + 1) n f) e
 
-place-of : {A : Type 0} (d : A) (xs : List A) (y : A) → List·Memᴰ y xs → (k : ℕ) × (k < length xs) × (getD xs k d ≡ y)
-place-of d [] y m = absurd (List·Memᴰ·not-nil m)
-place-of d (x ∷ xs) y m =
-    ⊎-elim (λ e. (0, omega arith, sym e))
-    (λ t. let r = place-of d xs y t in (suc (r .0), (let z = r .1 in omega arith), r .2)) (List·Memᴰ·cases-cons m)
+  noted-later : (n k : ℕ) → sameNumbers (findingRow t k) f ≡ false → notedFrom t k (suc n) f ≡ notedFrom t (k + 1) n f
+  unfolding notedFrom
+  noted-later n k e = ap (λ (b : Bool). b || notedFrom t (k + 1) n f) e
 
-abbrev none : Finding
-none = record { name = 0; node = 0; index = 0; term = 0 }
+  noted-in : (n k : ℕ) → notedFrom t k n f ≡ true → List·Memᴰ f (tabulate (findingRow t) k n)
+  unfolding tabulate
+  noted-in zero k e = absurd (tf (sym e ∙ (unfold notedFrom in refl)))
+  noted-in (suc n) k e =
+      ⊎-elim (λ a. List·Memᴰ·head (sym (same-finding (findingRow t k) f a))) (λ a. List·Memᴰ·tail (noted-in n (k + 1) (sym (noted-later n k a) ∙ e)))
+      (either (sameNumbers (findingRow t k) f))
 
-rows-at : (t : Bytes) (n k : ℕ) → k < n → getD (findingRows t n) k none ≡ findingRow t k
-rows-at t n k h = tabulate-at (findingRow t) 0 n k none h ∙ ap (findingRow t) (let e : 0 + k ≡ k = omega arith in e)
+  noted-out : (n k : ℕ) → notedFrom t k n f ≡ false → List·Memᴰ f (tabulate (findingRow t) k n) → ⊥
+  unfolding tabulate
+  noted-out zero k e m = List·Memᴰ·not-nil m
+  noted-out (suc n) k e m =
+      ⊎-elim (λ a. tf (sym (noted-here n k a) ∙ e))
+      (λ a.
+      ⊎-elim (λ q. tf (sym (finding-same (findingRow t k) f (sym q)) ∙ a)) (λ q. noted-out n (k + 1) (sym (noted-later n k a) ∙ e) q)
+      (List·Memᴰ·cases-cons m))
+      (either (sameNumbers (findingRow t k) f))
 
-module _ (t : Bytes) (n : ℕ) (f : Finding) where
-  pub noted-there : (x : ℕ) → notedAt t n f ≡ suc x → List·Memᴰ f (findingRows t n)
-  unfolding notedAt
-  noted-there x e = ⊎-elim hit (λ m. absurd (let z = m .isZero in omega arith)) (searched (λ k. sameNumbers (findingRow t k) f) 0 n)
-    where
-      hit : Hit (λ k. sameNumbers (findingRow t k) f) 0 n (searchFrom (λ k. sameNumbers (findingRow t k) f) 0 n) → List·Memᴰ f (findingRows t n)
-      hit h =
-          let l : h .place < n = (let z = h .before in omega arith) in
-          subst (λ (y : Finding). List·Memᴰ y (findingRows t n)) (rows-at t n (h .place) l ∙ same-finding (findingRow t (h .place)) f (h .passes))
-          (at-place none (findingRows t n) (h .place) (subst (λ (m : ℕ). h .place < m) (sym (tabulate-length (findingRow t) 0 n)) l))
+-- ---- the turns of the search, from place k on, before place n
 
-  pub noted-nowhere : notedAt t n f ≡ 0 → List·Memᴰ f (findingRows t n) → ⊥
-  unfolding notedAt
-  noted-nowhere e m = ⊎-elim (λ h. let z = h .number in omega arith) miss (searched (λ k. sameNumbers (findingRow t k) f) 0 n)
-    where
-      miss : Miss (λ k. sameNumbers (findingRow t k) f) 0 n (searchFrom (λ k. sameNumbers (findingRow t k) f) 0 n) → ⊥
-      miss w =
-          let r = place-of none (findingRows t n) f m in
-          let l : r .0 < n = subst (λ (k : ℕ). r .0 < k) (tabulate-length (findingRow t) 0 n) (r .1) in
-          tf (sym (finding-same (findingRow t (r .0)) f (sym (rows-at t n (r .0) l) ∙ r .2)) ∙ w .fails (r .0) (omega arith) (omega arith))
+module _ (t : Bytes) (f : Finding) (k n : ℕ) {r : Bool} (inv : r ≡ notedFrom t k (n - k) f) where
+  more : k < n → r ≡ notedFrom t k (suc (n - (k + 1))) f
+  more h = inv ∙ ap (λ (m : ℕ). notedFrom t k m f) (let e : n - k ≡ suc (n - (k + 1)) = omega arith in e)
+
+  pub noted-stop : k < n → sameNumbers (findingRow t k) f ≡ true → true ≡ r
+  noted-stop h e = sym (more h ∙ noted-here t f (n - (k + 1)) k e)
+
+  pub noted-next : k < n → sameNumbers (findingRow t k) f ≡ false → r ≡ notedFrom t (k + 1) (n - (k + 1)) f
+  noted-next h e = more h ∙ noted-later t f (n - (k + 1)) k e
+
+  pub noted-none : n ≤ k → false ≡ r
+  unfolding notedFrom
+  noted-none h = sym (inv ∙ ap (λ (m : ℕ). notedFrom t k m f) (let e : n - k ≡ 0 = omega arith in e))
 
 -- the table stands for the findings fs, or there are too many of them
 abbrev pub Holds : Bytes → ℕ → List Finding → Type 0
@@ -131,27 +136,25 @@ module _ (t : Bytes) (n : ℕ) (f : Finding) (fs : List Finding) (long : length 
       inr (cond-true (ltb 128 n) n _ (lt-ltb 128 n (omega arith)) ∙ e, (let z = with-longer fs f in omega arith))
 
   -- noted before
-  again : n ≤ 128 → findingRows t n ≡ fs → (x : ℕ) → notedAt t n f ≡ suc x → After (noteHeld t n f) (noteBytes t n f)
+  again : n ≤ 128 → findingRows t n ≡ fs → isNoted t n f ≡ true → After (noteHeld t n f) (noteBytes t n f)
   unfolding noteHeld noteBytes
-  again h e x w =
-      let held : noteHeld t n f ≡ n =
-      cond-false (ltb 128 n) n _ (le-ltb 128 n h) ∙ cond-false (eqb (notedAt t n f) 0) (n + 1) n (ne-eqb (notedAt t n f) 0 (λ z. omega arith)) in
+  again h e w =
+      let held : noteHeld t n f ≡ n = cond-false (ltb 128 n) n _ (le-ltb 128 n h) ∙ cond-true (isNoted t n f) n (n + 1) w in
       let bytes : noteBytes t n f ≡ t =
       ⊎-elim (λ b. cond-true (leb 128 n) t _ b)
-      (λ b. cond-false (leb 128 n) t _ b ∙ cond-false (eqb (notedAt t n f) 0) (putBytes t (n * 8) (findingBytes f)) t (ne-eqb (notedAt t n f) 0 (λ z. omega arith)))
+      (λ b. cond-false (leb 128 n) t _ b ∙ cond-true (isNoted t n f) t (putBytes t (n * 8) (findingBytes f)) w)
       (either (leb 128 n)) in
       subst (λ (m : ℕ). After m (noteBytes t n f)) (sym held)
       (subst (After n) (sym bytes)
-      (inl (h, e ∙ sym (with-there sameFinding fs f (subst (List·Memᴰ f) e (noted-there t n f x w))))))
+      (inl (h, e ∙ sym (with-there sameFinding fs f (subst (List·Memᴰ f) e (noted-in t f n 0 w))))))
 
   -- new
-  new : n ≤ 128 → findingRows t n ≡ fs → notedAt t n f ≡ 0 → After (noteHeld t n f) (noteBytes t n f)
+  new : n ≤ 128 → findingRows t n ≡ fs → isNoted t n f ≡ false → After (noteHeld t n f) (noteBytes t n f)
   unfolding noteHeld noteBytes
   new h e w =
-      let held : noteHeld t n f ≡ n + 1 =
-      cond-false (ltb 128 n) n _ (le-ltb 128 n h) ∙ cond-true (eqb (notedAt t n f) 0) (n + 1) n (eq-eqb (notedAt t n f) 0 w) in
+      let held : noteHeld t n f ≡ n + 1 = cond-false (ltb 128 n) n _ (le-ltb 128 n h) ∙ cond-false (isNoted t n f) n (n + 1) w in
       let fresh : with sameFinding fs f ≡ fs ++ (f ∷ []) =
-      with-fresh sameFinding fs f (λ m. noted-nowhere t n f w (subst (List·Memᴰ f) (sym e) m)) in
+      with-fresh sameFinding fs f (λ m. noted-out t f n 0 w (subst (List·Memᴰ f) (sym e) m)) in
       let size : length fs ≡ n = sym (ap length e) ∙ tabulate-length (findingRow t) 0 n in
       subst (λ (m : ℕ). After m (noteBytes t n f)) (sym held)
       (⊎-elim
@@ -161,7 +164,7 @@ module _ (t : Bytes) (n : ℕ) (f : Finding) (fs : List Finding) (long : length 
       (λ b.
       let room = leb-false 128 n b in
       let bytes : noteBytes t n f ≡ putBytes t (n * 8) (findingBytes f) =
-      cond-false (leb 128 n) t _ b ∙ cond-true (eqb (notedAt t n f) 0) (putBytes t (n * 8) (findingBytes f)) t (eq-eqb (notedAt t n f) 0 w) in
+      cond-false (leb 128 n) t _ b ∙ cond-false (isNoted t n f) t (putBytes t (n * 8) (findingBytes f)) w in
       subst (After (n + 1)) (sym bytes)
       (inl (
         omega arith,
@@ -172,18 +175,14 @@ module _ (t : Bytes) (n : ℕ) (f : Finding) (fs : List Finding) (long : length 
 
   pub note-holds : Holds t n fs → After (noteHeld t n f) (noteBytes t n f)
   note-holds (inr o) = over (o .0) (o .1)
-  note-holds (inl i) = go (notedAt t n f) refl
-    where
-      go : (x : ℕ) → notedAt t n f ≡ x → After (noteHeld t n f) (noteBytes t n f)
-      go zero w = new (i .0) (i .1) w
-      go (suc x) w = again (i .0) (i .1) x w
+  note-holds (inl i) = ⊎-elim (again (i .0) (i .1)) (new (i .0) (i .1)) (either (isNoted t n f))
 
 pub note-length : (t : Bytes) (n : ℕ) (f : Finding) → length (noteBytes t n f) ≡ length t
 unfolding noteBytes
 note-length t n f =
     cond-cases (λ (u : Bytes). length u ≡ length t) (leb 128 n) t _ (λ _. refl)
-    (λ _. cond-cases (λ (u : Bytes). length u ≡ length t) (eqb (notedAt t n f) 0) (putBytes t (n * 8) (findingBytes f)) t
-    (λ _. put-length t (n * 8) (findingBytes f)) (λ _. refl))
+    (λ _. cond-cases (λ (u : Bytes). length u ≡ length t) (isNoted t n f) t (putBytes t (n * 8) (findingBytes f))
+    (λ _. refl) (λ _. put-length t (n * 8) (findingBytes f)))
 
 -- several, one after the other
 pub all-hold : (gs : List Finding) (t : Bytes) (n : ℕ) (fs : List Finding) → length t ≡ 1024 → ((g : Finding) → List·Memᴰ g gs → FindingFits g)
@@ -217,7 +216,7 @@ held-few [] t n h = h
 held-few (x ∷ xs) t n h =
     held-few xs (noteBytes t n x) (noteHeld t n x)
     (cond-cases (λ (m : ℕ). m ≤ 129) (ltb 128 n) n _ (λ _. h)
-    (λ f. cond-cases (λ (m : ℕ). m ≤ 129) (eqb (notedAt t n x) 0) (n + 1) n (λ _. let z = ltb-false 128 n f in omega arith) (λ _. h)))
+    (λ f. cond-cases (λ (m : ℕ). m ≤ 129) (isNoted t n x) n (n + 1) (λ _. h) (λ _. let z = ltb-false 128 n f in omega arith)))
 
 -- ---- the turns of `note`
 
@@ -229,35 +228,35 @@ module _ (t : Bytes) (n : ℕ) (f : Finding) where
   unfolding noteHeld noteBytes
   note-over h = (sym (cond-true (ltb 128 n) n _ (lt-ltb 128 n h)), sym (cond-true (leb 128 n) t _ (le-leb 128 n (omega arith))))
 
-  module _ (h : n ≤ 128) (x : ℕ) (e : x ≡ notedAt t n f) where
-    pub note-again : (x ≡ 0 → ⊥) → Noted t n f n t
+  module _ (h : n ≤ 128) (b : Bool) (e : b ≡ isNoted t n f) where
+    pub note-again : b ≡ true → Noted t n f n t
     unfolding noteHeld noteBytes
     note-again z =
-        let w : eqb (notedAt t n f) 0 ≡ false = subst (λ (y : ℕ). eqb y 0 ≡ false) e (ne-eqb x 0 z) in (
-          sym (cond-false (ltb 128 n) n _ (le-ltb 128 n h) ∙ cond-false (eqb (notedAt t n f) 0) (n + 1) n w),
-          sym (⊎-elim (λ b. cond-true (leb 128 n) t _ b)
-              (λ b. cond-false (leb 128 n) t _ b ∙ cond-false (eqb (notedAt t n f) 0) (putBytes t (n * 8) (findingBytes f)) t w)
+        let w : isNoted t n f ≡ true = sym e ∙ z in (
+          sym (cond-false (ltb 128 n) n _ (le-ltb 128 n h) ∙ cond-true (isNoted t n f) n (n + 1) w),
+          sym (⊎-elim (λ x. cond-true (leb 128 n) t _ x)
+              (λ x. cond-false (leb 128 n) t _ x ∙ cond-true (isNoted t n f) t (putBytes t (n * 8) (findingBytes f)) w)
               (either (leb 128 n))),
         )
 
-    module _ (z : x ≡ 0) where
-      nowhere : eqb (notedAt t n f) 0 ≡ true
-      nowhere = subst (λ (y : ℕ). eqb y 0 ≡ true) e (eq-eqb x 0 z)
+    module _ (z : b ≡ false) where
+      nowhere : isNoted t n f ≡ false
+      nowhere = sym e ∙ z
 
       held-more : n + 1 ≡ noteHeld t n f
       unfolding noteHeld
-      held-more = sym (cond-false (ltb 128 n) n _ (le-ltb 128 n h) ∙ cond-true (eqb (notedAt t n f) 0) (n + 1) n nowhere)
+      held-more = sym (cond-false (ltb 128 n) n _ (le-ltb 128 n h) ∙ cond-false (isNoted t n f) n (n + 1) nowhere)
 
-      pub note-full : n ≡ 128 → Noted t n f (n + 1) t
+      pub note-full : 128 ≤ n → Noted t n f (n + 1) t
       unfolding noteBytes
-      note-full q = (held-more, sym (cond-true (leb 128 n) t _ (le-leb 128 n (omega arith))))
+      note-full q = (held-more, sym (cond-true (leb 128 n) t _ (le-leb 128 n q)))
 
-      pub note-new : (n ≡ 128 → ⊥) → (u : Bytes) → u ≡ putBytes t (n * 8) (findingBytes f) → Noted t n f (n + 1) u
+      pub note-new : n < 128 → (u : Bytes) → u ≡ putBytes t (n * 8) (findingBytes f) → Noted t n f (n + 1) u
       unfolding noteBytes
       note-new q u w = (
         held-more,
-        w ∙ sym (cond-false (leb 128 n) t _ (lt-leb 128 n (omega arith))
-            ∙ cond-true (eqb (notedAt t n f) 0) (putBytes t (n * 8) (findingBytes f)) t nowhere),
+        w ∙ sym (cond-false (leb 128 n) t _ (lt-leb 128 n q)
+            ∙ cond-false (isNoted t n f) t (putBytes t (n * 8) (findingBytes f)) nowhere),
       )
 
 -- ---- the history's findings, copied and written back
@@ -272,3 +271,53 @@ copied h t t′ l q eq lq e = e ∙ put-whole t q (lq ∙ sym l) ∙ eq
 pub kept-length : (h : Bytes) (t : Bytes) (n : ℕ) → length (findingsKept h t n) ≡ length h
 unfolding findingsKept
 kept-length h t n = put-length (putBytes h 2121 t) 7 (wordBytes 1 n) ∙ put-length h 2121 t
+
+-- ---- a finding noted in the history itself
+
+module _ (h : Bytes) (f : Finding) (long : length h ≡ 24137) (held : ℕ) (eh : held ≡ wordAt h 7 1)
+    (n : ℕ) (t : Bytes) (en : Noted (take 1024 (drop 2121 h)) held f n t) where
+  abbrev Table : Bytes
+  Table = findingsPart h
+
+  lent : take 1024 (drop 2121 h) ≡ Table
+  lent = part-lent h 2121 1024 (omega arith) .is
+
+  pub in-held : n ≡ noteHeld Table (wordAt h 7 1) f
+  in-held = en .0 ∙ (λ i. noteHeld (lent i) (eh i) f)
+
+  in-table : t ≡ noteBytes Table (wordAt h 7 1) f
+  in-table = en .1 ∙ (λ i. noteBytes (lent i) (eh i) f)
+
+  whole : take 2121 h ++ (t ++ drop 1024 (drop 2121 h)) ≡ putBytes h 2121 t
+  whole =
+      let l : length t ≡ length (take 1024 (drop 2121 h)) = ap length (en .1) ∙ note-length (take 1024 (drop 2121 h)) held f in
+      let k : length t ≡ 1024 = l ∙ ap length lent ∙ part-length h 2121 1024 (omega arith) in
+      part-written h t 2121 1024 0 t (sym (put-whole (take 1024 (drop 2121 h)) t l)) (omega arith) (omega arith)
+
+  -- counted
+  pub in-room : n ≤ 128 → (v : Bytes) → v ≡ putBytes (take 2121 h ++ (t ++ drop 1024 (drop 2121 h))) 7 (wordBytes 1 n) → v ≡ notedIn h f
+  unfolding notedIn findingsKept
+  in-room r v ev =
+      ev ∙ ap (λ (u : Bytes). putBytes u 7 (wordBytes 1 n)) whole ∙ (λ i. findingsKept h (in-table i) (in-held i))
+      ∙ sym (cond-true (leb (noteHeld Table (wordAt h 7 1) f) 128) _ h (le-leb _ 128 (subst (λ (x : ℕ). x ≤ 128) in-held r)))
+
+  -- there are too many: the table was full and is as it was
+  pub in-full : held ≤ 128 → 128 < n → take 2121 h ++ (t ++ drop 1024 (drop 2121 h)) ≡ notedIn h f
+  unfolding notedIn noteBytes noteHeld
+  in-full few r =
+      ap (λ (u : Bytes). take 2121 h ++ (u ++ drop 1024 (drop 2121 h))) same
+      ∙ ap (λ (u : Bytes). take 2121 h ++ u) (take-append-drop 1024 (drop 2121 h))
+      ∙ take-append-drop 2121 h
+      ∙ sym (cond-false (leb (noteHeld Table (wordAt h 7 1) f) 128) _ h (lt-leb _ 128 (subst (λ (x : ℕ). 128 < x) in-held r)))
+    where
+      full : 128 ≤ held
+      full =
+          cond-cases (λ (m : ℕ). n ≡ m → 128 ≤ held) (ltb 128 held) held _ (λ _ e. omega arith)
+          (λ _. cond-cases (λ (m : ℕ). n ≡ m → 128 ≤ held) (isNoted (take 1024 (drop 2121 h)) held f) held (held + 1) (λ _ e. omega arith) (λ _ e. omega arith)) (en .0)
+
+      same : t ≡ take 1024 (drop 2121 h)
+      same = en .1 ∙ cond-true (leb 128 held) _ _ (le-leb 128 held full)
+
+pub in-length : (h : Bytes) (f : Finding) → length (notedIn h f) ≡ length h
+unfolding notedIn
+in-length h f = cond-cases (λ (u : Bytes). length u ≡ length h) (leb (noteHeld (findingsPart h) (wordAt h 7 1) f) 128) _ h (λ _. kept-length h _ _) (λ _. refl)

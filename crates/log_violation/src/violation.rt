@@ -6,7 +6,7 @@ ghost use lib.ListN.{length};
 ghost use Rattle.storage_bytes.specs.Words.{wordAt};
 ghost use Rattle.storage.specs.Tables.{findingRow, findingsPart};
 ghost use Rattle.table_rows.specs.Values.{findingValue};
-ghost use Rattle.log_violation.specs.Violation.{sameNumbers, notedAt, noteHeld, noteBytes, findingsKept};
+ghost use Rattle.log_violation.specs.Violation.{sameNumbers, isNoted, noteHeld, noteBytes, findingsKept, notedIn};
 use storage::head::finding_count;
 use storage::head::set_finding_count;
 use storage_bytes::layout::FINDINGS_LENGTH;
@@ -18,37 +18,37 @@ use table_rows::findings::finding_at;
 use table_rows::findings::put_finding;
 use units::FINDING_LIMIT;
 
-// Row k is the finding.
+// Row k is the finding. The index is looked at first: it tells a node's findings apart.
 fn is_finding(findings: &[u8], k: usize, f: Found) -> bool
     requires { ⌜ (k < 128) × (length (now findings) ≡ 1024) ⌝ }
     ensures { λ r. ⌜ r ≡ sameNumbers (findingRow (now (findings .entry)) k) (findingValue f) ⌝ }
 {
     let g = finding_at(findings, k);
-    if g.name != f.name {
+    if g.index.0 != f.index.0 {
+        return false;
+    }
+    if g.term.0 != f.term.0 {
         return false;
     }
     if g.node.0 != f.node.0 {
         return false;
     }
-    if g.index.0 != f.index.0 {
-        return false;
-    }
-    g.term.0 == f.term.0
+    g.name == f.name
 }
 
-// The place of the finding among the first n, one more than it, or 0.
-fn noted_at(findings: &[u8], n: usize, f: Found) -> usize
+// The finding is among the first n.
+fn is_noted(findings: &[u8], n: usize, f: Found) -> bool
     requires { ⌜ (n ≤ 128) × (length (now findings) ≡ 1024) ⌝ }
-    ensures { λ r. ⌜ r ≡ notedAt (now (findings .entry)) n (findingValue f) ⌝ }
+    ensures { λ r. ⌜ r ≡ isNoted (now (findings .entry)) n (findingValue f) ⌝ }
 {
     let mut k = 0;
     while k < n {
         if is_finding(findings, k, f) {
-            return k + 1;
+            return true;
         }
         k += 1;
     }
-    0
+    false
 }
 
 // The finding is noted among n, once; how many are held then. One more than the limit: there are too many.
@@ -59,14 +59,28 @@ pub fn note(findings: &mut [u8], n: usize, f: Found) -> usize
     if FINDING_LIMIT < n {
         return n;
     }
-    if noted_at(&findings[..], n, f) != 0 {
+    if is_noted(&findings[..], n, f) {
         return n;
     }
-    if n == FINDING_LIMIT {
-        return n + 1;
+    if n < FINDING_LIMIT {
+        put_finding(&mut findings[..], n, f);
     }
-    put_finding(&mut findings[..], n, f);
     n + 1
+}
+
+// The finding is noted among the history's own; how many are held then. Where there are too many, nothing is written.
+pub fn note_in(history: &mut [u8], f: Found) -> usize
+    requires { ⌜ (wordAt (now history) 7 1 ≤ 128) × (length (now history) ≡ 24137) ⌝ }
+    ensures { λ r. ⌜ (r ≡ noteHeld (findingsPart (now (history .entry))) (wordAt (now (history .entry)) 7 1) (findingValue f)) × (now (history .exit) ≡ notedIn (now (history .entry)) (findingValue f)) ⌝ }
+{
+    let held = finding_count(&history[..]);
+    let a = FINDINGS_START;
+    let e = a + FINDINGS_LENGTH;
+    let n = note(&mut history[a..e], held, f);
+    if n <= FINDING_LIMIT {
+        set_finding_count(&mut history[..], n);
+    }
+    n
 }
 
 // A copy of the history's findings, and how many it holds.

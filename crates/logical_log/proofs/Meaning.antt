@@ -7,12 +7,13 @@ use native.Mathlib.Omega.{arith}
 use mathlib.Core.Path.{_≡_, refl, sym, _∙_, ap, subst}
 use mathlib.Core.Bool.{Bool, true, false, cond}
 use mathlib.Core.Logic.{inl, ⊎-elim}
-use mathlib.Core.List.{List, [], _∷_, List·Memᴰ, List·Memᴰ·not-nil, List·Memᴰ·cases-cons, List·Memᴰ·append-cases, List·Memᴰ·eq-of-singleton}
+use mathlib.Core.List.{List, [], _∷_, _++_, List·Memᴰ, List·Memᴰ·not-nil, List·Memᴰ·cases-cons, List·Memᴰ·append-cases, List·Memᴰ·eq-of-singleton}
 use mathlib.Core.Option.{Option, none, some}
-use lib.Dec.{ltb}
+use lib.Dec.{ltb, eqb}
 use lib.ListN.{length, getD, set}
 use lib.Seq.{set-getD}
 use borrow.Author.Tests.{lt-ltb, ltb-false}
+use Rattle.model.proofs.Tests.{cond-cases}
 use Rattle.model.specs.Sizes.{Bytes}
 use Rattle.model.specs.Entry.{Entry, Prefix, prefixes, withAll}
 use Rattle.model.specs.Refusal.{Refusal, prefixesFull, findingsFull}
@@ -35,7 +36,7 @@ use Rattle.storage.proofs.Meanings.{Stands, withPrefixes, withFront, withNoted,
 use Rattle.storage.proofs.Answered.{Means, accepts, refuses}
 use Rattle.view_writing.specs.Observation.{viewReplaced}
 use Rattle.logical_log.specs.Observation.{viewWritten, observed, observedBytes}
-use Rattle.view_judging.specs.Judging.{nextNumber, counted, missingFrom, noteOf, notesFrom, other, missingIn, notesIn, heldIn, tableIn}
+use Rattle.view_judging.specs.Judging.{other, isRemembered, noteOf, lackNotes, nextNumber, notesFrom, missingFrom, missingIn, notesIn, heldIn, tableIn}
 use Rattle.log_prefix.specs.Extension.{writtenBytes, writtenCount, writtenNumber}
 use Rattle.log_violation.specs.Violation.{heldAll, bytesAll, findingsKept}
 use Rattle.logical_log.specs.declared.observation.Observed.{Observed}
@@ -94,25 +95,37 @@ pub record Noted (node : ℕ) (f : Finding) : Type 0 where
   pub index : f .index ≤ 256
   pub term : f .term < 4294967296
 
-notes-noted : (row : ℕ → PrefixRow) (n node : ℕ) (es : List Entry) (k p i : ℕ) → Sound i es
-    → (f : Finding) → List·Memᴰ f (notesFrom row n node k p i es) → Noted node f
+note-noted : (node i t : ℕ) (f : Finding) → i ≤ 256 → t < 4294967296 → (b : Bool) → List·Memᴰ f (noteOf b node i t) → Noted node f
+note-noted node i t f hi ht false a = absurd (List·Memᴰ·not-nil a)
+note-noted node i t f hi ht true a =
+    let x = List·Memᴰ·eq-of-singleton a in
+    record {
+      name = ap (λ (y : Finding). y .name) x;
+      isNode = ap (λ (y : Finding). y .node) x;
+      index = subst (λ (y : Finding). y .index ≤ 256) (sym x) hi;
+      term = subst (λ (y : Finding). y .term < 4294967296) (sym x) ht;
+    }
+
+lack-noted : (row : ℕ → PrefixRow) (n node : ℕ) (es : List Entry) (i : ℕ) → Sound i es
+    → (f : Finding) → List·Memᴰ f (lackNotes row n node i es) → Noted node f
+unfolding lackNotes
+lack-noted row n node [] i s f m = absurd (List·Memᴰ·not-nil m)
+lack-noted row n node (e ∷ es) i s f m =
+    ⊎-elim (note-noted node i (e .term) f (s .0) (s .2) (isRemembered row n i (e .term))) (lack-noted row n node es (i + 1) (s .3) f)
+    (List·Memᴰ·append-cases (noteOf (isRemembered row n i (e .term)) node i (e .term)) m)
+
+notes-noted : (row : ℕ → PrefixRow) (n node : ℕ) (es : List Entry) (p i : ℕ) → Sound i es
+    → (f : Finding) → List·Memᴰ f (notesFrom row n node p i es) → Noted node f
 unfolding notesFrom
-notes-noted row n node [] k p i s f m = absurd (List·Memᴰ·not-nil m)
-notes-noted row n node (e ∷ es) k p i s f m =
-    let q = nextNumber row n k p e in
-    ⊎-elim (λ a. one (other row n i (e .term) q) a) (λ b. notes-noted row n node es (counted k q) q (i + 1) (s .3) f b)
-    (List·Memᴰ·append-cases (noteOf (other row n i (e .term) q) node i (e .term)) m)
-  where
-    one : (b : Bool) → List·Memᴰ f (noteOf b node i (e .term)) → Noted node f
-    one false a = absurd (List·Memᴰ·not-nil a)
-    one true a =
-        let x = List·Memᴰ·eq-of-singleton a in
-        record {
-          name = ap (λ (y : Finding). y .name) x;
-          isNode = ap (λ (y : Finding). y .node) x;
-          index = subst (λ (y : Finding). y .index ≤ 256) (sym x) (s .0);
-          term = subst (λ (y : Finding). y .term < 4294967296) (sym x) (s .2);
-        }
+notes-noted row n node [] p i s f = λ m. absurd (List·Memᴰ·not-nil m)
+notes-noted row n node (e ∷ es) p i s f =
+    let k = nextNumber row n p e in
+    cond-cases (λ (gs : List Finding). List·Memᴰ f gs → Noted node f) (eqb k 0) (lackNotes row n node i (e ∷ es))
+    (noteOf (other row n i (e .term) k) node i (e .term) ++ notesFrom row n node k (i + 1) es)
+    (λ _. lack-noted row n node (e ∷ es) i s f)
+    (λ _ m.
+    ⊎-elim (note-noted node i (e .term) f (s .0) (s .2) (other row n i (e .term) k)) (notes-noted row n node es k (i + 1) (s .3) f)
+    (List·Memᴰ·append-cases (noteOf (other row n i (e .term) k) node i (e .term)) m))
 
 -- ---- a view's last index and a node's mark are within the limits
 
@@ -151,7 +164,7 @@ module _ (limit : ℕ) (h : Bytes) (x : History) (s : Bytes) (m node : ℕ) (st 
   total =
       let rs = tablesOf h .rows in
       let a = extends-all F rs (rows-good h x st) 0 1 (omega arith) refl (sound-fits F 1 sound) in
-      (λ j. sym (rows-count h) j + missingFrom (prefixRow (prefixesPart h)) (sym (rows-count h) j) 0 0 1 F)
+      (λ j. sym (rows-count h) j + missingFrom (prefixRow (prefixesPart h)) (sym (rows-count h) j) 0 F)
       ∙ missing-made (prefixRow (prefixesPart h)) rs (rows-by-place h x st) F 0 1
       ∙ sym (resolve-count (extendAll rs 0 1 F))
       ∙ ap length (a .stores)
@@ -163,13 +176,13 @@ module _ (limit : ℕ) (h : Bytes) (x : History) (s : Bytes) (m node : ℕ) (st 
   unfolding notesIn
   notes =
       let rs = tablesOf h .rows in
-      ap (λ (n : ℕ). notesFrom (prefixRow (prefixesPart h)) n node 0 0 1 F) (sym (rows-count h))
-      ∙ notes-are (prefixRow (prefixesPart h)) rs (rows-good h x st .known) (rows-by-place h x st) node F [] 0 0 1 refl (inl (refl, omega arith, refl)) (sound-short F 1 sound)
+      ap (λ (n : ℕ). notesFrom (prefixRow (prefixesPart h)) n node 0 1 F) (sym (rows-count h))
+      ∙ notes-are (prefixRow (prefixesPart h)) rs (rows-good h x st .known) (rows-by-place h x st) node F [] 0 1 refl (omega arith, refl) (sound-short F 1 sound)
       ∙ ap (λ (ps : List Prefix). mismatches ps node (begunBy F)) (prefixes-is h x st)
 
   noted-in : (f : Finding) → List·Memᴰ f (notesIn h s m node) → Noted node f
   unfolding notesIn
-  noted-in = notes-noted (prefixRow (prefixesPart h)) (wordAt h 0 2) node F 0 0 1 sound
+  noted-in = notes-noted (prefixRow (prefixesPart h)) (wordAt h 0 2) node F 0 1 sound
 
   holds : Holds (tableIn h s m node) (heldIn h s m node) (viewFindings x node F)
   unfolding tableIn heldIn viewFindings

@@ -20,9 +20,9 @@ use Rattle.prefix_lookup.specs.Prefix.{searchFrom, find}
 use Rattle.log_violation.specs.Violation.{findingsKept}
 use Rattle.view_writing.specs.Observation.{Storing, viewReplaced, restWritten}
 use Rattle.logical_log.specs.Observation.{viewWritten, observed, observedBytes}
-use Rattle.view_judging.specs.Judging.{nextNumber, counted, missingFrom, frontAt, Stand, Rest, missingIn, notesIn, heldIn, tableIn, Observing, ViewJudged}
+use Rattle.view_judging.specs.Judging.{nextNumber, missingFrom, frontAt, Stand, Rest, missingIn, notesIn, heldIn, tableIn, Observing, ViewJudged}
 use Rattle.log_prefix.specs.Extension.{extensionIn, extendedBytes, extendedCount, extendedNumber, writtenBytes, writtenCount}
-use Rattle.view_judging.proofs.Judge.{lost}
+use Rattle.view_judging.proofs.Turns.{missing-lost, missing-stored}
 use Rattle.log_prefix.proofs.Written.{number-found, number-made, count-found, count-made, bytes-found, bytes-length-one}
 use Rattle.log_violation.proofs.ViolationLaws.{all-length, findings-long, kept-length}
 use Rattle.logical_log.specs.declared.observation.Observed.{Observed}
@@ -48,49 +48,44 @@ cons-count : (h : Bytes) (n p i : ℕ) (e : Entry) (es : List Entry)
 unfolding writtenCount
 cons-count h n p i e es = refl
 
-cons-missing : (h : Bytes) (n p i : ℕ) (e : Entry) (es : List Entry)
-    → n + missingFrom (prefixRow (prefixesPart h)) n 0 p i (e ∷ es)
-    ≡ n + missingFrom (prefixRow (prefixesPart h)) n (counted 0 (extensionIn h n p e)) (extensionIn h n p e) (i + 1) es
-unfolding missingFrom nextNumber extensionIn
-cons-missing h n p i e es = refl
-
 missing-is : (h s : Bytes) (m : ℕ)
-    → wordAt h 0 2 + missingIn h s m ≡ wordAt h 0 2 + missingFrom (prefixRow (prefixesPart h)) (wordAt h 0 2) 0 0 1 (front (entriesAt s firstEntry m))
+    → wordAt h 0 2 + missingIn h s m ≡ wordAt h 0 2 + missingFrom (prefixRow (prefixesPart h)) (wordAt h 0 2) 0 (front (entriesAt s firstEntry m))
 unfolding missingIn
 missing-is h s m = refl
 
-pub written-count : (es : List Entry) (h : Bytes) (n p i : ℕ) → writtenCount h n p i es ≡ n + missingFrom (prefixRow (prefixesPart h)) n 0 p i es
+extension-is : (h : Bytes) (n p : ℕ) (e : Entry) → extensionIn h n p e ≡ nextNumber (prefixRow (prefixesPart h)) n p e
+unfolding extensionIn
+extension-is h n p e = refl
+
+pub written-count : (es : List Entry) (h : Bytes) (n p i : ℕ) → writtenCount h n p i es ≡ n + missingFrom (prefixRow (prefixesPart h)) n p es
 written-count [] h n p i = (unfold writtenCount missingFrom in omega arith)
-written-count (e ∷ es) h n p i =
-    cons-count h n p i e es
-    ∙ by-extension (extensionIn h n p e) refl (written-count es h n)
-    ∙ sym (cons-missing h n p i e es)
+written-count (e ∷ es) h n p i = cons-count h n p i e es ∙ by-extension (extensionIn h n p e) refl (written-count es h n)
   where
     by-extension : (x : ℕ) → extensionIn h n p e ≡ x
-        → ((q j : ℕ) → writtenCount h n q j es ≡ n + missingFrom (prefixRow (prefixesPart h)) n 0 q j es)
+        → ((q j : ℕ) → writtenCount h n q j es ≡ n + missingFrom (prefixRow (prefixesPart h)) n q es)
         → writtenCount (extendedBytes h n p i e) (extendedCount h n p e) (extendedNumber h n p e) (i + 1) es
-        ≡ n + missingFrom (prefixRow (prefixesPart h)) n (counted 0 (extensionIn h n p e)) (extensionIn h n p e) (i + 1) es
+        ≡ n + missingFrom (prefixRow (prefixesPart h)) n p (e ∷ es)
     by-extension zero z ih =
         let t : eqb (extensionIn h n p e) 0 ≡ true = eq-eqb (extensionIn h n p e) 0 z in
         (λ j. writtenCount (extendedBytes h n p i e) (count-made h n p e t j) (number-made h n p e t j) (i + 1) es)
         ∙ all-made es (extendedBytes h n p i e) (n + 1) (i + 1)
-        ∙ (let y : n + 1 + length es ≡ n + (1 + length es) = omega arith in y)
-        ∙ ap (λ (k : ℕ). n + k) (sym (lost (prefixRow (prefixesPart h)) n es 1 0 (i + 1) (omega arith)))
-        ∙ sym (ap (λ (x : ℕ). n + missingFrom (prefixRow (prefixesPart h)) n (counted 0 x) x (i + 1) es) z)
+        ∙ (let y : n + 1 + length es ≡ n + suc (length es) = omega arith in y)
+        ∙ ap (λ (k : ℕ). n + k) (sym (missing-lost (prefixRow (prefixesPart h)) n 0 p i e es (sym (extension-is h n p e) ∙ z)))
     by-extension (suc y) z ih =
-        let f : eqb (extensionIn h n p e) 0 ≡ false = ne-eqb (extensionIn h n p e) 0 (λ w. let v = z in omega arith) in
-        let c : counted 0 (extensionIn h n p e) ≡ 0 = ap (λ (k : ℕ). 0 + k) (cond-false (eqb (extensionIn h n p e) 0) 1 0 f) in
+        let o : extensionIn h n p e ≡ 0 → ⊥ = λ w. (let v = z in omega arith) in
+        let f : eqb (extensionIn h n p e) 0 ≡ false = ne-eqb (extensionIn h n p e) 0 o in
         (λ j. writtenCount (bytes-found h n p i e f j) (count-found h n p e f j) (number-found h n p e f j) (i + 1) es)
         ∙ ih (extensionIn h n p e) (i + 1)
-        ∙ sym (ap (λ (k : ℕ). n + missingFrom (prefixRow (prefixesPart h)) n k (extensionIn h n p e) (i + 1) es) c)
+        ∙ ap (λ (k : ℕ). n + missingFrom (prefixRow (prefixesPart h)) n k es) (extension-is h n p e)
+        ∙ ap (λ (k : ℕ). n + k) (sym (missing-stored (prefixRow (prefixesPart h)) n 0 p i e es (λ w. o (extension-is h n p e ∙ w))))
 
 -- ---- written
 
 -- from the first prefix that is not stored on as from the first entry
-rest-written : (h s : Bytes) (m node missing : ℕ) (r : Place) (t : Bytes) (held : ℕ)
-    → Rest (prefixesPart h) (wordAt h 0 2) s m missing r → restWritten h (wordAt h 0 2) s r node t held ≡ viewWritten h (wordAt h 0 2) s m node t held
+rest-written : (h s : Bytes) (m node : ℕ) (r : Place) (t : Bytes) (held : ℕ)
+    → Rest (prefixesPart h) (wordAt h 0 2) s m r → restWritten h (wordAt h 0 2) s r node t held ≡ viewWritten h (wordAt h 0 2) s m node t held
 unfolding restWritten viewWritten
-rest-written h s m node missing r t held w =
+rest-written h s m node r t held w =
     let a = w .same h refl in
     sym (λ i. findingsKept (viewReplaced (a .bytes i) node (a .number i) (w .last i)) t held)
 
@@ -126,7 +121,7 @@ module _ (limit : ℕ) (h s : Bytes) (m node missing held count : ℕ) (r : Plac
     observed-ok g u w =
         let b : ltb 128 (heldIn h s m node) ≡ false = le-ltb 128 _ (subst (λ (x : ℕ). x ≤ 128) (j .holds) g) in (
           sym (cond-false (ltb limit (wordAt h 0 2 + missingIn h s m)) Observed.PrefixesFull _ no-six ∙ cond-false (ltb 128 (heldIn h s m node)) Observed.FindingsFull _ b),
-          w ∙ (λ i. restWritten h (e i) s r node (j .table i) (j .holds i)) ∙ rest-written h s m node missing r _ _ (j .rest)
+          w ∙ (λ i. restWritten h (e i) s r node (j .table i) (j .holds i)) ∙ rest-written h s m node r _ _ (j .rest)
               ∙ sym (cond-false (ltb limit (wordAt h 0 2 + missingIn h s m)) h _ no-six ∙ cond-false (ltb 128 (heldIn h s m node)) h _ b),
         )
 
@@ -139,11 +134,11 @@ module _ (limit : ℕ) (h s : Bytes) (m node missing held count : ℕ) (r : Plac
           stands = subst (λ (x : ℕ). Stand s x r) (sym e) (j .rest .stands);
           next = j .rest .next;
           room = subst (λ (x : ℕ). x ≤ 512)
-              (sym (ap (λ (x : ℕ). writtenCount h x (r .number) (r .index) (frontAt s r)) e ∙ sym (j .rest .same h refl .counts) ∙ written-count (front (entriesAt s firstEntry m)) h (wordAt h 0 2) 0 1))
+              (sym (ap (λ (x : ℕ). writtenCount h x (r .prefix .0) (r .index .0) (frontAt s r)) e ∙ sym (j .rest .same h refl .counts) ∙ written-count (front (entriesAt s firstEntry m)) h (wordAt h 0 2) 0 1))
               (subst (λ (x : ℕ). x ≤ 512) (total ∙ missing-in) (omega arith));
         }
       where
-        missing-in : wordAt h 0 2 + missingIn h s m ≡ wordAt h 0 2 + missingFrom (prefixRow (prefixesPart h)) (wordAt h 0 2) 0 0 1 (front (entriesAt s firstEntry m))
+        missing-in : wordAt h 0 2 + missingIn h s m ≡ wordAt h 0 2 + missingFrom (prefixRow (prefixesPart h)) (wordAt h 0 2) 0 (front (entriesAt s firstEntry m))
         missing-in = missing-is h s m
 
 -- ---- lengths
@@ -160,4 +155,4 @@ front-length (e ∷ es) h n p i =
 
 pub written-length : (h : Bytes) (n : ℕ) (s : Bytes) (r : Place) (node : ℕ) (t : Bytes) (held : ℕ) → length (restWritten h n s r node t held) ≡ length h
 unfolding restWritten
-written-length h n s r node t held = kept-length _ t held ∙ replaced-length _ node _ _ ∙ front-length (frontAt s r) h n (r .number) (r .index)
+written-length h n s r node t held = kept-length _ t held ∙ replaced-length _ node _ _ ∙ front-length (frontAt s r) h n (r .prefix .0) (r .index .0)

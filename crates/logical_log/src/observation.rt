@@ -32,17 +32,17 @@ pub fn observe_prefixes(
     ensures { λ r. ⌜ (r ≡ observed limit (now (history .entry)) (now (view .entry)) entries (node .0)) × (now (history .exit) ≡ observedBytes limit (now (history .entry)) (now (view .entry)) entries (node .0)) ⌝ }
 {
     let mut findings = [0u8; 1024];
-    let j = judge_view(&history[..], view, entries, node, &mut findings);
+    let judged = judge_view(&history[..], view, entries, node, &mut findings);
     let count = prefix_count(&history[..]);
-    let total = count + j.missing;
-    let held = j.held;
-    let rest = j.rest;
+    let total = count + judged.missing;
+    let held = judged.held;
     if limit < total {
         return Observed::PrefixesFull;
     }
     if FINDING_LIMIT < held {
         return Observed::FindingsFull;
     }
+    let rest = judged.rest;
     write_view(&mut history[..], count, view, rest, node, &findings, held);
     Observed::Accepted
 }

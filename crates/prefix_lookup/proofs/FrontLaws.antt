@@ -8,6 +8,7 @@ use Rattle.storage.specs.Tables.{NodeRow, nodeRow, nodesPart, prefixRow, prefix
 use Rattle.storage.proofs.WellFormed.{Formed}
 use Rattle.prefix_lookup.specs.Prefix.{sliceOf, frontIn, frontThrough}
 use Rattle.prefix_lookup.specs.declared.lookup.Slice.{Slice}
+use Rattle.units.specs.declared.LogPrefixWitness.{LogPrefixWitness}
 use Rattle.prefix_lookup.proofs.TableLaws.{whole-table, slice-within}
 
 module _ (h : Bytes) (n : ℕ) (q : Bytes) (eq : q ≡ nodesPart h) (x : NodeRow) (ex : x ≡ nodeRow q n) where
@@ -23,6 +24,6 @@ module _ (h : Bytes) (n : ℕ) (q : Bytes) (eq : q ≡ nodesPart h) (x : NodeRow
       e ∙ ap (λ (y : Bytes). sliceOf (prefixRow y) (x .front) i) eu ∙ ap (λ (y : NodeRow). sliceOf (prefixRow (prefixesPart h)) (y .front) i) node-read
 
 -- a part of a front is stored
-pub through-stored : (h : Bytes) (n i p : ℕ) → Formed h → n < 64 → frontThrough h n i ≡ Slice.Prefix p → p ≤ wordAt h 0 2
+pub through-stored : (h : Bytes) (n i : ℕ) (p : LogPrefixWitness) → Formed h → n < 64 → frontThrough h n i ≡ Slice.Prefix p → p .0 ≤ wordAt h 0 2
 unfolding frontThrough
 through-stored h n i p f l e = slice-within (prefixesPart h) (wordAt h 0 2) (frontIn h n) i p (whole-table h f) (f .node n l .front) e

@@ -3,3 +3,4 @@ pub mod SliceLaws
 pub mod TableLaws
 pub mod FrontLaws
 pub mod Loops
+pub mod StoredLaws

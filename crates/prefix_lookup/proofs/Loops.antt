@@ -14,7 +14,8 @@ use Rattle.storage_bytes.specs.Words.{wordAt, bytesAt, sameBytes}
 use Rattle.storage.specs.Tables.{PrefixRow, prefixRow}
 use Rattle.storage.specs.Rules.{sameRow}
 use Rattle.storage_bytes.proofs.ListLaws.{tabulate-length}
-use Rattle.prefix_lookup.specs.Prefix.{rowOf, searchFrom, sliceFrom, sliceOf}
+use Rattle.units.specs.declared.LogPrefixWitness.{LogPrefixWitness}
+use Rattle.prefix_lookup.specs.Prefix.{witness, rowOf, searchFrom, sliceFrom, sliceOf}
 use Rattle.prefix_lookup.specs.declared.lookup.Slice.{Slice}
 use Rattle.storage.specs.Values.{indexOf, numberIndex}
 
@@ -130,8 +131,8 @@ module _ (t : Bytes) (p i x : ℕ) (e : x ≡ indexOf (prefixRow t) p) where
   unfolding sliceOf
   slice-beyond h = sym (cond-true (ltb (indexOf (prefixRow t) p) i) Slice.Beyond _ (lt-ltb (indexOf (prefixRow t) p) i (subst (λ (y : ℕ). y < i) e h)))
 
-  pub slice-found : i ≤ x → (q : ℕ) → q ≡ sliceFrom (prefixRow t) i p p → Slice.Prefix q ≡ sliceOf (prefixRow t) p i
+  pub slice-found : i ≤ x → (q : LogPrefixWitness) → q .0 ≡ sliceFrom (prefixRow t) i p p → Slice.Prefix q ≡ sliceOf (prefixRow t) p i
   unfolding sliceOf
   slice-found h q w =
-      ap Slice.Prefix w
+      ap (λ (k : ℕ). Slice.Prefix (witness k)) w
       ∙ sym (cond-false (ltb (indexOf (prefixRow t) p) i) Slice.Beyond _ (le-ltb (indexOf (prefixRow t) p) i (subst (λ (y : ℕ). i ≤ y) e h)))

@@ -15,7 +15,7 @@ use Rattle.storage.specs.Tables.{PrefixRow}
 use Rattle.storage.specs.Values.{indexOf}
 use Rattle.storage.specs.Decode.{prefixAt, entryOf, resolve}
 use Rattle.storage.proofs.RowFacts.{Facts, rowAt}
-use Rattle.prefix_lookup.specs.Prefix.{sliceFrom, sliceOf}
+use Rattle.prefix_lookup.specs.Prefix.{witness, sliceFrom, sliceOf}
 use Rattle.prefix_lookup.specs.declared.lookup.Slice.{Slice}
 use Rattle.prefix_lookup.proofs.PrefixLaws.{Rows, row-index}
 
@@ -66,7 +66,7 @@ module _ (row : ℕ → PrefixRow) (rs : List PrefixRow) (f : Facts rs) (at : Ro
   -- beyond its end exactly where the prefix is shorter, else its first entries
   pub slice-cases : (p i : ℕ) → p ≤ length rs
       → ((sliceOf row p i ≡ Slice.Beyond) × (length (prefixAt (resolve rs) p) < i))
-      ⊎ ((q : ℕ) × (sliceOf row p i ≡ Slice.Prefix q) × (i ≤ length (prefixAt (resolve rs) p)) × (q ≤ length rs)
+      ⊎ ((q : ℕ) × (sliceOf row p i ≡ Slice.Prefix (witness q)) × (i ≤ length (prefixAt (resolve rs) p)) × (q ≤ length rs)
       × (prefixAt (resolve rs) q ≡ take i (prefixAt (resolve rs) p)))
   unfolding sliceOf
   slice-cases p i h =

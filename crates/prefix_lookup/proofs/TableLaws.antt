@@ -13,7 +13,8 @@ use Rattle.storage_bytes.proofs.PartLaws.{part-length}
 use Rattle.storage.proofs.WellFormed.{Formed}
 use Rattle.storage.proofs.RowFacts.{Facts, emptyRow, rows-sized, facts-of}
 use Rattle.prefix_lookup.specs.Table.{Table}
-use Rattle.prefix_lookup.specs.Prefix.{sliceOf}
+use Rattle.units.specs.declared.LogPrefixWitness.{LogPrefixWitness}
+use Rattle.prefix_lookup.specs.Prefix.{witness, sliceOf}
 use Rattle.prefix_lookup.specs.declared.lookup.Slice.{Slice}
 use Rattle.prefix_lookup.proofs.PrefixLaws.{Rows}
 use Rattle.prefix_lookup.proofs.SliceLaws.{slice-cases}
@@ -38,13 +39,13 @@ pub table-lent : (h q : Bytes) (n : ℕ) → Formed h → q ≡ prefixesPart h �
 table-lent h q n f e m = subst₂ Table (sym e) (sym m) (whole-table h f)
 
 -- a slice of a stored prefix is stored
-pub slice-within : (t : Bytes) (n p i q : ℕ) → Table t n → p ≤ n → sliceOf (prefixRow t) p i ≡ Slice.Prefix q → q ≤ n
+pub slice-within : (t : Bytes) (n p i : ℕ) (q : LogPrefixWitness) → Table t n → p ≤ n → sliceOf (prefixRow t) p i ≡ Slice.Prefix q → q .0 ≤ n
 slice-within t n p i q w l e =
     let size = rows-length t n in
     ⊎-elim (λ b. absurd (let b0 = b .0 in let z : _≡_ {A = ℕ} 0 1 = cc in omega arith))
     (λ b.
     let b1 = b .1 in
-    let same : q ≡ b .0 = cc in
+    let same : q .0 ≡ b .0 = ap (λ (x : LogPrefixWitness). x .0) (let w : q ≡ witness (b .0) = cc in w) in
     let d = b .3 in
     omega arith)
     (slice-cases (prefixRow t) (prefixRows t n) (table-facts t n w) (rows-at t n) p i (omega arith))

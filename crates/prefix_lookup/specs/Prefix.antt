@@ -12,6 +12,16 @@ use Rattle.storage.specs.Tables.{PrefixRow, nodeRow, nodesPart, prefixRow, pref
 use Rattle.storage.specs.Values.{indexOf}
 use Rattle.storage.specs.Rules.{sameRow}
 use Rattle.prefix_lookup.specs.declared.lookup.Slice.{Slice}
+use Rattle.prefix_lookup.specs.declared.lookup.Stored.{Stored}
+use Rattle.units.specs.declared.LogPrefixWitness.{LogPrefixWitness}
+
+-- the prefix of a number
+abbrev pub witness : ℕ → LogPrefixWitness
+witness p = record { 0 = p }
+
+-- what a search gives, by the number it finds; 0 is none
+unfoldable pub storedOf : ℕ → Stored
+storedOf p = cond (eqb p 0) Stored.Nothing (Stored.Prefix (witness p))
 
 -- the row of the prefix of number p, extended by an entry to index i
 abbrev pub rowOf : ℕ → ℕ → Entry → PrefixRow
@@ -43,7 +53,7 @@ sliceFrom row i (suc fuel) p = cond (leb (indexOf row p) i) p (sliceFrom row i f
 -- `slice_through` gives nothing beyond the end and the empty prefix at zero
 unfoldable pub sliceOf : (ℕ → PrefixRow) → ℕ → ℕ → Slice
 unfolding sliceFrom
-sliceOf row p i = cond (ltb (indexOf row p) i) Slice.Beyond (Slice.Prefix (sliceFrom row i p p))
+sliceOf row p i = cond (ltb (indexOf row p) i) Slice.Beyond (Slice.Prefix (witness (sliceFrom row i p p)))
 
 -- ---- in the bytes of a history
 

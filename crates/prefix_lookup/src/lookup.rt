@@ -6,12 +6,12 @@ ghost use lib.ListN.{length};
 ghost use Rattle.storage.specs.Tables.{prefixRow};
 ghost use Rattle.storage.specs.Rules.{sameRow, wellFormed};
 ghost use Rattle.prefix_lookup.specs.Table.{Table, entryValue};
-ghost use Rattle.prefix_lookup.specs.Prefix.{rowOf, find, isOf, first, sliceOf, frontThrough};
+ghost use Rattle.prefix_lookup.specs.Prefix.{rowOf, find, isOf, first, storedOf, sliceOf, frontThrough};
 use prefix_rows::prefixes::index_at;
-use prefix_rows::prefixes::index_of;
 use prefix_rows::prefixes::parent_at;
 use prefix_rows::prefixes::size_at;
 use prefix_rows::prefixes::term_at;
+use prefix_rows::prefixes::through;
 use record_walk::walk::ShownEntry;
 use storage::head::prefix_count;
 use storage_bytes::layout::NODES_LENGTH;
@@ -23,21 +23,28 @@ use storage_bytes::layout::part;
 use storage_bytes::words::same_bytes;
 use table_rows::nodes::node_at;
 use units::LogIndex;
+use units::LogPrefixWitness;
 use units::NodeId;
 use units::Term;
 
+// What a search among the stored prefixes gives.
+pub enum Stored {
+    Prefix(LogPrefixWitness),
+    Nothing,
+}
+
 // A prefix through an index, or that the index is beyond its end.
 pub enum Slice {
-    Prefix(usize),
+    Prefix(LogPrefixWitness),
     Beyond,
 }
 
-// Row k extends the prefix of number p by the entry (`matches_extension`).
-fn matches_extension(prefixes: &[u8], k: usize, p: usize, e: ShownEntry) -> bool
+// Row k extends the prefix by the entry (`matches_extension`).
+fn matches_extension(prefixes: &[u8], k: usize, p: LogPrefixWitness, e: ShownEntry) -> bool
     requires { ⌜ (k < 512) × (length (now prefixes) ≡ 20992) × (e .length ≤ 32) ⌝ }
-    ensures { λ r. ⌜ r ≡ sameRow (prefixRow (now (prefixes .entry)) k) (rowOf p 0 (entryValue e)) ⌝ }
+    ensures { λ r. ⌜ r ≡ sameRow (prefixRow (now (prefixes .entry)) k) (rowOf (p .0) 0 (entryValue e)) ⌝ }
 {
-    if parent_at(prefixes, k) != p {
+    if parent_at(prefixes, k).0 != p.0 {
         return false;
     }
     if term_at(prefixes, k).0 != e.term.0 {
@@ -51,19 +58,19 @@ fn matches_extension(prefixes: &[u8], k: usize, p: usize, e: ShownEntry) -> bool
     same_bytes(prefixes, k * PREFIX_WIDTH + 9, &content, 0, n)
 }
 
-// The number of the stored prefix that extends that of number p by the entry, or 0. It comes after p.
-pub fn find_extension(prefixes: &[u8], count: usize, p: usize, e: ShownEntry) -> usize
-    requires { ⌜ (count ≤ 512) × (p ≤ count) × (length (now prefixes) ≡ 20992) × (e .length ≤ 32) ⌝ }
-    ensures { λ r. ⌜ r ≡ find (prefixRow (now (prefixes .entry))) count (rowOf p 0 (entryValue e)) ⌝ }
+// The stored prefix that extends the given one by the entry. It comes after that one.
+pub fn find_extension(prefixes: &[u8], count: usize, p: LogPrefixWitness, e: ShownEntry) -> Stored
+    requires { ⌜ (count ≤ 512) × (p .0 ≤ count) × (length (now prefixes) ≡ 20992) × (e .length ≤ 32) ⌝ }
+    ensures { λ r. ⌜ r ≡ storedOf (find (prefixRow (now (prefixes .entry))) count (rowOf (p .0) 0 (entryValue e))) ⌝ }
 {
-    let mut k = p;
+    let mut k = p.0;
     while k < count {
         if matches_extension(prefixes, k, p, e) {
-            return k + 1;
+            return Stored::Prefix(LogPrefixWitness(k + 1));
         }
         k += 1;
     }
-    0
+    Stored::Nothing
 }
 
 // Row k is of the index and term.
@@ -71,39 +78,38 @@ fn is_of(prefixes: &[u8], k: usize, index: LogIndex, term: Term) -> bool
     requires { ⌜ (k < 512) × (length (now prefixes) ≡ 20992) ⌝ }
     ensures { λ r. ⌜ r ≡ isOf (index .0) (term .0) (prefixRow (now (prefixes .entry)) k) ⌝ }
 {
-    if index_at(prefixes, k) != index.0 {
+    if index_at(prefixes, k).0 != index.0 {
         return false;
     }
     term_at(prefixes, k).0 == term.0
 }
 
-// The number of the first stored prefix of the index and term, or 0. A prefix's number is at least its index.
-pub fn first_of(prefixes: &[u8], count: usize, index: LogIndex, term: Term) -> usize
+// The first stored prefix of the index and term. A prefix's number is at least its index.
+pub fn first_of(prefixes: &[u8], count: usize, index: LogIndex, term: Term) -> Stored
     requires { ⌜ (count ≤ 512) × (length (now prefixes) ≡ 20992) × (1 ≤ index .0) ⌝ }
-    ensures { λ r. ⌜ r ≡ first (prefixRow (now (prefixes .entry))) count (index .0) (term .0) ⌝ }
+    ensures { λ r. ⌜ r ≡ storedOf (first (prefixRow (now (prefixes .entry))) count (index .0) (term .0)) ⌝ }
 {
     let mut k = index.0 - 1;
     while k < count {
         if is_of(prefixes, k, index, term) {
-            return k + 1;
+            return Stored::Prefix(LogPrefixWitness(k + 1));
         }
         k += 1;
     }
-    0
+    Stored::Nothing
 }
 
-// The prefix of number p through the index: nothing beyond its end, the empty prefix at zero.
-pub fn slice_through(prefixes: &[u8], count: usize, p: usize, through: LogIndex) -> Slice
-    requires { ⌜ Table (now prefixes) count × (p ≤ count) ⌝ }
-    ensures { λ r. ⌜ r ≡ sliceOf (prefixRow (now (prefixes .entry))) p (through .0) ⌝ }
+// The prefix through the index: nothing beyond its end, the empty prefix at zero.
+pub fn slice_through(prefixes: &[u8], count: usize, p: LogPrefixWitness, index: LogIndex) -> Slice
+    requires { ⌜ Table (now prefixes) count × (p .0 ≤ count) ⌝ }
+    ensures { λ r. ⌜ r ≡ sliceOf (prefixRow (now (prefixes .entry))) (p .0) (index .0) ⌝ }
 {
-    let i = through.0;
-    if index_of(prefixes, p) < i {
+    if through(prefixes, p).0 < index.0 {
         return Slice::Beyond;
     }
     let mut q = p;
-    while i < index_of(prefixes, q) {
-        q = parent_at(prefixes, q - 1);
+    while index.0 < through(prefixes, q).0 {
+        q = parent_at(prefixes, q.0 - 1);
     }
     Slice::Prefix(q)
 }
@@ -115,10 +121,11 @@ pub fn front_through(history: &[u8], node: NodeId, index: LogIndex) -> Slice
 {
     let x = node_at(part(history, NODES_START, NODES_LENGTH), node.0 as usize);
     let count = prefix_count(history);
+    let front = x.front;
     slice_through(
         part(history, PREFIXES_START, PREFIXES_LENGTH),
         count,
-        x.front,
+        front,
         index,
     )
 }

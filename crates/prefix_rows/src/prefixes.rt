@@ -24,20 +24,21 @@ use storage_bytes::words::put8;
 use storage_bytes::words::put16;
 use storage_bytes::words::put32;
 use units::LogIndex;
+use units::LogPrefixWitness;
 use units::Term;
 
-pub fn parent_at(prefixes: &[u8], k: usize) -> usize
+pub fn parent_at(prefixes: &[u8], k: usize) -> LogPrefixWitness
     requires { ⌜ (k < 512) × (length (now prefixes) ≡ 20992) ⌝ }
-    ensures { λ r. ⌜ Word (now (prefixes .entry)) (k * 41) 2 r ⌝ }
+    ensures { λ r. ⌜ Word (now (prefixes .entry)) (k * 41) 2 (r .0) ⌝ }
 {
-    get16(prefixes, k * PREFIX_WIDTH)
+    LogPrefixWitness(get16(prefixes, k * PREFIX_WIDTH))
 }
 
-pub fn index_at(prefixes: &[u8], k: usize) -> usize
+pub fn index_at(prefixes: &[u8], k: usize) -> LogIndex
     requires { ⌜ (k < 512) × (length (now prefixes) ≡ 20992) ⌝ }
-    ensures { λ r. ⌜ Word (now (prefixes .entry)) (k * 41 + 2) 2 r ⌝ }
+    ensures { λ r. ⌜ Word (now (prefixes .entry)) (k * 41 + 2) 2 (r .0) ⌝ }
 {
-    get16(prefixes, k * PREFIX_WIDTH + 2)
+    LogIndex(get16(prefixes, k * PREFIX_WIDTH + 2))
 }
 
 pub fn term_at(prefixes: &[u8], k: usize) -> Term
@@ -54,15 +55,15 @@ pub fn size_at(prefixes: &[u8], k: usize) -> usize
     get8(prefixes, k * PREFIX_WIDTH + 8)
 }
 
-// The index of a number's prefix; the empty one has 0.
-pub fn index_of(prefixes: &[u8], p: usize) -> usize
-    requires { ⌜ (p ≤ 512) × (length (now prefixes) ≡ 20992) ⌝ }
-    ensures { λ r. ⌜ Index (now (prefixes .entry)) p r ⌝ }
+// The index of a prefix's last entry; the empty one has zero.
+pub fn through(prefixes: &[u8], p: LogPrefixWitness) -> LogIndex
+    requires { ⌜ (p .0 ≤ 512) × (length (now prefixes) ≡ 20992) ⌝ }
+    ensures { λ r. ⌜ Index (now (prefixes .entry)) (p .0) (r .0) ⌝ }
 {
-    if p == 0 {
-        return 0;
+    if p.0 == 0 {
+        return LogIndex::ZERO;
     }
-    index_at(prefixes, p - 1)
+    index_at(prefixes, p.0 - 1)
 }
 
 // The end of the committed prefix.
@@ -70,18 +71,18 @@ pub fn committed_end(history: &[u8]) -> LogIndex
     requires { ⌜ wellFormed (now history) ≡ true ⌝ }
     ensures { λ r. ⌜ r .0 ≡ committedEnd (now (history .entry)) ⌝ }
 {
-    LogIndex(index_of(
+    through(
         part(history, PREFIXES_START, PREFIXES_LENGTH),
-        committed_number(history),
-    ))
+        LogPrefixWitness(committed_number(history)),
+    )
 }
 
 // A row's parent, index and term.
-fn put_key(t: &mut [u8], o: usize, parent: usize, index: LogIndex, term: Term)
+fn put_key(t: &mut [u8], o: usize, parent: LogPrefixWitness, index: LogIndex, term: Term)
     requires { ⌜ o + 41 ≤ length (now t) ⌝ }
-    ensures { λ r. ⌜ now (t .exit) ≡ putBytes (now (t .entry)) o (wordBytes 2 parent ++ wordBytes 2 (index .0) ++ wordBytes 4 (term .0)) ⌝ }
+    ensures { λ r. ⌜ now (t .exit) ≡ putBytes (now (t .entry)) o (wordBytes 2 (parent .0) ++ wordBytes 2 (index .0) ++ wordBytes 4 (term .0)) ⌝ }
 {
-    put16(&mut t[..], o, parent);
+    put16(&mut t[..], o, parent.0);
     put16(&mut t[..], o + 2, index.0);
     put32(&mut t[..], o + 4, term.0);
 }
@@ -90,14 +91,14 @@ fn put_key(t: &mut [u8], o: usize, parent: usize, index: LogIndex, term: Term)
 pub fn put_prefix(
     prefixes: &mut [u8],
     k: usize,
-    parent: usize,
+    parent: LogPrefixWitness,
     index: LogIndex,
     term: Term,
     size: usize,
     content: &[u8],
 )
     requires { ⌜ (k < 512) × (length (now prefixes) ≡ 20992) × (length (now content) ≡ 32) ⌝ }
-    ensures { λ r. ⌜ now (prefixes .exit) ≡ putBytes (now (prefixes .entry)) (k * 41) (prefixBytes parent (index .0) (term .0) size (now (content .entry))) ⌝ }
+    ensures { λ r. ⌜ now (prefixes .exit) ≡ putBytes (now (prefixes .entry)) (k * 41) (prefixBytes (parent .0) (index .0) (term .0) size (now (content .entry))) ⌝ }
 {
     let o = k * PREFIX_WIDTH;
     put_key(&mut prefixes[..], o, parent, index, term);
@@ -109,14 +110,14 @@ pub fn put_prefix(
 pub fn set_prefix(
     history: &mut [u8],
     k: usize,
-    parent: usize,
+    parent: LogPrefixWitness,
     index: LogIndex,
     term: Term,
     size: usize,
     content: &[u8],
 )
     requires { ⌜ (k < 512) × (length (now history) ≡ 24137) × (length (now content) ≡ 32) ⌝ }
-    ensures { λ r. ⌜ now (history .exit) ≡ putBytes (now (history .entry)) (3145 + k * 41) (prefixBytes parent (index .0) (term .0) size (now (content .entry))) ⌝ }
+    ensures { λ r. ⌜ now (history .exit) ≡ putBytes (now (history .entry)) (3145 + k * 41) (prefixBytes (parent .0) (index .0) (term .0) size (now (content .entry))) ⌝ }
 {
     let a = PREFIXES_START;
     let e = a + PREFIXES_LENGTH;
@@ -126,14 +127,14 @@ pub fn set_prefix(
 // One more prefix.
 pub fn append_prefix(
     history: &mut [u8],
-    parent: usize,
+    parent: LogPrefixWitness,
     index: LogIndex,
     term: Term,
     size: usize,
     content: &[u8],
 )
     requires { ⌜ (wordAt (now history) 0 2 < 512) × (length (now history) ≡ 24137) × (length (now content) ≡ 32) ⌝ }
-    ensures { λ r. ⌜ now (history .exit) ≡ prefixAppended (now (history .entry)) parent (index .0) (term .0) size (now (content .entry)) ⌝ }
+    ensures { λ r. ⌜ now (history .exit) ≡ prefixAppended (now (history .entry)) (parent .0) (index .0) (term .0) size (now (content .entry)) ⌝ }
 {
     let n = prefix_count(&history[..]);
     set_prefix(&mut history[..], n, parent, index, term, size, content);

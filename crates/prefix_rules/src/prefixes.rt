@@ -6,9 +6,9 @@ ghost use lib.ListN.{length};
 ghost use Rattle.storage.specs.Tables.{prefixRow, prefixRows};
 ghost use Rattle.storage.specs.Rules.{prefixRight, prefixesRightAfter};
 use prefix_rows::prefixes::index_at;
-use prefix_rows::prefixes::index_of;
 use prefix_rows::prefixes::parent_at;
 use prefix_rows::prefixes::size_at;
+use prefix_rows::prefixes::through;
 use stored_once::once::is_among;
 use units::CONTENT_LIMIT;
 use units::INDEX_LIMIT;
@@ -19,20 +19,20 @@ fn prefix_right(prefixes: &[u8], k: usize) -> bool
     ensures { λ r. ⌜ r ≡ prefixRight (prefixRows (now (prefixes .entry)) k) (prefixRow (now (prefixes .entry)) k) ⌝ }
 {
     let p = parent_at(prefixes, k);
-    if k < p {
+    if k < p.0 {
         return false;
     }
     let i = index_at(prefixes, k);
-    if i != index_of(prefixes, p) + 1 {
+    if i.0 != through(prefixes, p).0 + 1 {
         return false;
     }
-    if INDEX_LIMIT < i {
+    if INDEX_LIMIT < i.0 {
         return false;
     }
     if CONTENT_LIMIT < size_at(prefixes, k) {
         return false;
     }
-    !is_among(prefixes, p, k)
+    !is_among(prefixes, p.0, k)
 }
 
 // The storage rules of every one of n rows.

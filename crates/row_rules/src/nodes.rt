@@ -13,7 +13,7 @@ use units::INDEX_LIMIT;
 fn node_right(n: usize, x: Node) -> bool
     ensures { λ r. ⌜ r ≡ nodeRight n (nodeValue x) ⌝ }
 {
-    if n < x.front {
+    if n < x.front.0 {
         return false;
     }
     if INDEX_LIMIT < x.last.0 {

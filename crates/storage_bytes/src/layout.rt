@@ -35,6 +35,9 @@ pub const TERM_WIDTH: usize = 4;
 
 pub const CERTIFICATE_WIDTH: usize = 11;
 
+// Where a certificate's mark lies in its row.
+pub const CERTIFICATE_MARK: usize = 6;
+
 pub const FINDING_WIDTH: usize = 8;
 
 pub const PREFIX_WIDTH: usize = 41;

@@ -17,7 +17,7 @@ fn same_row(prefixes: &[u8], j: usize, k: usize) -> bool
     requires { ⌜ (j < 512) × (k < 512) × (length (now prefixes) ≡ 20992) × (wordAt (now prefixes) (k * 41 + 8) 1 ≤ 32) ⌝ }
     ensures { λ r. ⌜ r ≡ sameRow (prefixRow (now (prefixes .entry)) j) (prefixRow (now (prefixes .entry)) k) ⌝ }
 {
-    if parent_at(prefixes, j) != parent_at(prefixes, k) {
+    if parent_at(prefixes, j).0 != parent_at(prefixes, k).0 {
         return false;
     }
     if term_at(prefixes, j).0 != term_at(prefixes, k).0 {

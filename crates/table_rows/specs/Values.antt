@@ -6,7 +6,7 @@ use Rattle.table_rows.specs.declared.findings.Found.{Found}
 use Rattle.storage.specs.Tables.{NodeRow}
 
 abbrev pub nodeValue : Node → NodeRow
-nodeValue x = record { front = x .front; last = x .last .0; unseen = x .unseen .0 }
+nodeValue x = record { front = x .front .0; last = x .last .0; unseen = x .unseen .0 }
 
 abbrev pub findingValue : Found → Finding
 findingValue x = record { name = x .name; node = x .node .0; index = x .index .0; term = x .term .0 }

@@ -1,4 +1,4 @@
-// The table of nodes: of each of the 64 the number of its front, the last index of its view and its unseen mark.
+// The table of nodes: of each of the 64 its front, the last index of its view and its unseen mark.
 ghost use mathlib.Core.Path.{_≡_};
 ghost use Prim.Native.Nat.{_+_, _*_, _<_};
 ghost use lib.ListN.{length};
@@ -12,10 +12,10 @@ use storage_bytes::layout::NODES_START;
 use storage_bytes::words::get16;
 use storage_bytes::words::put16;
 use units::LogIndex;
+use units::LogPrefixWitness;
 
 pub struct Node {
-    // The number of its front; 0 is the empty prefix.
-    pub front: usize,
+    pub front: LogPrefixWitness,
     pub last: LogIndex,
     // 0 where there is no mark.
     pub unseen: LogIndex,
@@ -27,7 +27,7 @@ pub fn node_at(nodes: &[u8], k: usize) -> Node
 {
     let o = k * NODE_WIDTH;
     Node {
-        front: get16(nodes, o),
+        front: LogPrefixWitness(get16(nodes, o)),
         last: LogIndex(get16(nodes, o + 2)),
         unseen: LogIndex(get16(nodes, o + 4)),
     }
@@ -39,7 +39,7 @@ pub fn put_node(nodes: &mut [u8], k: usize, x: Node)
     ensures { λ r. ⌜ now (nodes .exit) ≡ putBytes (now (nodes .entry)) (k * 6) (nodeBytes (nodeValue x)) ⌝ }
 {
     let o = k * NODE_WIDTH;
-    put16(&mut nodes[..], o, x.front);
+    put16(&mut nodes[..], o, x.front.0);
     put16(&mut nodes[..], o + 2, x.last.0);
     put16(&mut nodes[..], o + 4, x.unseen.0);
 }

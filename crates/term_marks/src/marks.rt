@@ -4,6 +4,7 @@ ghost use mathlib.Core.Path.{_≡_};
 ghost use Prim.Native.Nat.{_≤_, _<_};
 ghost use lib.ListN.{length};
 ghost use Rattle.term_marks.specs.Marks.{certificateOf, markSet, lowerBytes, lowerBack};
+use storage_bytes::layout::CERTIFICATE_MARK;
 use storage_bytes::layout::CERTIFICATE_WIDTH;
 use storage_bytes::layout::CERTIFICATES_LENGTH;
 use storage_bytes::layout::CERTIFICATES_START;
@@ -29,7 +30,7 @@ pub fn checked_mark(history: &[u8], k: usize) -> LogIndex
     ensures { λ r. ⌜ r .0 ≡ certificateOf (now (history .entry)) k .mark ⌝ }
 {
     let certificates = part(history, CERTIFICATES_START, CERTIFICATES_LENGTH);
-    LogIndex(get16(certificates, k * CERTIFICATE_WIDTH + 6))
+    LogIndex(get16(certificates, k * CERTIFICATE_WIDTH + CERTIFICATE_MARK))
 }
 
 // The mark of certificate k, written.
@@ -37,7 +38,7 @@ pub fn set_mark(history: &mut [u8], k: usize, mark: LogIndex)
     requires { ⌜ (k < 64) × (length (now history) ≡ 24137) ⌝ }
     ensures { λ r. ⌜ now (history .exit) ≡ markSet (now (history .entry)) k (mark .0) ⌝ }
 {
-    let o = k * CERTIFICATE_WIDTH + 6;
+    let o = k * CERTIFICATE_WIDTH + CERTIFICATE_MARK;
     put16(&mut history[..], CERTIFICATES_START + o, mark.0);
 }
 

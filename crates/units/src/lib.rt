@@ -1,5 +1,5 @@
-// The units of the log history: node, index and term, each a tuple struct over one number, as in the Rust. No unit
-// converts into another. The limits are those of document 01, "Sizes of things".
+// The units of the log history: node, index and term, each a tuple struct over one number, as in the Rust, and the prefix, told by
+// its number. No unit converts into another. The limits are those of document 01, "Sizes of things".
 ghost use mathlib.Core.Path.{_≡_};
 ghost use Rattle.units.specs.Units.{nodeOf, indexOf};
 
@@ -29,6 +29,9 @@ pub struct LogIndex(pub usize);
 
 // A term of the election clock. Every number of 32 bits is one.
 pub struct Term(pub u32);
+
+// A prefix of a log, by the number under which it is stored, 1 to 512 (the Rust's witness, a chain of shared nodes).
+pub struct LogPrefixWitness(pub usize);
 
 // A node, or that the number is above 63.
 pub enum NodeAnswer {
@@ -78,4 +81,9 @@ impl Term {
     {
         Term(n)
     }
+}
+
+impl LogPrefixWitness {
+    // The empty prefix: no number is stored for it.
+    pub const EMPTY: LogPrefixWitness = LogPrefixWitness(0);
 }

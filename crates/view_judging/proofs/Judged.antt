@@ -1,7 +1,7 @@
 -- What the judging walk says of a view against a history.
 -- Assumes nothing.
 use Prim.Native.Nat.{ℕ, _-_}
-use mathlib.Core.Path.{_≡_, _∙_, subst, subst₂}
+use mathlib.Core.Path.{_≡_, _∙_, subst₂}
 use Rattle.model.specs.Sizes.{Bytes}
 use Rattle.model.specs.Record.{front}
 use Rattle.record_scan.specs.Places.{firstEntry, entriesAt}
@@ -18,10 +18,11 @@ unfolding missingIn heldIn tableIn notesIn
 view-judged h s m node q t₁ count held missing held′ r t′ ec eh eq et j =
     let F = front (entriesAt s firstEntry m) in
     record {
-      lack = j .lack ∙ (λ i. missingFrom (prefixRow (eq i)) (ec i) 0 0 1 F);
+      lack = j .lack ∙ (λ i. missingFrom (prefixRow (eq i)) (ec i) 0 F);
       most = j .most;
-      holds = j .holds ∙ (λ i. heldAll (et i) (eh i) (notesFrom (prefixRow (eq i)) (ec i) node 0 0 1 F));
+      holds = j .holds ∙ (λ i. heldAll (et i) (eh i) (notesFrom (prefixRow (eq i)) (ec i) node 0 1 F));
       few = j .few;
-      table = j .table ∙ (λ i. bytesAll (et i) (eh i) (notesFrom (prefixRow (eq i)) (ec i) node 0 0 1 F));
-      rest = subst₂ (λ (ps : Bytes) (n : ℕ). Rest ps n s m missing r) eq ec (j .rest);
+      table = j .table ∙ (λ i. bytesAll (et i) (eh i) (notesFrom (prefixRow (eq i)) (ec i) node 0 1 F));
+      place = j .place;
+      rest = subst₂ (λ (ps : Bytes) (n : ℕ). Rest ps n s m r) eq ec (j .rest);
     }

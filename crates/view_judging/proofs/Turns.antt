@@ -1,9 +1,9 @@
--- The turns of the judging walk along a front, each from what was read, and what an entry as it is read is to the front.
+-- The turns of the judging walks along a front, each from what was read, and what an entry as it is read is to the front.
 -- Assumes nothing.
 use Prim.Native.Nat.{ℕ, _+_, _-_, _<_, _≤_}
 use native.Mathlib.Omega.{arith}
 use mathlib.Core.Path.{_≡_, refl, sym, _∙_, ap, subst}
-use mathlib.Core.Bool.{Bool, true, false, not, _&&_, _||_}
+use mathlib.Core.Bool.{Bool, true, false, not, _&&_}
 use mathlib.Core.Logic.{⊎-elim}
 use mathlib.Core.List.{List, [], _∷_, _++_}
 use lib.Dec.{eqb}
@@ -15,30 +15,23 @@ use Rattle.model.specs.Record.{frontFrom, front}
 use Rattle.model.specs.History.{Finding}
 use Rattle.record_walk.specs.declared.walk.ShownEntry.{ShownEntry}
 use Rattle.record_scan.specs.Places.{Walk, firstEntry, indexAt, termAt, lengthAt, contentAt, nextAt, shownAt, entriesAt}
-use Rattle.record_walk.specs.Values.{Here, shownEntry}
+use Rattle.record_walk.specs.Values.{shownEntry}
 use Rattle.bit_fields.proofs.Widths.{bytes-length}
 use Rattle.record_walk.proofs.Walks.{entries-next, entries-none, next-walk, walk-entered, here, entry-content}
-use Rattle.model.proofs.Tests.{tf, cond-cases, cond-true, cond-false}
+use Rattle.model.proofs.Tests.{tf, cond-true, cond-false}
 use Rattle.storage.specs.Tables.{PrefixRow, prefixRow}
 use Rattle.storage.proofs.RowLaws.{bytes-take}
 use Rattle.prefix_lookup.specs.Table.{entryValue}
 use Rattle.log_violation.specs.Violation.{noteHeld, noteBytes, heldAll, bytesAll}
-use Rattle.prefix_lookup.specs.Prefix.{rowOf, searchFrom, find, isOf, first}
+use Rattle.prefix_lookup.specs.Prefix.{storedOf, searchFrom, find, isOf, first}
+use Rattle.prefix_lookup.specs.declared.lookup.Stored.{Stored}
+use Rattle.units.specs.declared.LogPrefixWitness.{LogPrefixWitness}
 use Rattle.log_comparison.specs.Comparison.{sameFrom}
-use Rattle.view_judging.specs.Judging.{nextNumber, differs, other, counted, missingFrom, noteOf, notesFrom, Rest, JudgedAs}
+use Rattle.view_judging.specs.Judging.{differs, other, isRemembered, noteOf, lackNotes, nextNumber, notesFrom, missingFrom, placeAt, Rest, ReachedAs, LackingAs, JudgedAs}
 use Rattle.view_judging.specs.declared.judging.Place.{Place}
 use Rattle.prefix_lookup.proofs.PrefixLaws.{searched}
+use Rattle.prefix_lookup.proofs.StoredLaws.{stored-number, stored-nothing}
 use Rattle.log_violation.proofs.ViolationLaws.{all-length, held-append, bytes-append, held-few}
-
--- ---- the next number
-
-pub next-lost : (row : ℕ → PrefixRow) (n m p : ℕ) (e : Entry) → (m ≡ 0 → ⊥) → 0 ≡ nextNumber row n m p e
-unfolding nextNumber
-next-lost row n m p e z = sym (cond-false (eqb m 0) (find row n (rowOf p 0 e)) 0 (ne-eqb m 0 z))
-
-pub next-found : (row : ℕ → PrefixRow) (n m p : ℕ) (e : Entry) → m ≡ 0 → (r : ℕ) → r ≡ find row n (rowOf p 0 e) → r ≡ nextNumber row n m p e
-unfolding nextNumber
-next-found row n m p e z r q = q ∙ sym (cond-true (eqb m 0) (find row n (rowOf p 0 e)) 0 (eq-eqb m 0 z))
 
 -- a number found is one of the rows
 search-within : (test : ℕ → Bool) (k n : ℕ) → searchFrom test k (n - k) ≤ n
@@ -54,38 +47,40 @@ pub find-within : (row : ℕ → PrefixRow) (n : ℕ) (r : PrefixRow) → find r
 unfolding find
 find-within row n r = search-within _ (r .parent) n
 
-pub next-within : (row : ℕ → PrefixRow) (n m p : ℕ) (e : Entry) → nextNumber row n m p e ≤ n
-unfolding nextNumber
-next-within row n m p e =
-    cond-cases (λ (k : ℕ). k ≤ n) (eqb m 0) (find row n (rowOf p 0 e)) 0 (λ _. find-within row n (rowOf p 0 e)) (λ _. omega arith)
-
 -- ---- whether another prefix is remembered
 
-by-none : (row : ℕ → PrefixRow) (r k : ℕ) → eqb r 0 ≡ true → differs row r k ≡ false
-unfolding differs
-by-none row r k a = ap (λ (x : Bool). not x && (eqb k 0 || not (sameFrom row r r k))) a
-
-by-both : (row : ℕ → PrefixRow) (r k : ℕ) → eqb r 0 ≡ false → eqb k 0 ≡ true → differs row r k ≡ true
-unfolding differs
-by-both row r k a b = λ i. not (a i) && (b i || not (sameFrom row r r k))
-
-by-same : (row : ℕ → PrefixRow) (r k : ℕ) (c : Bool) → eqb r 0 ≡ false → eqb k 0 ≡ false → sameFrom row r r k ≡ c → differs row r k ≡ not c
-unfolding differs
-by-same row r k c a b d = λ i. not (a i) && (b i || not (d i))
-
-module _ (row : ℕ → PrefixRow) (n i t k r : ℕ) (e : r ≡ first row n i t) where
-  at-first : differs row r k ≡ other row n i t k
+module _ (row : ℕ → PrefixRow) (n i t : ℕ) (r : Stored) (e : r ≡ storedOf (first row n i t)) where
+  at-first : (k : ℕ) → differs row (first row n i t) k ≡ other row n i t k
   unfolding other
-  at-first = ap (λ (x : ℕ). differs row x k) e
+  at-first k = refl
 
-  pub other-none : r ≡ 0 → false ≡ other row n i t k
-  other-none z = sym (by-none row r k (eq-eqb r 0 z)) ∙ at-first
+  none-differs : (x k : ℕ) → eqb x 0 ≡ true → differs row x k ≡ false
+  unfolding differs
+  none-differs x k a = ap (λ (y : Bool). not y && not (sameFrom row x x k)) a
 
-  pub other-new : (r ≡ 0 → ⊥) → k ≡ 0 → true ≡ other row n i t k
-  other-new z w = sym (by-both row r k (ne-eqb r 0 z) (eq-eqb k 0 w)) ∙ at-first
+  some-differs : (x k : ℕ) (b : Bool) → eqb x 0 ≡ false → sameFrom row x x k ≡ b → differs row x k ≡ not b
+  unfolding differs
+  some-differs x k b a d = λ j. not (a j) && not (d j)
 
-  pub other-same : (r ≡ 0 → ⊥) → (k ≡ 0 → ⊥) → (b : Bool) → b ≡ sameFrom row r r k → not b ≡ other row n i t k
-  other-same z w b q = sym (by-same row r k b (ne-eqb r 0 z) (ne-eqb k 0 w) (sym q)) ∙ at-first
+  pub other-none : (k : ℕ) → r ≡ Stored.Nothing → false ≡ other row n i t k
+  other-none k z = sym (none-differs (first row n i t) k (eq-eqb _ 0 (stored-nothing (first row n i t) r e z))) ∙ at-first k
+
+  module _ (w : LogPrefixWitness) (z : r ≡ Stored.Prefix w) where
+    found-first : (w .0 ≡ first row n i t) × (first row n i t ≡ 0 → ⊥)
+    found-first = stored-number (first row n i t) r e w z
+
+    pub other-same : (k : ℕ) (b : Bool) → b ≡ sameFrom row (w .0) (w .0) k → not b ≡ other row n i t k
+    other-same k b q =
+        sym (some-differs (first row n i t) k b (ne-eqb _ 0 (found-first .1)) (sym (q ∙ ap (λ (x : ℕ). sameFrom row x x k) (found-first .0))))
+        ∙ at-first k
+
+    pub remembered-some : true ≡ isRemembered row n i t
+    unfolding isRemembered
+    remembered-some = sym (ap not (ne-eqb _ 0 (found-first .1)))
+
+  pub remembered-none : r ≡ Stored.Nothing → false ≡ isRemembered row n i t
+  unfolding isRemembered
+  remembered-none z = sym (ap not (eq-eqb _ 0 (stored-nothing (first row n i t) r e z)))
 
 -- ---- an entry as it is read
 
@@ -136,159 +131,225 @@ unfolding heldAll bytesAll
 note-other-one true n i t held r u v e w = w
 note-other-one false n i t held r u v e w = absurd (tf (sym e))
 
--- ---- the judging walk
+-- ---- what a front comes to, entry by entry
 
-missing-cons : (row : ℕ → PrefixRow) (n m p i : ℕ) (e : Entry) (es : List Entry)
-    → missingFrom row n m p i (e ∷ es) ≡ missingFrom row n (counted m (nextNumber row n m p e)) (nextNumber row n m p e) (i + 1) es
-unfolding missingFrom
-missing-cons row n m p i e es = refl
+module _ (row : ℕ → PrefixRow) (n node p i : ℕ) where
+  pub notes-none : notesFrom row n node p i [] ≡ lackNotes row n node i []
+  unfolding notesFrom lackNotes
+  notes-none = refl
 
-notes-cons : (row : ℕ → PrefixRow) (n node m p i : ℕ) (e : Entry) (es : List Entry)
-    → notesFrom row n node m p i (e ∷ es)
-    ≡ noteOf (other row n i (e .term) (nextNumber row n m p e)) node i (e .term)
-    ++ notesFrom row n node (counted m (nextNumber row n m p e)) (nextNumber row n m p e) (i + 1) es
-unfolding notesFrom
-notes-cons row n node m p i e es = refl
+  pub missing-none : missingFrom row n p [] ≡ 0
+  unfolding missingFrom
+  missing-none = refl
 
-counted-below : (m k i : ℕ) → m < i → counted m k < i + 1
-counted-below m k i h = cond-cases (λ (x : ℕ). m + x < i + 1) (eqb k 0) 1 0 (λ _. omega arith) (λ _. omega arith)
+  module _ (e : Entry) (es : List Entry) where
+    -- its prefix is not stored, and none after it
+    pub notes-lost : nextNumber row n p e ≡ 0 → notesFrom row n node p i (e ∷ es) ≡ lackNotes row n node i (e ∷ es)
+    unfolding notesFrom
+    notes-lost z = cond-true (eqb (nextNumber row n p e) 0) _ _ (eq-eqb _ 0 z)
 
-pub record Judging (ps : Bytes) (count : ℕ) (s : Bytes) (entries node : ℕ) (t₀ : Bytes) (held : ℕ) (t : Bytes) (at left i p missing n : ℕ) : Type 0 where
-  pub lacks : missingFrom (prefixRow ps) count 0 0 1 (front (entriesAt s firstEntry entries)) ≡ missingFrom (prefixRow ps) count missing p i (frontFrom i (entriesAt s at left))
-  pub holds : heldAll t₀ held (notesFrom (prefixRow ps) count node 0 0 1 (front (entriesAt s firstEntry entries)))
-      ≡ heldAll t n (notesFrom (prefixRow ps) count node missing p i (frontFrom i (entriesAt s at left)))
-  pub table : bytesAll t₀ held (notesFrom (prefixRow ps) count node 0 0 1 (front (entriesAt s firstEntry entries)))
-      ≡ bytesAll t n (notesFrom (prefixRow ps) count node missing p i (frontFrom i (entriesAt s at left)))
-  pub walk : Walk s at left
-  pub number : p ≤ count
+    pub missing-lost : nextNumber row n p e ≡ 0 → missingFrom row n p (e ∷ es) ≡ length (e ∷ es)
+    unfolding missingFrom
+    missing-lost z = cond-true (eqb (nextNumber row n p e) 0) _ _ (eq-eqb _ 0 z)
+
+    -- its prefix is stored
+    pub notes-stored : (nextNumber row n p e ≡ 0 → ⊥) → notesFrom row n node p i (e ∷ es)
+        ≡ noteOf (other row n i (e .term) (nextNumber row n p e)) node i (e .term) ++ notesFrom row n node (nextNumber row n p e) (i + 1) es
+    unfolding notesFrom
+    notes-stored z = cond-false (eqb (nextNumber row n p e) 0) _ _ (ne-eqb _ 0 z)
+
+    pub missing-stored : (nextNumber row n p e ≡ 0 → ⊥) → missingFrom row n p (e ∷ es) ≡ missingFrom row n (nextNumber row n p e) es
+    unfolding missingFrom
+    missing-stored z = cond-false (eqb (nextNumber row n p e) 0) _ _ (ne-eqb _ 0 z)
+
+    pub lack-cons : lackNotes row n node i (e ∷ es) ≡ noteOf (isRemembered row n i (e .term)) node i (e .term) ++ lackNotes row n node (i + 1) es
+    unfolding lackNotes
+    lack-cons = refl
+
+-- ---- one note more, and the rest
+
+module _ (t : Bytes) (n : ℕ) (N R : List Finding) (n′ : ℕ) (t′ : Bytes) (en : (n′ ≡ heldAll t n N) × (t′ ≡ bytesAll t n N)) where
+  held-then : heldAll t n (N ++ R) ≡ heldAll t′ n′ R
+  held-then = held-append N R t n ∙ (λ z. heldAll (sym (en .1) z) (sym (en .0) z) R)
+
+  bytes-then : bytesAll t n (N ++ R) ≡ bytesAll t′ n′ R
+  bytes-then = bytes-append N R t n ∙ (λ z. bytesAll (sym (en .1) z) (sym (en .0) z) R)
+
+-- what a walk keeps of the findings: as many as can be, in a table of its length
+pub record Noting (t : Bytes) (n : ℕ) : Type 0 where
   pub few : n ≤ 129
   pub long : length t ≡ 1024
-  pub positive : 1 ≤ i
+
+noting-next : (t : Bytes) (n : ℕ) (N : List Finding) (n′ : ℕ) (t′ : Bytes) → Noting t n → (n′ ≡ heldAll t n N) × (t′ ≡ bytesAll t n N) → Noting t′ n′
+noting-next t n N n′ t′ k en =
+    record {
+      few = subst (λ (x : ℕ). x ≤ 129) (sym (en .0)) (held-few N t n (k .few));
+      long = ap length (en .1) ∙ all-length N t n ∙ k .long;
+    }
+
+-- ---- an entry of a walk
+
+module _ (s : Bytes) (at left i : ℕ) (w : Walk s at left) (h : 0 < left) (e : ShownEntry) (q : e ≡ shownEntry s at) where
+  pub entry-short : e .length ≤ 32
+  entry-short = subst (λ (x : ShownEntry). x .length ≤ 32) (sym q) (here s at left w h .short)
+
+  pub walk-next : Walk s (e .next) (left - 1)
+  walk-next = subst (λ (x : ℕ). Walk s x (left - 1)) (sym (ap (λ (x : ShownEntry). x .next) q)) (next-walk s at left w h)
+
+  pub index-within : e .index .0 ≡ i → i ≤ 256
+  index-within g = subst (λ (x : ℕ). x ≤ 256) (sym (ap (λ (x : ShownEntry). x .index .0) q) ∙ g) (walk-entered s at left w h .within)
+
+  -- another index than the next: the front ends
+  pub front-gap : (e .index .0 ≡ i → ⊥) → frontFrom i (entriesAt s at left) ≡ []
+  front-gap g = front-stop s at left i h (λ x. g (ap (λ (y : ShownEntry). y .index .0) q ∙ x))
+
+-- ---- the walk along the stored prefixes
+
+pub record Judging (ps : Bytes) (count : ℕ) (s : Bytes) (entries node : ℕ) (t₀ : Bytes) (held : ℕ) (t : Bytes) (at left i p n : ℕ) : Type 0 where
+  pub lacks : missingFrom (prefixRow ps) count 0 (front (entriesAt s firstEntry entries)) ≡ missingFrom (prefixRow ps) count p (frontFrom i (entriesAt s at left))
+  pub holds : heldAll t₀ held (notesFrom (prefixRow ps) count node 0 1 (front (entriesAt s firstEntry entries)))
+      ≡ heldAll t n (notesFrom (prefixRow ps) count node p i (frontFrom i (entriesAt s at left)))
+  pub table : bytesAll t₀ held (notesFrom (prefixRow ps) count node 0 1 (front (entriesAt s firstEntry entries)))
+      ≡ bytesAll t n (notesFrom (prefixRow ps) count node p i (frontFrom i (entriesAt s at left)))
+  pub noting : Noting t n
+
+module _ (ps : Bytes) (count : ℕ) (s : Bytes) (entries node : ℕ) (t₀ : Bytes) (held : ℕ) where
+  pub judging-starts : held ≤ 129 → length t₀ ≡ 1024 → Judging ps count s entries node t₀ held t₀ firstEntry entries 1 0 held
+  judging-starts h l = record { lacks = refl; holds = refl; table = refl; noting = record { few = h; long = l } }
+
+  module _ (t : Bytes) (at left i p n : ℕ) (j : Judging ps count s entries node t₀ held t at left i p n) (r : Rest ps count s entries (placeAt at left i p)) where
+    abbrev L : List Entry
+    L = frontFrom i (entriesAt s at left)
+
+    reached : missingFrom (prefixRow ps) count p L ≡ length L → notesFrom (prefixRow ps) count node p i L ≡ lackNotes (prefixRow ps) count node i L
+        → ReachedAs ps count s entries node t₀ held n (placeAt at left i p) t
+    reached m k =
+        record {
+          lack = j .lacks ∙ m;
+          holds = j .holds ∙ ap (heldAll t n) k;
+          table = j .table ∙ ap (bytesAll t n) k;
+          few = j .noting .few;
+          long = j .noting .long;
+          rest = r;
+        }
+
+    pub judging-ends : L ≡ [] → ReachedAs ps count s entries node t₀ held n (placeAt at left i p) t
+    judging-ends e =
+        reached (ap (missingFrom (prefixRow ps) count p) e ∙ missing-none (prefixRow ps) count node p i ∙ sym (ap length e))
+        (ap (notesFrom (prefixRow ps) count node p i) e ∙ notes-none (prefixRow ps) count node p i ∙ sym (ap (lackNotes (prefixRow ps) count node i) e))
+
+    module _ (h : 0 < left) (e : ShownEntry) (q : e ≡ shownEntry s at) (g : e .index .0 ≡ i) where
+      abbrev E : Entry
+      E = entryValue e
+
+      steps : L ≡ E ∷ frontFrom (i + 1) (entriesAt s (e .next) (left - 1))
+      steps = front-shown s at left i e (r .stands .walk) h q g
+
+      pub judging-lost : nextNumber (prefixRow ps) count p E ≡ 0 → ReachedAs ps count s entries node t₀ held n (placeAt at left i p) t
+      judging-lost z =
+          reached (ap (missingFrom (prefixRow ps) count p) steps ∙ missing-lost (prefixRow ps) count node p i E _ z ∙ sym (ap length steps))
+          (ap (notesFrom (prefixRow ps) count node p i) steps ∙ notes-lost (prefixRow ps) count node p i E _ z ∙ sym (ap (lackNotes (prefixRow ps) count node i) steps))
+
+      pub judging-next : (k : ℕ) → k ≡ nextNumber (prefixRow ps) count p E → (nextNumber (prefixRow ps) count p E ≡ 0 → ⊥)
+          → (b : Bool) → b ≡ other (prefixRow ps) count (e .index .0) (e .term .0) k
+          → (n′ : ℕ) (t′ : Bytes) → (n′ ≡ heldAll t n (noteOf b node (e .index .0) (e .term .0))) × (t′ ≡ bytesAll t n (noteOf b node (e .index .0) (e .term .0)))
+          → Judging ps count s entries node t₀ held t′ (e .next) (left - 1) (i + 1) k n′
+      judging-next k ek z b eb n′ t′ en =
+          record {
+            lacks = j .lacks ∙ ap (missingFrom (prefixRow ps) count p) steps ∙ missing-stored (prefixRow ps) count node p i E F z
+                ∙ ap (λ (x : ℕ). missingFrom (prefixRow ps) count x F) (sym ek);
+            holds = j .holds ∙ ap (heldAll t n) noted ∙ held-then t n _ _ n′ t′ en;
+            table = j .table ∙ ap (bytesAll t n) noted ∙ bytes-then t n _ _ n′ t′ en;
+            noting = noting-next t n _ n′ t′ (j .noting) en;
+          }
+        where
+          F : List Entry
+          F = frontFrom (i + 1) (entriesAt s (e .next) (left - 1))
+
+          noted : notesFrom (prefixRow ps) count node p i L ≡ noteOf b node (e .index .0) (e .term .0) ++ notesFrom (prefixRow ps) count node k (i + 1) F
+          noted =
+              ap (notesFrom (prefixRow ps) count node p i) steps ∙ notes-stored (prefixRow ps) count node p i E F z
+              ∙ (λ x. noteOf (other (prefixRow ps) count (sym g x) (e .term .0) (sym ek x)) node (sym g x) (e .term .0) ++ notesFrom (prefixRow ps) count node (sym ek x) (i + 1) F)
+              ∙ ap (λ (x : Bool). noteOf x node (e .index .0) (e .term .0) ++ notesFrom (prefixRow ps) count node k (i + 1) F) (sym eb)
+
+-- ---- the walk along the rest
+
+pub record Lacking (ps : Bytes) (count : ℕ) (s : Bytes) (at₀ left₀ i₀ node : ℕ) (t₀ : Bytes) (held : ℕ) (t : Bytes) (at left i missing n : ℕ) : Type 0 where
+  pub lacks : length (frontFrom i₀ (entriesAt s at₀ left₀)) ≡ missing + length (frontFrom i (entriesAt s at left))
+  pub holds : heldAll t₀ held (lackNotes (prefixRow ps) count node i₀ (frontFrom i₀ (entriesAt s at₀ left₀)))
+      ≡ heldAll t n (lackNotes (prefixRow ps) count node i (frontFrom i (entriesAt s at left)))
+  pub table : bytesAll t₀ held (lackNotes (prefixRow ps) count node i₀ (frontFrom i₀ (entriesAt s at₀ left₀)))
+      ≡ bytesAll t n (lackNotes (prefixRow ps) count node i (frontFrom i (entriesAt s at left)))
+  pub noting : Noting t n
+  pub walk : Walk s at left
   pub small : i ≤ 257
   pub below : missing < i
 
-module _ (ps : Bytes) (count : ℕ) (s : Bytes) (entries node : ℕ) (t₀ : Bytes) (held : ℕ) where
-  pub judging-starts : Walk s firstEntry entries → held ≤ 129 → length t₀ ≡ 1024 → Judging ps count s entries node t₀ held t₀ firstEntry entries 1 0 0 held
-  judging-starts w h l =
+module _ (ps : Bytes) (count : ℕ) (s : Bytes) (at₀ left₀ i₀ node : ℕ) (t₀ : Bytes) (held : ℕ) where
+  pub lacking-starts : Walk s at₀ left₀ → 1 ≤ i₀ → i₀ ≤ 257 → held ≤ 129 → length t₀ ≡ 1024 → Lacking ps count s at₀ left₀ i₀ node t₀ held t₀ at₀ left₀ i₀ 0 held
+  lacking-starts w o m h l =
       record {
-        lacks = refl;
+        lacks = omega arith;
         holds = refl;
         table = refl;
+        noting = record { few = h; long = l };
         walk = w;
-        number = omega arith;
-        few = h;
-        long = l;
-        positive = omega arith;
-        small = omega arith;
-        below = omega arith;
+        small = m;
+        below = o;
       }
 
-  module _ (t : Bytes) (at left i p missing n : ℕ) (j : Judging ps count s entries node t₀ held t at left i p missing n) where
-    -- nothing of the front is left
-    ended : frontFrom i (entriesAt s at left) ≡ [] → (r : Place) → (frontFrom i (entriesAt s at left) ≡ [] → Rest ps count s entries missing r)
-        → JudgedAs ps count s entries node t₀ held missing n r t
-    unfolding missingFrom notesFrom heldAll bytesAll
-    ended e r rest =
+  module _ (t : Bytes) (at left i missing n : ℕ) (j : Lacking ps count s at₀ left₀ i₀ node t₀ held t at left i missing n) where
+    pub lacking-ends : frontFrom i (entriesAt s at left) ≡ [] → LackingAs ps count s at₀ left₀ i₀ node t₀ held missing n t
+    unfolding lackNotes heldAll bytesAll
+    lacking-ends e =
         record {
-          lack = sym (j .lacks ∙ ap (missingFrom (prefixRow ps) count missing p i) e);
+          lack = (let a = j .lacks in let b = ap length e in omega arith);
           most = (let a = j .below in let b = j .small in omega arith);
-          holds = sym (j .holds ∙ ap (λ (es : List Entry). heldAll t n (notesFrom (prefixRow ps) count node missing p i es)) e);
-          few = j .few;
-          table = sym (j .table ∙ ap (λ (es : List Entry). bytesAll t n (notesFrom (prefixRow ps) count node missing p i es)) e);
-          rest = rest e;
+          holds = sym (j .holds ∙ ap (λ (es : List Entry). heldAll t n (lackNotes (prefixRow ps) count node i es)) e);
+          few = j .noting .few;
+          table = sym (j .table ∙ ap (λ (es : List Entry). bytesAll t n (lackNotes (prefixRow ps) count node i es)) e);
         }
 
-    pub judging-ends : left ≤ 0 → (r : Place) → (frontFrom i (entriesAt s at left) ≡ [] → Rest ps count s entries missing r)
-        → JudgedAs ps count s entries node t₀ held missing n r t
-    judging-ends h = ended (front-none s at left i h)
+    pub lacking-next : 0 < left → (e : ShownEntry) → e ≡ shownEntry s at → e .index .0 ≡ i
+        → (b : Bool) → b ≡ isRemembered (prefixRow ps) count (e .index .0) (e .term .0)
+        → (n′ : ℕ) (t′ : Bytes) → (n′ ≡ heldAll t n (noteOf b node (e .index .0) (e .term .0))) × (t′ ≡ bytesAll t n (noteOf b node (e .index .0) (e .term .0)))
+        → Lacking ps count s at₀ left₀ i₀ node t₀ held t′ (e .next) (left - 1) (i + 1) (missing + 1) n′
+    lacking-next h e q g b eb n′ t′ en =
+        record {
+          lacks = (let a = j .lacks in let c = ap length steps in omega arith);
+          holds = j .holds ∙ ap (heldAll t n) noted ∙ held-then t n _ _ n′ t′ en;
+          table = j .table ∙ ap (bytesAll t n) noted ∙ bytes-then t n _ _ n′ t′ en;
+          noting = noting-next t n _ n′ t′ (j .noting) en;
+          walk = walk-next s at left i (j .walk) h e q;
+          small = (let x = index-within s at left i (j .walk) h e q g in omega arith);
+          below = (let x = j .below in omega arith);
+        }
+      where
+        F : List Entry
+        F = frontFrom (i + 1) (entriesAt s (e .next) (left - 1))
 
-    module _ (h : 0 < left) (e : ShownEntry) (q : e ≡ shownEntry s at) where
-      same-index : e .index .0 ≡ indexAt s at
-      same-index = ap (λ (x : ShownEntry). x .index .0) q
+        steps : frontFrom i (entriesAt s at left) ≡ entryValue e ∷ F
+        steps = front-shown s at left i e (j .walk) h q g
 
-      pub judging-gap : (e .index .0 ≡ i → ⊥) → (r : Place) → (frontFrom i (entriesAt s at left) ≡ [] → Rest ps count s entries missing r)
-          → JudgedAs ps count s entries node t₀ held missing n r t
-      judging-gap g = ended (front-stop s at left i h (λ x. g (same-index ∙ x)))
+        noted : lackNotes (prefixRow ps) count node i (frontFrom i (entriesAt s at left))
+            ≡ noteOf b node (e .index .0) (e .term .0) ++ lackNotes (prefixRow ps) count node (i + 1) F
+        noted =
+            ap (lackNotes (prefixRow ps) count node i) steps ∙ lack-cons (prefixRow ps) count node 0 i (entryValue e) F
+            ∙ (λ x. noteOf (isRemembered (prefixRow ps) count (sym g x) (e .term .0)) node (sym g x) (e .term .0) ++ lackNotes (prefixRow ps) count node (i + 1) F)
+            ∙ ap (λ (x : Bool). noteOf x node (e .index .0) (e .term .0) ++ lackNotes (prefixRow ps) count node (i + 1) F) (sym eb)
 
-      pub entry-here : Here s at
-      entry-here = here s at left (j .walk) h
+-- ---- both walks
 
-      pub entry-short : e .length ≤ 32
-      entry-short = subst (λ (x : ShownEntry). x .length ≤ 32) (sym q) (entry-here .short)
-
-      module _ (g : e .index .0 ≡ i) where
-        within : i ≤ 256
-        within = subst (λ (x : ℕ). x ≤ 256) (sym same-index ∙ g) (walk-entered s at left (j .walk) h .within)
-
-        pub judging-next : (k : ℕ) → k ≡ nextNumber (prefixRow ps) count missing p (entryValue e)
-            → (b : Bool) → b ≡ other (prefixRow ps) count (e .index .0) (e .term .0) k
-            → (n′ : ℕ) (t′ : Bytes) → (n′ ≡ heldAll t n (noteOf b node (e .index .0) (e .term .0))) × (t′ ≡ bytesAll t n (noteOf b node (e .index .0) (e .term .0)))
-            → (m′ : ℕ) → m′ ≡ counted missing k
-            → Judging ps count s entries node t₀ held t′ (e .next) (left - 1) (i + 1) k m′ n′
-        judging-next k ek b eb n′ t′ en m′ em =
-            record {
-              lacks = j .lacks ∙ ap (missingFrom (prefixRow ps) count missing p i) more ∙ missing-step ∙ (λ z. missingFrom (prefixRow ps) count (mm z) (kk z) (i + 1) (rest z));
-              holds = j .holds ∙ ap (λ (es : List Entry). heldAll t n (notesFrom (prefixRow ps) count node missing p i es)) more ∙ ap (heldAll t n) notes-step
-                  ∙ held-append N R t n ∙ (λ z. heldAll (tt′ z) (nn z) (notesFrom (prefixRow ps) count node (mm z) (kk z) (i + 1) (rest z)));
-              table = j .table ∙ ap (λ (es : List Entry). bytesAll t n (notesFrom (prefixRow ps) count node missing p i es)) more ∙ ap (bytesAll t n) notes-step
-                  ∙ bytes-append N R t n ∙ (λ z. bytesAll (tt′ z) (nn z) (notesFrom (prefixRow ps) count node (mm z) (kk z) (i + 1) (rest z)));
-              walk = subst (λ (x : ℕ). Walk s x (left - 1)) nx (next-walk s at left (j .walk) h);
-              number = subst (λ (x : ℕ). x ≤ count) (sym ek) (next-within (prefixRow ps) count missing p (entryValue e));
-              few = subst (λ (x : ℕ). x ≤ 129) (sym (en .0)) (held-few _ t n (j .few));
-              long = ap length (en .1) ∙ all-length _ t n ∙ j .long;
-              positive = omega arith;
-              small = (let x = within in omega arith);
-              below = subst (λ (x : ℕ). x < i + 1) (sym em) (counted-below missing k i (j .below));
-            }
-          where
-            E : Entry
-            E = shownAt s at .entry
-
-            more : frontFrom i (entriesAt s at left) ≡ E ∷ frontFrom (i + 1) (entriesAt s (nextAt s at) (left - 1))
-            more = front-more s at left i h (sym same-index ∙ g)
-
-            k₀ : ℕ
-            k₀ = nextNumber (prefixRow ps) count missing p E
-
-            N : List Finding
-            N = noteOf (other (prefixRow ps) count i (E .term) k₀) node i (E .term)
-
-            R : List Finding
-            R = notesFrom (prefixRow ps) count node (counted missing k₀) k₀ (i + 1) (frontFrom (i + 1) (entriesAt s (nextAt s at) (left - 1)))
-
-            read : entryValue e ≡ E
-            read = entry-read s at e q (entry-here .short)
-
-            missing-step : missingFrom (prefixRow ps) count missing p i (E ∷ frontFrom (i + 1) (entriesAt s (nextAt s at) (left - 1)))
-                ≡ missingFrom (prefixRow ps) count (counted missing k₀) k₀ (i + 1) (frontFrom (i + 1) (entriesAt s (nextAt s at) (left - 1)))
-            missing-step = missing-cons (prefixRow ps) count missing p i E _
-
-            notes-step : notesFrom (prefixRow ps) count node missing p i (E ∷ frontFrom (i + 1) (entriesAt s (nextAt s at) (left - 1))) ≡ N ++ R
-            notes-step = notes-cons (prefixRow ps) count node missing p i E _
-
-            kk : k₀ ≡ k
-            kk = ap (nextNumber (prefixRow ps) count missing p) (sym read) ∙ sym ek
-
-            mm : counted missing k₀ ≡ m′
-            mm = ap (counted missing) kk ∙ sym em
-
-            nx : nextAt s at ≡ e .next
-            nx = sym (ap (λ (x : ShownEntry). x .next) q)
-
-            tm : E .term ≡ e .term .0
-            tm = sym (ap (λ (x : ShownEntry). x .term .0) q)
-
-            bb : other (prefixRow ps) count i (E .term) k₀ ≡ b
-            bb = (λ z. other (prefixRow ps) count (sym g z) (tm z) (kk z)) ∙ sym eb
-
-            NN : N ≡ noteOf b node (e .index .0) (e .term .0)
-            NN = λ z. noteOf (bb z) node (sym g z) (tm z)
-
-            nn : heldAll t n N ≡ n′
-            nn = ap (heldAll t n) NN ∙ sym (en .0)
-
-            tt′ : bytesAll t n N ≡ t′
-            tt′ = ap (bytesAll t n) NN ∙ sym (en .1)
-
-            rest : frontFrom (i + 1) (entriesAt s (nextAt s at) (left - 1)) ≡ frontFrom (i + 1) (entriesAt s (e .next) (left - 1))
-            rest = ap (λ (x : ℕ). frontFrom (i + 1) (entriesAt s x (left - 1))) nx
+pub judged-both : (ps : Bytes) (count : ℕ) (s : Bytes) (n node : ℕ) (t : Bytes) (held held₁ : ℕ) (r : Place) (t₁ : Bytes)
+    → ReachedAs ps count s n node t held held₁ r t₁ → (missing held₂ : ℕ) (t₂ : Bytes) → LackingAs ps count s (r .at) (r .left) (r .index .0) node t₁ held₁ missing held₂ t₂
+    → JudgedAs ps count s n node t held missing held₂ r t₂
+judged-both ps count s n node t held held₁ r t₁ a missing held₂ t₂ b =
+    record {
+      lack = b .lack ∙ sym (a .lack);
+      most = b .most;
+      holds = b .holds ∙ sym (a .holds);
+      few = b .few;
+      table = b .table ∙ sym (a .table);
+      place = b .lack;
+      rest = a .rest;
+    }

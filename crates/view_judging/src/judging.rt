@@ -1,19 +1,20 @@
-// A view judged along its front (observation.rs), with nothing written.
+// A view judged along its front (observation.rs), with nothing written: first as far as its prefixes are stored, then the rest,
+// where none is.
 ghost use mathlib.Core.Path.{_≡_};
-ghost use Prim.Native.Nat.{_≤_, _<_};
+ghost use Prim.Native.Nat.{_≤_};
 ghost use lib.ListN.{length};
 ghost use Rattle.record_scan.specs.Places.{Walk, firstEntry};
 ghost use Rattle.storage.specs.Tables.{prefixRow};
-ghost use Rattle.prefix_lookup.specs.Table.{Table, entryValue};
+ghost use Rattle.prefix_lookup.specs.Table.{Table};
 ghost use Rattle.log_violation.specs.Violation.{heldAll, bytesAll};
-ghost use Rattle.view_judging.specs.Judging.{nextNumber, other, counted as countedMissing, noteOf, JudgedAs, onward as onwardFrom, Observing, ViewJudged};
+ghost use Rattle.view_judging.specs.Judging.{other, isRemembered, noteOf, Stand, ReachedAs, LackingAs, JudgedAs, Observing, ViewJudged};
 use log_comparison::comparison::same_prefix;
 use log_violation::violation::copy_findings;
 use log_violation::violation::note;
+use prefix_lookup::lookup::Stored;
 use prefix_lookup::lookup::find_extension;
 use prefix_lookup::lookup::first_of;
 use record_walk::walk::FIRST_ENTRY;
-use record_walk::walk::ShownEntry;
 use record_walk::walk::entry_at;
 use storage::head::prefix_count;
 use storage_bytes::layout::PREFIXES_LENGTH;
@@ -21,50 +22,59 @@ use storage_bytes::layout::PREFIXES_START;
 use storage_bytes::layout::part;
 use table_rows::findings::Found;
 use units::LogIndex;
+use units::LogPrefixWitness;
 use units::NodeId;
 use units::Term;
 
 // A place along a front: the bit where its next entry begins, how many entries are left, the index that is next, and the
-// number of the prefix before it.
+// prefix before it.
 pub struct Place {
     pub at: usize,
     pub left: usize,
-    pub index: usize,
-    pub number: usize,
+    pub index: LogIndex,
+    pub prefix: LogPrefixWitness,
 }
 
-// What the judging walk gives: how many prefixes of the front are not stored, how many findings are held, and the place
-// before the first prefix that is not stored.
+// How far the prefixes of a front are stored, and how many findings are held then.
+struct Reached {
+    held: usize,
+    rest: Place,
+}
+
+// How many prefixes are not stored, and how many findings are held then.
+struct Lacking {
+    missing: usize,
+    held: usize,
+}
+
+// What judging gives: how many prefixes of the front are not stored, how many findings are held, and the place before the
+// first prefix that is not stored.
 pub struct Judged {
     pub missing: usize,
     pub held: usize,
     pub rest: Place,
 }
 
-// The number of the next prefix of the front, or 0. After one that is not stored none is.
-fn next_number(prefixes: &[u8], count: usize, missing: usize, p: usize, e: ShownEntry) -> usize
-    requires { ⌜ (count ≤ 512) × (p ≤ count) × (length (now prefixes) ≡ 20992) × (e .length ≤ 32) ⌝ }
-    ensures { λ r. ⌜ r ≡ nextNumber (prefixRow (now (prefixes .entry))) count missing p (entryValue e) ⌝ }
+// Another prefix than the given one is remembered for the index and term.
+fn is_other(prefixes: &[u8], count: usize, index: LogIndex, term: Term, p: LogPrefixWitness) -> bool
+    requires { ⌜ Table (now prefixes) count × (1 ≤ index .0) × (p .0 ≤ count) ⌝ }
+    ensures { λ r. ⌜ r ≡ other (prefixRow (now (prefixes .entry))) count (index .0) (term .0) (p .0) ⌝ }
 {
-    if missing != 0 {
-        return 0;
-    }
-    find_extension(prefixes, count, p, e)
+    let Stored::Prefix(remembered) = first_of(prefixes, count, index, term) else {
+        return false;
+    };
+    !same_prefix(prefixes, count, remembered, p)
 }
 
-// Another prefix is remembered for the index and term than that of number k, or of no number.
-fn is_other(prefixes: &[u8], count: usize, index: LogIndex, term: Term, k: usize) -> bool
-    requires { ⌜ Table (now prefixes) count × (1 ≤ index .0) × (k ≤ count) ⌝ }
-    ensures { λ r. ⌜ r ≡ other (prefixRow (now (prefixes .entry))) count (index .0) (term .0) k ⌝ }
+// A prefix is remembered for the index and term: another one than any that is not stored.
+fn is_remembered(prefixes: &[u8], count: usize, index: LogIndex, term: Term) -> bool
+    requires { ⌜ Table (now prefixes) count × (1 ≤ index .0) ⌝ }
+    ensures { λ r. ⌜ r ≡ isRemembered (prefixRow (now (prefixes .entry))) count (index .0) (term .0) ⌝ }
 {
-    let r = first_of(prefixes, count, index, term);
-    if r == 0 {
+    let Stored::Prefix(_) = first_of(prefixes, count, index, term) else {
         return false;
-    }
-    if k == 0 {
-        return true;
-    }
-    !same_prefix(prefixes, count, r, k)
+    };
+    true
 }
 
 // LG-03 is noted where another prefix is remembered.
@@ -82,43 +92,92 @@ fn note_other(
     if !differs {
         return n;
     }
-    note(
-        &mut findings[..],
-        n,
-        Found {
-            name: 3,
-            node,
-            index,
-            term,
-        },
-    )
+    let lg03 = Found {
+        name: 3,
+        node,
+        index,
+        term,
+    };
+    note(&mut findings[..], n, lg03)
 }
 
-// One more is missing where the next prefix has no number.
-fn counted(missing: usize, k: usize) -> usize
-    requires { ⌜ missing < 257 ⌝ }
-    ensures { λ r. ⌜ r ≡ countedMissing missing k ⌝ }
+// The walk along the front of a view of `entries` entries as far as its prefixes are stored, and its LG-03 there, noted among the
+// findings, of which `held` are held.
+fn judge_stored(
+    prefixes: &[u8],
+    count: usize,
+    view: &[u8],
+    entries: usize,
+    node: NodeId,
+    findings: &mut [u8],
+    held: usize,
+) -> Reached
+    requires { ⌜ Table (now prefixes) count × Walk (now view) firstEntry entries × (held ≤ 129) × (length (now findings) ≡ 1024) ⌝ }
+    ensures { λ r. ⌜ ReachedAs (now (prefixes .entry)) count (now (view .entry)) entries (node .0) (now (findings .entry)) held (r .held) (r .rest) (now (findings .exit)) ⌝ }
 {
-    if k == 0 { missing + 1 } else { missing }
-}
-
-// The place goes on as long as nothing is missing.
-fn onward(missing: usize, old: Place, at: usize, left: usize, index: usize, number: usize) -> Place
-    ensures { λ r. ⌜ r ≡ onwardFrom missing old (record { at = at; left = left; index = index; number = number }) ⌝ }
-{
-    if missing != 0 {
-        return old;
+    let mut at = FIRST_ENTRY;
+    let mut left = entries;
+    let mut i = 1;
+    let mut p = LogPrefixWitness::EMPTY;
+    let mut n = held;
+    while 0 < left {
+        let e = entry_at(view, at);
+        if e.index.0 != i {
+            break;
+        }
+        let Stored::Prefix(next) = find_extension(prefixes, count, p, e) else {
+            break;
+        };
+        let differs = is_other(prefixes, count, e.index, e.term, next);
+        n = note_other(&mut findings[..], n, differs, node, e.index, e.term);
+        p = next;
+        i += 1;
+        at = e.next;
+        left -= 1;
     }
-    Place {
+    let rest = Place {
         at,
         left,
-        index,
-        number,
-    }
+        index: LogIndex(i),
+        prefix: p,
+    };
+    Reached { held: n, rest }
 }
 
-// The walk along the front of a view of `entries` entries: how many of its prefixes are not stored and where they begin, and
-// its LG-03, noted among the findings, of which `held` are held.
+// The walk along the rest of the front, whose prefixes are not stored: how many they are, and its LG-03.
+fn judge_missing(
+    prefixes: &[u8],
+    count: usize,
+    view: &[u8],
+    rest: Place,
+    node: NodeId,
+    findings: &mut [u8],
+    held: usize,
+) -> Lacking
+    requires { ⌜ Table (now prefixes) count × Stand (now view) count rest × (held ≤ 129) × (length (now findings) ≡ 1024) ⌝ }
+    ensures { λ r. ⌜ LackingAs (now (prefixes .entry)) count (now (view .entry)) (rest .at) (rest .left) (rest .index .0) (node .0) (now (findings .entry)) held (r .missing) (r .held) (now (findings .exit)) ⌝ }
+{
+    let mut at = rest.at;
+    let mut left = rest.left;
+    let mut i = rest.index.0;
+    let mut missing = 0;
+    let mut n = held;
+    while 0 < left {
+        let e = entry_at(view, at);
+        if e.index.0 != i {
+            break;
+        }
+        let differs = is_remembered(prefixes, count, e.index, e.term);
+        n = note_other(&mut findings[..], n, differs, node, e.index, e.term);
+        missing += 1;
+        i += 1;
+        at = e.next;
+        left -= 1;
+    }
+    Lacking { missing, held: n }
+}
+
+// Both walks.
 fn judge(
     prefixes: &[u8],
     count: usize,
@@ -131,36 +190,28 @@ fn judge(
     requires { ⌜ Table (now prefixes) count × Walk (now view) firstEntry entries × (held ≤ 129) × (length (now findings) ≡ 1024) ⌝ }
     ensures { λ r. ⌜ JudgedAs (now (prefixes .entry)) count (now (view .entry)) entries (node .0) (now (findings .entry)) held (r .missing) (r .held) (r .rest) (now (findings .exit)) ⌝ }
 {
-    let mut at = FIRST_ENTRY;
-    let mut left = entries;
-    let mut i = 1;
-    let mut p = 0;
-    let mut missing = 0;
-    let mut n = held;
-    let mut rest = Place {
-        at,
-        left,
-        index: i,
-        number: p,
-    };
-    while 0 < left {
-        let e = entry_at(view, at);
-        if e.index.0 != i {
-            break;
-        }
-        let k = next_number(prefixes, count, missing, p, e);
-        let differs = is_other(prefixes, count, e.index, e.term, k);
-        n = note_other(&mut findings[..], n, differs, node, e.index, e.term);
-        missing = counted(missing, k);
-        p = k;
-        i += 1;
-        at = e.next;
-        left -= 1;
-        rest = onward(missing, rest, at, left, i, p);
-    }
+    let stored = judge_stored(
+        prefixes,
+        count,
+        view,
+        entries,
+        node,
+        &mut findings[..],
+        held,
+    );
+    let rest = stored.rest;
+    let lacking = judge_missing(
+        prefixes,
+        count,
+        view,
+        rest,
+        node,
+        &mut findings[..],
+        stored.held,
+    );
     Judged {
-        missing,
-        held: n,
+        missing: lacking.missing,
+        held: lacking.held,
         rest,
     }
 }
@@ -178,8 +229,9 @@ pub fn judge_view(
 {
     let count = prefix_count(history);
     let held = copy_findings(history, &mut findings[..]);
+    let prefixes = part(history, PREFIXES_START, PREFIXES_LENGTH);
     judge(
-        part(history, PREFIXES_START, PREFIXES_LENGTH),
+        prefixes,
         count,
         view,
         entries,

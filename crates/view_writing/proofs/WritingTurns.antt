@@ -61,9 +61,9 @@ extended-index h n p e right en hp h′ n′ p′ a =
 
 module _ (h₀ : Bytes) (n₀ : ℕ) (s : Bytes) (r : Place) (g : Storing h₀ n₀ s r) where
   abbrev Now : Bytes → ℕ → ℕ → ℕ → ℕ → Type 0
-  Now = Written h₀ n₀ s (r .at) (r .left) (r .number)
+  Now = Written h₀ n₀ s (r .at) (r .left) (r .prefix .0)
 
-  pub writing-starts : Now h₀ (r .at) (r .left) (r .number) n₀
+  pub writing-starts : Now h₀ (r .at) (r .left) (r .prefix .0) n₀
   writing-starts =
       record { bytes = refl; counts = refl; number = refl; walk = g .stands .walk; right = g .right; held = g .count; within = g .stands .number }
 
@@ -75,8 +75,8 @@ module _ (h₀ : Bytes) (n₀ : ℕ) (s : Bytes) (r : Place) (g : Storing h₀ n
     unfolding writtenBytes writtenNumber
     done e =
         record {
-          is = sym ((λ j. writtenNumber h₀ n₀ (r .number) (g .next j) (frontFrom (g .next j) (entriesAt s (r .at) (r .left)))) ∙ w .number ∙ ap (writtenNumber h n p (nextIndex h p)) e);
-          bytes = sym ((λ j. writtenBytes h₀ n₀ (r .number) (g .next j) (frontFrom (g .next j) (entriesAt s (r .at) (r .left)))) ∙ w .bytes ∙ ap (writtenBytes h n p (nextIndex h p)) e);
+          is = sym ((λ j. writtenNumber h₀ n₀ (r .prefix .0) (g .next j) (frontFrom (g .next j) (entriesAt s (r .at) (r .left)))) ∙ w .number ∙ ap (writtenNumber h n p (nextIndex h p)) e);
+          bytes = sym ((λ j. writtenBytes h₀ n₀ (r .prefix .0) (g .next j) (frontFrom (g .next j) (entriesAt s (r .at) (r .left)))) ∙ w .bytes ∙ ap (writtenBytes h n p (nextIndex h p)) e);
           long = writing-long;
         }
 
@@ -86,7 +86,7 @@ module _ (h₀ : Bytes) (n₀ : ℕ) (s : Bytes) (r : Place) (g : Storing h₀ n
     counted : writtenCount h n p (nextIndex h p) (Left h s p at left) ≤ 512
     counted =
         subst (λ (m : ℕ). m ≤ 512)
-        ((λ j. writtenCount h₀ n₀ (r .number) (g .next j) (frontFrom (g .next j) (entriesAt s (r .at) (r .left)))) ∙ w .counts) (g .room)
+        ((λ j. writtenCount h₀ n₀ (r .prefix .0) (g .next j) (frontFrom (g .next j) (entriesAt s (r .at) (r .left)))) ∙ w .counts) (g .room)
 
     fits : n ≤ 512
     fits = (let a = counted in let c = count-grows (Left h s p at left) h n p (nextIndex h p) in omega arith)
@@ -137,15 +137,15 @@ module _ (h₀ : Bytes) (n₀ : ℕ) (s : Bytes) (r : Place) (g : Storing h₀ n
 
       pub writing-next : (y : Extended) (h′ : Bytes)
           → (e .index .0 ≡ nextIndex h p) × (y ≡ extended h n p (entryValue e)) × (h′ ≡ extendedBytes h n p (e .index .0) (entryValue e))
-          → Now h′ (e .next) (left - 1) (y .number) (y .count)
+          → Now h′ (e .next) (left - 1) (y .prefix .0) (y .count)
       writing-next y h′ a =
           let E = entryValue e in
           let i = nextIndex h p in
           let t = extends (a .0) in
           let bb : extendedBytes h n p i E ≡ h′ = ap (λ (z : ℕ). extendedBytes h n p z E) (sym (a .0)) ∙ sym (a .2) in
           let cc : extendedCount h n p E ≡ y .count = sym (ap (λ (z : Extended). z .count) (a .1)) in
-          let dd : extendedNumber h n p E ≡ y .number = sym (ap (λ (z : Extended). z .number) (a .1)) in
-          let ii : i + 1 ≡ nextIndex h′ (y .number) =
+          let dd : extendedNumber h n p E ≡ y .prefix .0 = sym (ap (λ (z : Extended). z .prefix .0) (a .1)) in
+          let ii : i + 1 ≡ nextIndex h′ (y .prefix .0) =
           sym (extended-index h n p E (w .right) (w .held) (w .within) _ _ _ t) ∙ (λ z. nextIndex (bb z) (dd z)) in
           let R = frontFrom (i + 1) (entriesAt s (e .next) (left - 1)) in
           let u = written-cons h n p i E R in

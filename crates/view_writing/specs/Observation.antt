@@ -21,13 +21,13 @@ pub record Storing (h : Bytes) (n : ℕ) (s : Bytes) (r : Place) : Type 0 where
   pub right : wellFormed h ≡ true
   pub count : n ≡ wordAt h 0 2
   pub stands : Stand s n r
-  pub next : r .index ≡ nextIndex h (r .number)
-  pub room : writtenCount h n (r .number) (r .index) (frontAt s r) ≤ 512
+  pub next : r .index .0 ≡ nextIndex h (r .prefix .0)
+  pub room : writtenCount h n (r .prefix .0) (r .index .0) (frontAt s r) ≤ 512
 
 -- and what it does: the number of the front, and the history
 pub record StoredAs (h : Bytes) (n : ℕ) (s : Bytes) (r : Place) (number : ℕ) (h′ : Bytes) : Type 0 where
-  pub is : number ≡ writtenNumber h n (r .number) (r .index) (frontAt s r)
-  pub bytes : h′ ≡ writtenBytes h n (r .number) (r .index) (frontAt s r)
+  pub is : number ≡ writtenNumber h n (r .prefix .0) (r .index .0) (frontAt s r)
+  pub bytes : h′ ≡ writtenBytes h n (r .prefix .0) (r .index .0) (frontAt s r)
   pub long : length h′ ≡ 24137
 
 -- "an accepted view replaces the node's earlier one": the node's row, its unseen mark as it was
@@ -40,4 +40,4 @@ unfoldable pub restWritten : Bytes → ℕ → Bytes → Place → ℕ → Bytes
 unfolding writtenBytes writtenNumber viewReplaced findingsKept
 restWritten h n s r node t held =
     let es = frontAt s r in
-    findingsKept (viewReplaced (writtenBytes h n (r .number) (r .index) es) node (writtenNumber h n (r .number) (r .index) es) (lastAt s r)) t held
+    findingsKept (viewReplaced (writtenBytes h n (r .prefix .0) (r .index .0) es) node (writtenNumber h n (r .prefix .0) (r .index .0) es) (lastAt s r)) t held

@@ -1,30 +1,49 @@
 -- `certificate_judgement::judgement::judge` meets its contract.
 -- Assumes nothing.
 use Rattle.certificate_judgement.proofs.JudgementLaws.{noted-length, judged-none, judged-some}
+use Rattle.check_relevance.proofs.RelevantLaws.{index-told, nothing-told}
 use Rattle.certificate_rows.specs.Values.{certificateValue}
+use mathlib.Core.Path.{refl, sym, _∙_}
+use borrow.Author.Needs.{needs}
 use Rattle.certificate_judgement.proofs.judgement.judge.Statement.{statement}
 use Rattle.certificate_judgement.proofs.judgement.judge.Tie as tie
 
 relevant-index-requires : tie.Need-relevant-index-requires
-relevant-index-requires c κs = c .before .before .pre .right
+relevant-index-requires c κs = (c .before .before .pre .0 .right, c .before .before .pre .1)
+
+enum-known-index : tie.Need-enum-known-index
+enum-known-index c = search needs
+
+enum-told : tie.Need-enum-told
+enum-told c = search needs
 
 returns : tie.Need-returns
 returns c =
     let s = c .before .before .before .before .before .args in
-    judged-none (s .history .now) (certificateValue (s .c)) (s .findings .now) (s .earlier .relevant) (s .earlier .held) _ (c .before .before .relevant-index .ensures) (c .if1 .taken)
+    judged-none (s .history .now) (certificateValue (s .c)) (s .findings .now) (s .earlier .flags) (s .earlier .held) _ refl
+    (nothing-told _ _ (c .before .before .relevant-index .ensures) (c .enum-told .given .1))
 
 note-lacking-requires : tie.Need-note-lacking-requires
-note-lacking-requires c κs = c .before .before .before .before .before .before .pre
+note-lacking-requires c κs = c .before .before .before .before .before .before .before .pre .0
 
 same-length : tie.Need-same-length
 same-length c = noted-length _ _ _ _ _ _ _ (c .before .before .note-lacking .ensures)
 
 returns-2 : tie.Need-returns-2
 returns-2 c =
-    let s = c .before .before .before .before .before .before .before .before .before .args in
-    judged-some (s .history .now) (certificateValue (s .c)) (s .findings .now) (s .earlier .relevant) (s .earlier .held) _ (c .before .before .before .before .before .before .relevant-index .ensures) (c .before .before .before .before .if1 .left) _ _ (c .before .before .note-lacking .ensures)
+    let s = c .before .before .before .before .before .before .before .before .before .before .args in
+    let x = index-told _ _ (c .before .before .before .before .before .before .before .relevant-index .ensures) _ (c .before .before .before .before .before .index .given .1) in
+    judged-some (s .history .now) (certificateValue (s .c)) (s .findings .now) (s .earlier .flags) (s .earlier .held) _ (x .0) (λ z. x .1 (sym (x .0) ∙ z)) _ _
+    (c .before .before .note-lacking .ensures)
 
 pub judge-spec : {M : Type 1} → statement M
 judge-spec =
     tie.close
-    (tie.spec relevant-index-requires returns note-lacking-requires same-length returns-2)
+    (tie.spec
+    relevant-index-requires
+    enum-known-index
+    enum-told
+    returns
+    note-lacking-requires
+    same-length
+    returns-2)

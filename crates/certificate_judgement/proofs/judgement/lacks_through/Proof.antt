@@ -12,7 +12,7 @@ use Rattle.certificate_judgement.proofs.judgement.lacks_through.Tie as 
 returns : tie.Need-returns
 returns c =
     let s = c .before .before .before .args in
-    lacks-absent (s .history .now) (certificateValue (s .c)) (s .through .0) (c .if1 .taken)
+    lacks-absent (s .history .now) (certificateValue (s .c)) (s .index .0) (c .if1 .taken)
 
 committed-prefix-requires : tie.Need-committed-prefix-requires
 committed-prefix-requires c κs = let l = formed _ (c .before .before .before .pre .0) .long in omega arith
@@ -27,20 +27,20 @@ returns-2 : tie.Need-returns-2
 returns-2 c =
     let p = c .before .before in
     let s = p .before .before .before .before .args in
-    lacks-nothing (s .history .now) (certificateValue (s .c)) (s .through .0) (p .before .if1 .left) _ (p .committed-prefix .ensures) (c .enum-told .given .1)
+    lacks-nothing (s .history .now) (certificateValue (s .c)) (s .index .0) (p .before .if1 .left) _ (p .committed-prefix .ensures) (c .enum-told .given .1)
 
 agree-through-requires : tie.Need-agree-through-requires
 agree-through-requires c κs =
-    let p = c .before .before .before in
+    let p = c .before .before .before .before in
     let s = p .before .before .before .before in
-    (s .pre .0, s .pre .1, kept-within _ (formed _ (s .pre .0)) _ (p .committed-prefix .ensures) _ (c .before .committed .given .1))
+    (s .pre .0, s .pre .1, kept-within _ (formed _ (s .pre .0)) _ (p .committed-prefix .ensures) _ (c .before .before .committed .given .1))
 
 returns-3 : tie.Need-returns-3
 returns-3 c =
-    let p = c .before .before .before .before in
+    let p = c .before .before .before .before .before in
     let s = p .before .before .before .before .args in
-    lacks-there (s .history .now) (certificateValue (s .c)) (s .through .0) (p .before .if1 .left) _ (p .committed-prefix .ensures)
-    _ (c .before .before .committed .given .1) _ (c .agree-through .ensures)
+    lacks-there (s .history .now) (certificateValue (s .c)) (s .index .0) (p .before .if1 .left) _ (p .committed-prefix .ensures)
+    _ (c .before .before .before .committed .given .1) _ (c .agree-through .ensures)
 
 pub lacks-through-spec : {M : Type 1} → statement M
 lacks-through-spec =

@@ -15,7 +15,7 @@ lacks-through-requires c κs = (c .before .before .pre .right, c .before .before
 returns : tie.Need-returns
 returns c =
     let s = c .before .before .before .before .args in
-    noted-none (s .history .now) (certificateValue (s .c)) (s .through .0) (s .findings .now) (s .held) _ (c .before .lacks-through .ensures) (not-true _ (c .if1 .taken))
+    noted-none (s .history .now) (certificateValue (s .c)) (s .index .0) (s .findings .now) (s .held) _ (c .before .lacks-through .ensures) (not-true _ (c .if1 .taken))
 
 note-requires : tie.Need-note-requires
 note-requires c κs = (c .before .before .before .before .before .before .before .pre .few, c .before .before .before .before .before .before .before .pre .long)
@@ -26,7 +26,7 @@ same-length c = ap length (c .before .before .note .ensures .1) ∙ note-length 
 returns-2 : tie.Need-returns-2
 returns-2 c =
     let s = c .before .before .before .before .before .before .before .before .before .before .args in
-    noted-one (s .history .now) (certificateValue (s .c)) (s .through .0) (s .findings .now) (s .held) _ (c .before .before .before .before .before .before .before .lacks-through .ensures) (not-false _ (c .before .before .before .before .before .before .if1 .left)) _ _ (c .before .before .note .ensures)
+    noted-one (s .history .now) (certificateValue (s .c)) (s .index .0) (s .findings .now) (s .held) _ (c .before .before .before .before .before .before .before .lacks-through .ensures) (not-false _ (c .before .before .before .before .before .before .if1 .left)) _ _ (c .before .before .note .ensures)
 
 pub note-lacking-spec : {M : Type 1} → statement M
 note-lacking-spec =

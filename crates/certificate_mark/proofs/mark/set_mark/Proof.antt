@@ -64,7 +64,7 @@ module _ {M : Type 1} (𝓤 : URA M) (H : Heap 𝓤) (A : Atoms 𝓤) (W : Given
 
   abbrev mach : ℕ → Val
   mach m =
-      vstruct (vcons (vstruct (vcons (vint w32 (h .term .0)) vnil)) (vcons (vint w64 (h .log)) (vcons (index m) (vcons (vstruct (vcons (vint w8 (h .leader .0)) vnil)) (vcons (vint w64 (h .number)) (vcons (vint w64 (h .present)) vnil))))))
+      vstruct (vcons (vstruct (vcons (vint w32 (h .term .0)) vnil)) (vcons (vstruct (vcons (vint w64 (h .log .0)) vnil)) (vcons (index m) (vcons (vstruct (vcons (vint w8 (h .leader .0)) vnil)) (vcons (vint w64 (h .number)) (vcons (vint w64 (h .present)) vnil))))))
 
   abbrev at : List Val × (List Val × Unit {0})
   at = (vptr b o ∷ [], (index (i .0) ∷ [], tt))

@@ -28,8 +28,8 @@ add-get8 c = search needs
 get8-requires : tie.Need-get8-requires
 get8-requires c κs = search needs
 
-cast-t13 : tie.Need-cast-t13
-cast-t13 c = search needs
+cast-t14 : tie.Need-cast-t14
+cast-t14 c = search needs
 
 add-get8-2 : tie.Need-add-get8-2
 add-get8-2 c = search needs
@@ -68,7 +68,7 @@ certificate-at-spec =
     get16-requires-2
     add-get8
     get8-requires
-    cast-t13
+    cast-t14
     add-get8-2
     get8-requires-2
     add-get8-3

@@ -30,7 +30,7 @@ returns c =
     let s = b1 .before .before .before .args in
     let x = s .c in
     b .put-leader .ensures
-    ∙ field-next (s .certificates .now) (s .k * 11) (wordBytes 4 (x .term .0) ++ wordBytes 2 (x .log) ++ wordBytes 2 (x .mark .0))
+    ∙ field-next (s .certificates .now) (s .k * 11) (wordBytes 4 (x .term .0) ++ wordBytes 2 (x .log .0) ++ wordBytes 2 (x .mark .0))
     (wordBytes 1 (x .leader .0) ++ wordBytes 1 (x .number) ++ wordBytes 1 (x .present)) (s .k * 11 + 8) (b1 .put-log .ensures) refl
 
 pub put-certificate-spec : {M : Type 1} → statement M

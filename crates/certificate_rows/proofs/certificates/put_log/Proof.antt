@@ -35,7 +35,7 @@ returns c =
     let b1 = b2 .before .before .before .before in
     let s = b1 .before .before .before .args in
     let A = wordBytes 4 (s .c .term .0) in
-    let B = wordBytes 2 (s .c .log) in
+    let B = wordBytes 2 (s .c .log .0) in
     b .put162 .ensures
     ∙ field-next (s .t .now) (s .o) (A ++ B) (wordBytes 2 (s .c .mark .0)) (s .o + 6)
     (b2 .put16 .ensures ∙ field-next (s .t .now) (s .o) A B (s .o + 4) (b1 .put32 .ensures) refl)

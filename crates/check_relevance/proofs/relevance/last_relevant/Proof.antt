@@ -1,6 +1,7 @@
 -- `check_relevance::relevance::last_relevant` meets its contract. The invariant: the answer is that of the indexes that are left.
 -- Assumes nothing.
 use Rattle.check_relevance.proofs.RelevanceLaws.{relevant-next, relevant-found, relevant-none}
+use Rattle.check_relevance.proofs.RelevantLaws.{index-found, index-none}
 use Rattle.check_relevance.specs.Relevance.{lastRelevant}
 use Rattle.storage.specs.Tables.{termRow}
 use Prim.Native.Nat.{_≤_}
@@ -30,7 +31,9 @@ returns : tie.Need-returns Inv-loop μ-loop
 returns c =
     let l = c .before .before .before .before .before .before .before .loop in
     let s = c .before .before .before .before .before .before .before .before .before .args in
-    relevant-found (termRow (s .terms .now)) (s .mark .0) (s .term .0) (s .end .0) (l .index .0) (l .inv .1) (c .before .before .before .before .if1 .taken) _ (c .before .before .before .term-of .ensures) (c .if2 .taken)
+    index-found (l .index) _
+    (relevant-found (termRow (s .terms .now)) (s .mark .0) (s .term .0) (s .end .0) (l .index .0) (l .inv .1) (c .before .before .before .before .if1 .taken) _ (c .before .before .before .term-of .ensures) (c .if2 .taken))
+    (λ z. let y = c .before .before .before .before .if1 .taken in omega arith)
 
 sub-t8 : tie.Need-sub-t8 Inv-loop μ-loop
 sub-t8 c = search needs
@@ -51,7 +54,8 @@ returns-2 : tie.Need-returns-2 Inv-loop μ-loop
 returns-2 c =
     let l = c .before .before .before .loop in
     let s = c .before .before .before .before .before .args in
-    relevant-none (termRow (s .terms .now)) (s .mark .0) (s .term .0) (s .end .0) (l .index .0) (l .inv .1) (c .if1 .left)
+    index-none _
+    (relevant-none (termRow (s .terms .now)) (s .mark .0) (s .term .0) (s .end .0) (l .index .0) (l .inv .1) (c .if1 .left))
 
 pub last-relevant-spec : {M : Type 1} → statement M
 last-relevant-spec =

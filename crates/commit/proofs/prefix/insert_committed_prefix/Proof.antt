@@ -34,10 +34,10 @@ same-length c = ap length (c .before .before .note-difference .ensures .leaves) 
 returns : tie.Need-returns
 returns c =
     let s = c .before .before .before .before .before .before .before .before .before .before in
-    insert-differs (s .args .history .now) (s .args .node .0) (s .args .committed) (s .args .seen) _ (c .before .before .before .before .before .before .before .shorter-end .ensures) _ (c .before .before .before .before .before .agree-through .ensures) (not-true _ (c .before .before .before .before .if1 .taken)) _ _ (c .before .before .note-difference .ensures)
+    insert-differs (s .args .history .now) (s .args .node .0) (s .args .committed .0) (s .args .seen .0) _ (c .before .before .before .before .before .before .before .shorter-end .ensures) _ (c .before .before .before .before .before .agree-through .ensures) (not-true _ (c .before .before .before .before .if1 .taken)) _ _ (c .before .before .note-difference .ensures)
 
-owner-number-requires : tie.Need-owner-number-requires
-owner-number-requires c κs =
+owner-requires : tie.Need-owner-requires
+owner-requires c κs =
     let l = formed _ (c .before .before .before .before .before .before .before .pre .0) .long in
     omega arith
 
@@ -62,7 +62,7 @@ same-length-2 c = ap length (c .before .before .keep .ensures) ∙ keep-length _
 returns-2 : tie.Need-returns-2
 returns-2 c =
     let s = c .before .before .before .before .before .before .before .before .before .before .before .before .before .before .before .before in
-    insert-longer (s .args .history .now) (s .args .node .0) (s .args .committed) (s .args .seen) _ (c .before .before .before .before .before .before .before .before .before .before .before .before .before .shorter-end .ensures) _ (c .before .before .before .before .before .before .before .before .before .before .before .agree-through .ensures) (not-false _ (c .before .before .before .before .before .before .before .before .before .before .if1 .left)) _ _ (c .before .before .before .before .before .before .before .before .owner-number .ensures .is) (c .before .before .before .before .before .before .before .flags .ensures) _ (c .before .before .before .before .before .is-longer .ensures) (c .before .before .before .before .if2 .taken) _ (c .before .before .keep .ensures)
+    insert-longer (s .args .history .now) (s .args .node .0) (s .args .committed .0) (s .args .seen .0) _ (c .before .before .before .before .before .before .before .before .before .before .before .before .before .shorter-end .ensures) _ (c .before .before .before .before .before .before .before .before .before .before .before .agree-through .ensures) (not-false _ (c .before .before .before .before .before .before .before .before .before .before .if1 .left)) _ _ (c .before .before .before .before .before .before .before .before .owner .ensures) (c .before .before .before .before .before .before .before .flags .ensures) _ (c .before .before .before .before .before .is-longer .ensures) (c .before .before .before .before .if2 .taken) _ (c .before .before .keep .ensures)
 
 set-unseen-requires : tie.Need-set-unseen-requires
 set-unseen-requires c κs =
@@ -75,7 +75,7 @@ same-length-3 c = ap length (c .before .before .set-unseen .ensures) ∙ unseen-
 returns-3 : tie.Need-returns-3
 returns-3 c =
     let s = c .before .before .before .before .before .before .before .before .before .before .before .before .before .before .before .before in
-    insert-shorter (s .args .history .now) (s .args .node .0) (s .args .committed) (s .args .seen) _ (c .before .before .before .before .before .before .before .before .before .before .before .before .before .shorter-end .ensures) _ (c .before .before .before .before .before .before .before .before .before .before .before .agree-through .ensures) (not-false _ (c .before .before .before .before .before .before .before .before .before .before .if1 .left)) _ _ (c .before .before .before .before .before .before .before .before .owner-number .ensures .is) (c .before .before .before .before .before .before .before .flags .ensures) _ (c .before .before .before .before .before .is-longer .ensures) (c .before .before .before .before .if2 .left) _ (c .before .before .set-unseen .ensures)
+    insert-shorter (s .args .history .now) (s .args .node .0) (s .args .committed .0) (s .args .seen .0) _ (c .before .before .before .before .before .before .before .before .before .before .before .before .before .shorter-end .ensures) _ (c .before .before .before .before .before .before .before .before .before .before .before .agree-through .ensures) (not-false _ (c .before .before .before .before .before .before .before .before .before .before .if1 .left)) _ _ (c .before .before .before .before .before .before .before .before .owner .ensures) (c .before .before .before .before .before .before .before .flags .ensures) _ (c .before .before .before .before .before .is-longer .ensures) (c .before .before .before .before .if2 .left) _ (c .before .before .set-unseen .ensures)
 
 pub insert-committed-prefix-spec : {M : Type 1} → statement M
 insert-committed-prefix-spec =
@@ -86,12 +86,12 @@ insert-committed-prefix-spec =
     note-difference-requires
     same-length
     returns
-    owner-number-requires
+    owner-requires
     flags-requires
     is-longer-requires
     keep-requires
+    set-unseen-requires
     same-length-2
     returns-2
-    set-unseen-requires
     same-length-3
     returns-3)

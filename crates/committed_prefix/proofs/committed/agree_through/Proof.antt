@@ -24,7 +24,7 @@ slice-through-requires : tie.Need-slice-through-requires
 slice-through-requires c κs =
     let s = c .before .before .before in
     let m = c .prefix-count .ensures .is in
-    (table-lent _ _ _ (formed _ (s .pre .0)) (c .before .part .ensures .is) m, subst (λ (k : ℕ). s .args .a ≤ k) (sym m) (s .pre .1))
+    (table-lent _ _ _ (formed _ (s .pre .0)) (c .before .part .ensures .is) m, subst (λ (k : ℕ). s .args .a .0 ≤ k) (sym m) (s .pre .1))
 
 enum-known-p : tie.Need-enum-known-p
 enum-known-p c = search needs
@@ -35,13 +35,13 @@ enum-told c = search needs
 returns : tie.Need-returns
 returns c =
     let s = c .before .before .before .before .before .before .args in
-    agree-short (s .history .now) (s .a) (s .b) (s .through .0) _ (c .before .before .before .before .part .ensures .is) _ (c .before .before .slice-through .ensures) (c .enum-told .given .1)
+    agree-short (s .history .now) (s .a .0) (s .b .0) (s .index .0) _ (c .before .before .before .before .part .ensures .is) _ (c .before .before .slice-through .ensures) (c .enum-told .given .1)
 
 slice-through-requires-2 : tie.Need-slice-through-requires-2
 slice-through-requires-2 c κs =
     let s = c .before .before .before .before .before .before .before in
     let m = c .before .before .before .before .prefix-count .ensures .is in
-    (table-lent _ _ _ (formed _ (s .pre .0)) (c .before .before .before .before .before .part .ensures .is) m, subst (λ (k : ℕ). s .args .b ≤ k) (sym m) (s .pre .2))
+    (table-lent _ _ _ (formed _ (s .pre .0)) (c .before .before .before .before .before .part .ensures .is) m, subst (λ (k : ℕ). s .args .b .0 ≤ k) (sym m) (s .pre .2))
 
 enum-known-q : tie.Need-enum-known-q
 enum-known-q c = search needs
@@ -52,21 +52,21 @@ enum-told-2 c = search needs
 returns-2 : tie.Need-returns-2
 returns-2 c =
     let s = c .before .before .before .before .before .before .before .before .before .before .args in
-    agree-short-2 (s .history .now) (s .a) (s .b) (s .through .0) _ (c .before .before .before .before .before .before .before .before .part .ensures .is) _ (c .before .before .before .before .before .before .slice-through .ensures) _ (c .before .before .before .before .p .given .1) _ (c .before .before .slice-through2 .ensures) (c .enum-told2 .given .1)
+    agree-short-2 (s .history .now) (s .a .0) (s .b .0) (s .index .0) _ (c .before .before .before .before .before .before .before .before .part .ensures .is) _ (c .before .before .before .before .before .before .slice-through .ensures) _ (c .before .before .before .before .p .given .1) _ (c .before .before .slice-through2 .ensures) (c .enum-told2 .given .1)
 
 same-prefix-requires : tie.Need-same-prefix-requires
 same-prefix-requires c κs =
     let s = c .before .before .before .before .before .before .before .before .before .before .before in
     let f = formed _ (s .pre .0) in
     let m = c .before .before .before .before .before .before .before .before .prefix-count .ensures .is in
-    let a = slice-kept (s .args .history .now) (s .args .a) (s .args .b) (s .args .through .0) _ (c .before .before .before .before .before .before .before .before .before .part .ensures .is) _ (c .before .before .before .before .before .before .before .slice-through .ensures) _ f (s .pre .1) (c .before .before .before .before .before .p .given .1) in
-    let b = slice-kept (s .args .history .now) (s .args .b) (s .args .a) (s .args .through .0) _ (c .before .before .before .before .before .before .before .before .before .part .ensures .is) _ (c .before .before .before .slice-through2 .ensures) _ f (s .pre .2) (c .before .q .given .1) in
+    let a = slice-kept (s .args .history .now) (s .args .a .0) (s .args .b .0) (s .args .index .0) _ (c .before .before .before .before .before .before .before .before .before .part .ensures .is) _ (c .before .before .before .before .before .before .before .slice-through .ensures) _ f (s .pre .1) (c .before .before .before .before .before .p .given .1) in
+    let b = slice-kept (s .args .history .now) (s .args .b .0) (s .args .a .0) (s .args .index .0) _ (c .before .before .before .before .before .before .before .before .before .part .ensures .is) _ (c .before .before .before .slice-through2 .ensures) _ f (s .pre .2) (c .before .q .given .1) in
     (table-lent _ _ _ f (c .before .before .before .before .before .before .before .before .before .part .ensures .is) m, omega arith, omega arith)
 
 returns-3 : tie.Need-returns-3
 returns-3 c =
     let s = c .before .before .before .before .before .before .before .before .before .before .before .before .args in
-    agree-same (s .history .now) (s .a) (s .b) (s .through .0) _ (c .before .before .before .before .before .before .before .before .before .before .part .ensures .is) _ (c .before .before .before .before .before .before .before .before .slice-through .ensures) _ (c .before .before .before .before .before .before .p .given .1) _ (c .before .before .before .before .slice-through2 .ensures) _ (c .before .before .q .given .1) _ (c .same-prefix .ensures)
+    agree-same (s .history .now) (s .a .0) (s .b .0) (s .index .0) _ (c .before .before .before .before .before .before .before .before .before .before .part .ensures .is) _ (c .before .before .before .before .before .before .before .before .slice-through .ensures) _ (c .before .before .before .before .before .before .p .given .1) _ (c .before .before .before .before .slice-through2 .ensures) _ (c .before .before .q .given .1) _ (c .same-prefix .ensures)
 
 pub agree-through-spec : {M : Type 1} → statement M
 agree-through-spec =

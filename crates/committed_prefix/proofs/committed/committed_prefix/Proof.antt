@@ -1,6 +1,7 @@
 -- `committed_prefix::committed::committed_prefix` meets its contract.
 -- Assumes nothing.
-use borrow.Author.Tests.{eq-eqb, ne-eqb}
+use mathlib.Core.Path.{sym, _∙_}
+use Rattle.prefix_lookup.proofs.StoredLaws.{stored-none, stored-read}
 use borrow.Author.Needs.{needs}
 use Rattle.committed_prefix.proofs.committed.committed_prefix.Statement.{statement}
 use Rattle.committed_prefix.proofs.committed.committed_prefix.Tie as tie
@@ -9,10 +10,10 @@ committed-number-requires : tie.Need-committed-number-requires
 committed-number-requires c κs = search needs
 
 returns : tie.Need-returns
-returns c = rw (← c .before .committed-number .ensures .is, eq-eqb _ _ (c .if1 .taken))
+returns c = stored-none _ (sym (c .before .committed-number .ensures .is) ∙ c .if1 .taken)
 
 returns-2 : tie.Need-returns-2
-returns-2 c = rw (← c .before .committed-number .ensures .is, ne-eqb _ _ (c .if1 .left))
+returns-2 c = stored-read _ _ (c .before .committed-number .ensures .is) (c .if1 .left)
 
 pub committed-prefix-spec : {M : Type 1} → statement M
 committed-prefix-spec = tie.close (tie.spec committed-number-requires returns returns-2)

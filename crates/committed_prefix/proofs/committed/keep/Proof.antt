@@ -24,7 +24,7 @@ returns : tie.Need-returns
 unfolding keepBytes
 returns c =
     let s = c .before .before .before .before .before .before .before .before .before .args in
-    c .before .before .set-committed .ensures ∙ ap (λ (u : Bytes). committedSet u (s .p) (s .node .0)) (c .before .before .before .before .before .before .set-unseen .ensures)
+    c .before .before .set-committed .ensures ∙ ap (λ (u : Bytes). committedSet u (s .p .0) (s .node .0)) (c .before .before .before .before .before .before .set-unseen .ensures)
 
 same-length : tie.Need-same-length
 same-length c = ap length (returns c) ∙ keep-length _ _ _

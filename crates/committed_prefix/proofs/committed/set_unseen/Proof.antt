@@ -23,8 +23,8 @@ same-length c = search needs
 
 returns : tie.Need-returns
 returns c =
-    let s = c .before .before .before .before .before .before .before .before .before .before .args in
-    unseen-is (s .history .now) (s .node .0) _ (c .before .before .before .before .before .before .part .ensures .is) (nodeValue (c .before .before .before .before .before .node-at .result)) (c .before .before .before .before .before .node-at .ensures) (s .mark .0) _ (c .before .before .set-node .ensures)
+    let s = c .before .before .before .before .before .before .before .before .before .before .before .args in
+    unseen-is (s .history .now) (s .node .0) _ (c .before .before .before .before .before .before .before .part .ensures .is) (nodeValue (c .before .before .before .before .before .before .node-at .result)) (c .before .before .before .before .before .before .node-at .ensures) (s .mark .0) _ (c .before .before .set-node .ensures)
 
 pub set-unseen-spec : {M : Type 1} → statement M
 set-unseen-spec =

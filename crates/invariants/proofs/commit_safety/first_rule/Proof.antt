@@ -3,21 +3,19 @@
 use mathlib.Core.Path.{_≡_}
 use mathlib.Core.Bool.{false}
 use borrow.Author.Needs.{needs}
+use borrow.Author.Tests.{lt-ltb, le-ltb}
 use Rattle.model.specs.Rows.{rule1, rule2, rule3}
 use Rattle.invariants.specs.Rules.{rowOf}
 use Rattle.invariants.proofs.Pass.{first-1, first-2, first-3, first-4, first-none, flag-says}
 use Rattle.invariants.proofs.commit_safety.first_rule.Statement.{statement}
 use Rattle.invariants.proofs.commit_safety.first_rule.Tie as tie
 
-commit-regressed-requires : tie.Need-commit-regressed-requires
-commit-regressed-requires c κs = search needs
-
 returns : tie.Need-returns
-returns c = first-1 (rowOf (c .before .before .args .r)) (flag-says (c .if1 .taken) (search needs))
+returns c = first-1 (rowOf (c .before .before .args .r)) (lt-ltb _ _ (c .if1 .taken))
 
 -- past a test, its rule holds of the row
 kept-1 : (c : tie.Else1) → rule1 (rowOf (c .before .before .args .r)) ≡ false
-kept-1 c = flag-says (c .if1 .left) (search needs)
+kept-1 c = le-ltb _ _ (c .if1 .left)
 
 configuration-regressed-requires : tie.Need-configuration-regressed-requires
 configuration-regressed-requires c κs = search needs
@@ -40,33 +38,28 @@ returns-3 c =
 kept-3 : (c : tie.Else3) → rule3 (rowOf (c .before .before .before .before .before .before .args .r)) ≡ false
 kept-3 c = flag-says (c .if3 .left) (search needs)
 
-commit-beyond-log-requires : tie.Need-commit-beyond-log-requires
-commit-beyond-log-requires c κs = search needs
-
 returns-4 : tie.Need-returns-4
 returns-4 c =
     let d = c .before .before in
     let b = d .before .before in
     let a = b .before .before in
-    first-4 (rowOf (a .before .before .args .r)) (kept-1 a) (kept-2 b) (kept-3 d) (flag-says (c .if4 .taken) (search needs))
+    first-4 (rowOf (a .before .before .args .r)) (kept-1 a) (kept-2 b) (kept-3 d) (lt-ltb _ _ (c .if4 .taken))
 
 returns-5 : tie.Need-returns-5
 returns-5 c =
     let d = c .before .before in
     let b = d .before .before in
     let a = b .before .before in
-    first-none (rowOf (a .before .before .args .r)) (kept-1 a) (kept-2 b) (kept-3 d) (flag-says (c .if4 .left) (search needs))
+    first-none (rowOf (a .before .before .args .r)) (kept-1 a) (kept-2 b) (kept-3 d) (le-ltb _ _ (c .if4 .left))
 
 pub first-rule-spec : {M : Type 1} → statement M
 first-rule-spec =
     tie.close
     (tie.spec
-    commit-regressed-requires
     returns
     configuration-regressed-requires
     returns-2
     configuration-changed-requires
     returns-3
-    commit-beyond-log-requires
     returns-4
     returns-5)

@@ -2,9 +2,10 @@
 -- Assumes nothing.
 use Prim.Native.Nat.{ℕ, _+_, _-_, _≤_}
 use mathlib.Core.Path.{_≡_, refl, sym, _∙_, subst}
-use mathlib.Core.Bool.{true}
+use mathlib.Core.Logic.{⊎-elim}
 use lib.ListN.{length}
 use borrow.Author.Count.{falls}
+use borrow.Author.Tests.{eq-eqb, ne-eqb}
 use borrow.Author.Needs.{needs}
 use native.Mathlib.Nat.{le-refl}
 use native.Mathlib.Numerals.{add-one-le}
@@ -19,24 +20,24 @@ use Rattle.log_comparison.proofs.comparison.same_prefix.Statement.{stat
 use Rattle.log_comparison.proofs.comparison.same_prefix.Tie as tie
 
 abbrev Inv-loop : tie.InvT-loop
-Inv-loop prefixes count a b p q same₀ i j n x y k₀ same k =
-    (same ≡ true) × (k ≤ n) × (x + n ≤ length prefixes) × (y + n ≤ length prefixes)
+Inv-loop prefixes count p q i j n x y k₀ k =
+    (k ≤ n) × (x + n ≤ length prefixes) × (y + n ≤ length prefixes)
     × (sameEntry (prefixRow prefixes i) (prefixRow prefixes j) ≡ sameBytes (bytesAt prefixes (x + k) (n - k)) (bytesAt prefixes (y + k) (n - k)))
 
 abbrev μ-loop : tie.MeasureT-loop
-μ-loop prefixes count a b p q same₀ i j n x y k₀ same k = n - k
+μ-loop prefixes count p q i j n x y k₀ k = n - k
 
 abbrev Inv-entries : tie.InvT-entries
-Inv-entries prefixes count a b p₀ q₀ same₀ p q same =
-    (same ≡ true) × (p ≤ count) × (q ≤ count) × Compared (prefixRow prefixes) (sameFrom (prefixRow prefixes) a a b) p q
+Inv-entries prefixes count p₀ q₀ p q =
+    (p ≤ count) × (q ≤ count) × Compared (prefixRow prefixes) (sameFrom (prefixRow prefixes) p₀ p₀ q₀) p q
 
 abbrev μ-entries : tie.MeasureT-entries
-μ-entries prefixes count a b p₀ q₀ same₀ p q same = p
+μ-entries prefixes count p₀ q₀ p q = p
 
 entries-holds : tie.Need-entries-holds Inv-loop μ-loop Inv-entries μ-entries
 entries-holds c =
     let s = c .before in
-    (refl, s .pre .1, s .pre .2, record { fuel = s .args .a; enough = le-refl (s .args .a); is = refl })
+    (s .pre .1, s .pre .2, record { fuel = s .args .a .0; enough = le-refl (s .args .a .0); is = refl })
 
 sub-i : tie.Need-sub-i Inv-loop μ-loop Inv-entries μ-entries
 sub-i c = search needs
@@ -76,11 +77,10 @@ loop-holds c =
     let s = l .before .before in
     let short : c .before .before .size-at .result ≤ 32 =
     subst (λ (m : ℕ). m ≤ 32) (sym (c .before .before .size-at .ensures .is))
-    (table-size (s .args .prefixes .now) (s .args .count) (l .entries .p - 1) (s .pre .0) (place-before (l .entries .inv .1) (e2 .before .if1 .left))) in (
-      l .entries .inv .0,
+    (table-size (s .args .prefixes .now) (s .args .count) (l .entries .p - 1) (s .pre .0) (place-before (l .entries .inv .0) (e2 .before .if1 .left))) in (
       search needs,
-      content-within (s .args .prefixes .now) (s .pre .0 .long) (s .pre .0 .fits) (place-before (l .entries .inv .1) (e2 .before .if1 .left)) short,
-      content-within (s .args .prefixes .now) (s .pre .0 .long) (s .pre .0 .fits) (place-before (l .entries .inv .2) (e2 .if2 .left)) short,
+      content-within (s .args .prefixes .now) (s .pre .0 .long) (s .pre .0 .fits) (place-before (l .entries .inv .0) (e2 .before .if1 .left)) short,
+      content-within (s .args .prefixes .now) (s .pre .0 .long) (s .pre .0 .fits) (place-before (l .entries .inv .1) (e2 .if2 .left)) short,
       entry-content (s .args .prefixes .now) _ _ _ _ _ _ (e3 .before .before .before .before .term-at .ensures) (e3 .before .before .before .term-at2 .ensures) (e3 .if3 .left)
           (c .before .before .size-at .ensures .is) (c .before .size-at2 .ensures .is) (c .if4 .left) short,
     )
@@ -107,11 +107,10 @@ loop-again : tie.Need-loop-again Inv-loop μ-loop Inv-entries μ-entries
 loop-again c =
     let i = c .before .before .before .before in
     let s = i .before .before .before .before .before .before .before .before .before .before .before .before .before .before .args in (
-      i .loop .inv .0,
       add-one-le (c .before .before .before .loop-test .taken),
+      i .loop .inv .1,
       i .loop .inv .2,
-      i .loop .inv .3,
-      same-next (s .prefixes .now) (s .prefixes .now) _ _ _ (i .loop .k) (i .loop .inv .4) (c .before .before .before .loop-test .taken) (c .if5 .left),
+      same-next (s .prefixes .now) (s .prefixes .now) _ _ _ (i .loop .k) (i .loop .inv .3) (c .before .before .before .loop-test .taken) (c .if5 .left),
     )
 
 parent-at-requires : tie.Need-parent-at-requires Inv-loop μ-loop Inv-entries μ-entries
@@ -125,7 +124,7 @@ entries-less c =
     let e2 = c .before .before .before .before .before .before .before .before .before .before .before .before in
     let l = e2 .before .before .before in
     let s = l .before .before in
-    let pa = table-parent (s .args .prefixes .now) (s .args .count) (l .entries .p - 1) (s .pre .0) (place-before (l .entries .inv .1) (e2 .before .if1 .left)) in
+    let pa = table-parent (s .args .prefixes .now) (s .args .count) (l .entries .p - 1) (s .pre .0) (place-before (l .entries .inv .0) (e2 .before .if1 .left)) in
     parent-below _ (c .before .parent-at .ensures .is) pa (e2 .before .if1 .left)
 
 entries-again : tie.Need-entries-again Inv-loop μ-loop Inv-entries μ-entries
@@ -137,68 +136,35 @@ entries-again c =
     let l = e2 .before .before .before in
     let s = l .before .before in
     let t = s .args .prefixes .now in
-    let pa = table-parent t (s .args .count) (l .entries .p - 1) (s .pre .0) (place-before (l .entries .inv .1) (e2 .before .if1 .left)) in
-    let qa = table-parent t (s .args .count) (l .entries .q - 1) (s .pre .0) (place-before (l .entries .inv .2) (e2 .if2 .left)) in
+    let pa = table-parent t (s .args .count) (l .entries .p - 1) (s .pre .0) (place-before (l .entries .inv .0) (e2 .before .if1 .left)) in
+    let qa = table-parent t (s .args .count) (l .entries .q - 1) (s .pre .0) (place-before (l .entries .inv .1) (e2 .if2 .left)) in
     let ea = c .before .parent-at .ensures .is in
     let eb = c .parent-at2 .ensures .is in (
-      i .loop .inv .0,
-      parent-within _ ea pa (l .entries .inv .1),
-      parent-within _ eb qa (l .entries .inv .2),
-      compare-next (prefixRow t) _ _ (l .entries .inv .3) (e2 .before .before .entries-test .taken) (e2 .before .if1 .left) (e2 .if2 .left)
-          (same-none t t _ _ _ (i .loop .k) (i .loop .inv .4) (c .before .before .loop-test .left)) _ _ ea eb (parent-below _ ea pa (e2 .before .if1 .left)),
+      parent-within _ ea pa (l .entries .inv .0),
+      parent-within _ eb qa (l .entries .inv .1),
+      compare-next (prefixRow t) _ _ (l .entries .inv .2) (e2 .before .before .entries-test .taken) (e2 .before .if1 .left) (e2 .if2 .left)
+          (same-none t t _ _ _ (i .loop .k) (i .loop .inv .3) (c .before .before .loop-test .left)) _ _ ea eb (parent-below _ ea pa (e2 .before .if1 .left)),
     )
 
+-- the two have met, or they were left at the first difference
 returns : tie.Need-returns Inv-loop μ-loop Inv-entries μ-entries
 returns c =
     let l = c .before in
     let s = l .before .before .args in
-    l .entries .inv .0 ∙ sym (compare-equal (prefixRow (s .prefixes .now)) _ _ (l .entries .inv .3) (c .entries-test .left))
-
-returns-2 : tie.Need-returns-2 Inv-loop μ-loop Inv-entries μ-entries
-returns-2 c =
-    let l = c .before .before in
-    let s = l .before .before .args in
-    sym (compare-first-empty (prefixRow (s .prefixes .now)) _ _ (l .entries .inv .3) (c .before .entries-test .taken) (c .if1 .taken))
-
-returns-3 : tie.Need-returns-3 Inv-loop μ-loop Inv-entries μ-entries
-returns-3 c =
-    let l = c .before .before .before in
-    let s = l .before .before .args in
-    sym
-    (compare-second-empty (prefixRow (s .prefixes .now)) _ _ (l .entries .inv .3) (c .before .before .entries-test .taken) (c .before .if1 .left)
-    (c .if2 .taken))
-
-returns-4 : tie.Need-returns-4 Inv-loop μ-loop Inv-entries μ-entries
-returns-4 c =
-    let e2 = c .before .before .before .before .before in
-    let l = e2 .before .before .before in
-    let s = l .before .before .args in
-    sym
-    (compare-differs (prefixRow (s .prefixes .now)) _ _ (l .entries .inv .3) (e2 .before .before .entries-test .taken) (e2 .before .if1 .left) (e2 .if2 .left)
-    (entry-term (s .prefixes .now) _ _ _ _ 0 0 (c .before .before .before .before .term-at .ensures) (c .before .before .before .term-at2 .ensures) (c .if3 .taken)))
-
-returns-5 : tie.Need-returns-5 Inv-loop μ-loop Inv-entries μ-entries
-returns-5 c =
-    let e3 = c .before .before .before in
-    let e2 = e3 .before .before .before .before .before in
-    let l = e2 .before .before .before in
-    let s = l .before .before .args in
-    sym
-    (compare-differs (prefixRow (s .prefixes .now)) _ _ (l .entries .inv .3) (e2 .before .before .entries-test .taken) (e2 .before .if1 .left) (e2 .if2 .left)
-    (entry-size (s .prefixes .now) _ _ _ _ _ _ (e3 .before .before .before .before .term-at .ensures) (e3 .before .before .before .term-at2 .ensures) (e3 .if3 .left)
-    (c .before .before .size-at .ensures .is) (c .before .size-at2 .ensures .is) (c .if4 .taken)))
-
-returns-6 : tie.Need-returns-6 Inv-loop μ-loop Inv-entries μ-entries
-returns-6 c =
-    let i = c .before .before .before .before in
-    let e4 = i .before in
-    let e3 = e4 .before .before .before in
-    let e2 = e3 .before .before .before .before .before in
-    let l = e2 .before .before .before in
-    let s = l .before .before .args in
-    sym
-    (compare-differs (prefixRow (s .prefixes .now)) _ _ (l .entries .inv .3) (e2 .before .before .entries-test .taken) (e2 .before .if1 .left) (e2 .if2 .left)
-    (same-stop (s .prefixes .now) (s .prefixes .now) _ _ _ (i .loop .k) (i .loop .inv .4) (c .before .before .before .loop-test .taken) (c .if5 .taken)))
+    let t = s .prefixes .now in
+    let p = l .entries .p in
+    let q = l .entries .q in
+    let v = l .entries .inv .2 in
+    ⊎-elim (λ w. eq-eqb p q (w .left) ∙ sym (compare-equal (prefixRow t) p q v (w .left)))
+    (⊎-elim (λ w. ne-eqb p q (w .0 .taken) ∙ sym (compare-first-empty (prefixRow t) p q v (w .0 .taken) (w .1 .taken)))
+    (⊎-elim (λ w. ne-eqb p q (w .0 .taken) ∙ sym (compare-second-empty (prefixRow t) p q v (w .0 .taken) (w .1 .left) (w .2 .taken)))
+    (⊎-elim (λ w. ne-eqb p q (w .0 .taken) ∙ sym (compare-differs (prefixRow t) p q v (w .0 .taken) (w .1 .left) (w .2 .left)
+    (entry-term t _ _ _ _ 0 0 (w .3 .ensures) (w .4 .ensures) (w .7 .taken))))
+    (⊎-elim (λ w. ne-eqb p q (w .0 .taken) ∙ sym (compare-differs (prefixRow t) p q v (w .0 .taken) (w .1 .left) (w .2 .left)
+    (entry-size t _ _ _ _ _ _ (w .3 .ensures) (w .4 .ensures) (w .7 .left) (w .8 .ensures .is) (w .9 .ensures .is) (w .10 .taken))))
+    (λ w. ne-eqb p q (w .0 .taken) ∙ sym (compare-differs (prefixRow t) p q v (w .0 .taken) (w .1 .left) (w .2 .left)
+    (same-stop t t _ _ _ (w .11 .k) (w .11 .inv .3) (w .12 .taken) (w .15 .taken))))))))
+    (c .entries-test .came)
 
 pub same-prefix-spec : {M : Type 1} → statement M
 same-prefix-spec =
@@ -231,9 +197,4 @@ same-prefix-spec =
     parent-at-requires-2
     entries-less
     entries-again
-    returns
-    returns-2
-    returns-3
-    returns-4
-    returns-5
-    returns-6)
+    returns)

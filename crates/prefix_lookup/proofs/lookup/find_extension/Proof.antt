@@ -10,14 +10,15 @@ use Rattle.storage.specs.Rules.{sameRow}
 use Rattle.prefix_lookup.specs.Table.{entryValue}
 use Rattle.prefix_lookup.specs.Prefix.{rowOf, searchFrom, find}
 use Rattle.prefix_lookup.proofs.Loops.{search-next, search-stop, search-none}
+use Rattle.prefix_lookup.proofs.StoredLaws.{stored-some, stored-none}
 use Rattle.prefix_lookup.proofs.lookup.find_extension.Statement.{statement}
 use Rattle.prefix_lookup.proofs.lookup.find_extension.Tie as tie
 
 abbrev Inv-loop : tie.InvT-loop
 Inv-loop prefixes count p e k₀ k =
     (k ≤ count)
-    × (find (prefixRow prefixes) count (rowOf p 0 (entryValue e))
-    ≡ searchFrom (λ j. sameRow (prefixRow prefixes j) (rowOf p 0 (entryValue e))) k (count - k))
+    × (find (prefixRow prefixes) count (rowOf (p .0) 0 (entryValue e))
+    ≡ searchFrom (λ j. sameRow (prefixRow prefixes j) (rowOf (p .0) 0 (entryValue e))) k (count - k))
 
 abbrev μ-loop : tie.MeasureT-loop
 μ-loop prefixes count p e k₀ k = count - k
@@ -29,15 +30,15 @@ loop-holds c = (omega arith, refl)
 matches-extension-requires : tie.Need-matches-extension-requires Inv-loop μ-loop
 matches-extension-requires c κs = search needs
 
-add-result : tie.Need-add-result Inv-loop μ-loop
-add-result c = search needs
+add-t8 : tie.Need-add-t8 Inv-loop μ-loop
+add-t8 c = search needs
 
 returns : tie.Need-returns Inv-loop μ-loop
 returns c =
     let l = c .before .before .before in
     let s = l .before .before .args in
-    sym
-    (search-stop (λ j. sameRow (prefixRow (s .prefixes .now) j) (rowOf (s .p) 0 (entryValue (s .e)))) (l .loop .k) (s .count) (l .loop .inv .1)
+    stored-some _ _
+    (search-stop (λ j. sameRow (prefixRow (s .prefixes .now) j) (rowOf (s .p .0) 0 (entryValue (s .e)))) (l .loop .k) (s .count) (l .loop .inv .1)
     (c .before .before .loop-test .taken) (sym (c .before .matches-extension .ensures) ∙ c .if1 .taken))
 
 add-k : tie.Need-add-k Inv-loop μ-loop
@@ -51,7 +52,7 @@ loop-again c =
     let l = c .before .before .before in
     let s = l .before .before .args in (
       omega arith,
-      search-next (λ j. sameRow (prefixRow (s .prefixes .now) j) (rowOf (s .p) 0 (entryValue (s .e)))) (l .loop .k) (s .count) (l .loop .inv .1)
+      search-next (λ j. sameRow (prefixRow (s .prefixes .now) j) (rowOf (s .p .0) 0 (entryValue (s .e)))) (l .loop .k) (s .count) (l .loop .inv .1)
           (c .before .before .loop-test .taken) (sym (c .before .matches-extension .ensures) ∙ c .if1 .left),
     )
 
@@ -59,8 +60,8 @@ returns-2 : tie.Need-returns-2 Inv-loop μ-loop
 returns-2 c =
     let l = c .before in
     let s = l .before .before .args in
-    sym
-    (search-none (λ j. sameRow (prefixRow (s .prefixes .now) j) (rowOf (s .p) 0 (entryValue (s .e)))) (l .loop .k) (s .count) (l .loop .inv .1)
+    stored-none _
+    (search-none (λ j. sameRow (prefixRow (s .prefixes .now) j) (rowOf (s .p .0) 0 (entryValue (s .e)))) (l .loop .k) (s .count) (l .loop .inv .1)
     (c .loop-test .left))
 
 pub find-extension-spec : {M : Type 1} → statement M
@@ -71,7 +72,7 @@ find-extension-spec =
     μ-loop
     loop-holds
     matches-extension-requires
-    add-result
+    add-t8
     returns
     add-k
     loop-less

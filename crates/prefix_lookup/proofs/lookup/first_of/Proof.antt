@@ -7,6 +7,7 @@ use borrow.Author.Needs.{needs}
 use Rattle.storage.specs.Tables.{prefixRow}
 use Rattle.prefix_lookup.specs.Prefix.{searchFrom, isOf, first}
 use Rattle.prefix_lookup.proofs.Loops.{search-next, search-stop, search-none}
+use Rattle.prefix_lookup.proofs.StoredLaws.{stored-some, stored-none}
 use Rattle.prefix_lookup.proofs.lookup.first_of.Statement.{statement}
 use Rattle.prefix_lookup.proofs.lookup.first_of.Tie as tie
 
@@ -27,14 +28,14 @@ loop-holds c = refl
 is-of-requires : tie.Need-is-of-requires Inv-loop μ-loop
 is-of-requires c κs = search needs
 
-add-result : tie.Need-add-result Inv-loop μ-loop
-add-result c = search needs
+add-t8 : tie.Need-add-t8 Inv-loop μ-loop
+add-t8 c = search needs
 
 returns : tie.Need-returns Inv-loop μ-loop
 returns c =
     let l = c .before .before .before in
     let s = l .before .before .before .args in
-    sym (search-stop (λ j. isOf (s .index .0) (s .term .0) (prefixRow (s .prefixes .now) j)) (l .loop .k) (s .count) (l .loop .inv) (c .before .before .loop-test .taken) (sym (c .before .is-of .ensures) ∙ c .if1 .taken))
+    stored-some _ _ (search-stop (λ j. isOf (s .index .0) (s .term .0) (prefixRow (s .prefixes .now) j)) (l .loop .k) (s .count) (l .loop .inv) (c .before .before .loop-test .taken) (sym (c .before .is-of .ensures) ∙ c .if1 .taken))
 
 add-k : tie.Need-add-k Inv-loop μ-loop
 add-k c = search needs
@@ -52,7 +53,7 @@ returns-2 : tie.Need-returns-2 Inv-loop μ-loop
 returns-2 c =
     let l = c .before in
     let s = l .before .before .before .args in
-    sym (search-none (λ j. isOf (s .index .0) (s .term .0) (prefixRow (s .prefixes .now) j)) (l .loop .k) (s .count) (l .loop .inv) (c .loop-test .left))
+    stored-none _ (search-none (λ j. isOf (s .index .0) (s .term .0) (prefixRow (s .prefixes .now) j)) (l .loop .k) (s .count) (l .loop .inv) (c .loop-test .left))
 
 pub first-of-spec : {M : Type 1} → statement M
 first-of-spec =
@@ -63,7 +64,7 @@ first-of-spec =
     sub-k
     loop-holds
     is-of-requires
-    add-result
+    add-t8
     returns
     add-k
     loop-less

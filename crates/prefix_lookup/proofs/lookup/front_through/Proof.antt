@@ -29,20 +29,20 @@ prefix-count-requires c κs =
 
 part-requires-2 : tie.Need-part-requires-2
 part-requires-2 c κs =
-    let l = formed _ (c .before .before .before .before .before .pre .0) .long in
+    let l = formed _ (c .before .before .before .before .before .before .pre .0) .long in
     omega arith
 
 slice-through-requires : tie.Need-slice-through-requires
 slice-through-requires c κs =
     let s = c .before .before .before .before .before .before in
-    let f = formed _ (s .pre .0) in
-    let m = c .before .prefix-count .ensures .is in
-    (table-lent _ _ _ f (c .part2 .ensures .is) m, subst (λ (k : ℕ). c .before .before .node-at .result .front ≤ k) (sym m) (front-within (s .args .history .now) (s .args .node .0) _ (c .before .before .before .before .part .ensures .is) (nodeValue (c .before .before .node-at .result)) (c .before .before .node-at .ensures) f (s .pre .1)))
+    let f = formed _ (s .before .pre .0) in
+    let m = c .before .before .prefix-count .ensures .is in
+    (table-lent _ _ _ f (c .part2 .ensures .is) m, subst (λ (k : ℕ). c .before .before .before .node-at .result .front .0 ≤ k) (sym m) (front-within (s .before .args .history .now) (s .before .args .node .0) _ (c .before .before .before .before .before .part .ensures .is) (nodeValue (c .before .before .before .node-at .result)) (c .before .before .before .node-at .ensures) f (s .before .pre .1)))
 
 returns : tie.Need-returns
 returns c =
-    let s = c .before .before .before .before .before .before .before .args in
-    through-is (s .history .now) (s .node .0) _ (c .before .before .before .before .before .part .ensures .is) (nodeValue (c .before .before .before .node-at .result)) (c .before .before .before .node-at .ensures) _ (c .before .part2 .ensures .is) (s .index .0) _ (c .slice-through .ensures)
+    let s = c .before .before .before .before .before .before .before .before .args in
+    through-is (s .history .now) (s .node .0) _ (c .before .before .before .before .before .before .part .ensures .is) (nodeValue (c .before .before .before .before .node-at .result)) (c .before .before .before .before .node-at .ensures) _ (c .before .part2 .ensures .is) (s .index .0) _ (c .slice-through .ensures)
 
 pub front-through-spec : {M : Type 1} → statement M
 front-through-spec =

@@ -9,7 +9,7 @@ index-at-requires : tie.Need-index-at-requires
 index-at-requires c κs = search needs
 
 returns : tie.Need-returns
-returns c = rw (← c .before .before .index-at .ensures .is, ne-eqb _ _ (c .if1 .taken))
+returns c = rw (← c .before .before .before .index-at .ensures .is, ne-eqb _ _ (c .if1 .taken))
 
 term-at-requires : tie.Need-term-at-requires
 term-at-requires c κs = search needs
@@ -17,7 +17,7 @@ term-at-requires c κs = search needs
 returns-2 : tie.Need-returns-2
 returns-2 c =
     let b = c .before .before .before in
-    rw (← b .before .before .index-at .ensures .is, eq-eqb _ _ (b .if1 .left), ← c .before .before .term-at .ensures)
+    rw (← b .before .before .before .index-at .ensures .is, eq-eqb _ _ (b .if1 .left), ← c .before .before .term-at .ensures)
 
 pub is-of-spec : {M : Type 1} → statement M
 is-of-spec = tie.close (tie.spec index-at-requires returns term-at-requires returns-2)

@@ -13,73 +13,73 @@ use Rattle.prefix_lookup.proofs.lookup.slice_through.Statement.{stateme
 use Rattle.prefix_lookup.proofs.lookup.slice_through.Tie as tie
 
 abbrev Inv-loop : tie.InvT-loop
-Inv-loop prefixes count p i q₀ q = (q ≤ count) × Sliced (prefixRow prefixes) i (sliceFrom (prefixRow prefixes) i p p) q
+Inv-loop prefixes count index q₀ q = (q .0 ≤ count) × Sliced (prefixRow prefixes) (index .0) (sliceFrom (prefixRow prefixes) (index .0) (q₀ .0) (q₀ .0)) (q .0)
 
 abbrev μ-loop : tie.MeasureT-loop
-μ-loop prefixes count p i q₀ q = q
+μ-loop prefixes count index q₀ q = q .0
 
-index-of-requires : tie.Need-index-of-requires Inv-loop μ-loop
-index-of-requires c κs = search needs
+through-requires : tie.Need-through-requires Inv-loop μ-loop
+through-requires c κs = search needs
 
 returns : tie.Need-returns Inv-loop μ-loop
 returns c =
-    let s = c .before .before .before .args in
-    slice-beyond (s .prefixes .now) (s .p) (s .through .0) _ (index-is _ _ _ (c .before .index-of .ensures .is)) (c .if1 .taken)
+    let s = c .before .before .before .before .before .args in
+    slice-beyond (s .prefixes .now) (s .p .0) (s .index .0) _ (index-is _ _ _ (c .before .before .before .through .ensures .is)) (c .if1 .taken)
 
 loop-holds : tie.Need-loop-holds Inv-loop μ-loop
 loop-holds c =
     let s = c .before .before .before in
-    (s .pre .1, record { fuel = s .args .p; enough = le-refl (s .args .p); is = refl })
+    (s .before .before .pre .1, record { fuel = s .before .before .args .p .0; enough = le-refl (s .before .before .args .p .0); is = refl })
 
-index-of-requires-2 : tie.Need-index-of-requires-2 Inv-loop μ-loop
-index-of-requires-2 c κs = search needs
+through-requires-2 : tie.Need-through-requires-2 Inv-loop μ-loop
+through-requires-2 c κs = search needs
 
 sub-parent-at : tie.Need-sub-parent-at Inv-loop μ-loop
 sub-parent-at c =
-    let l = c .before .before in
-    let s = l .before .before .before .before in
-    let z = passes-some (s .args .prefixes .now) (l .loop .q) _ _ (c .before .index-of2 .ensures .is) (c .if2 .taken) in
+    let l = c .before .before .before .before .before in
+    let s = l .before .before .before .before .before .before in
+    let z = passes-some (s .args .prefixes .now) (l .loop .q .0) _ _ (c .before .before .before .before .through2 .ensures .is) (c .before .if2 .taken) in
     omega arith
 
 parent-at-requires : tie.Need-parent-at-requires Inv-loop μ-loop
 parent-at-requires c κs =
-    let l = c .before .before in
-    let s = l .before .before .before .before in
-    let z = passes-some (s .args .prefixes .now) (l .loop .q) _ _ (c .before .index-of2 .ensures .is) (c .if2 .taken) in
+    let l = c .before .before .before .before .before in
+    let s = l .before .before .before .before .before .before in
+    let z = passes-some (s .args .prefixes .now) (l .loop .q .0) _ _ (c .before .before .before .before .through2 .ensures .is) (c .before .if2 .taken) in
     let b = place-before (l .loop .inv .0) z in
     let f = s .pre .0 .fits in
     (omega arith, s .pre .0 .long)
 
 loop-less : tie.Need-loop-less Inv-loop μ-loop
 loop-less c =
-    let l = c .before .before .before in
-    let s = l .before .before .before .before in
+    let l = c .before .before .before .before .before .before in
+    let s = l .before .before .before .before .before .before in
     let t = s .args .prefixes .now in
-    let x = index-is _ _ _ (c .before .before .index-of2 .ensures .is) in
-    let z = passes-some t (l .loop .q) _ _ (c .before .before .index-of2 .ensures .is) (c .before .if2 .taken) in
-    let pa = table-parent t (s .args .count) (l .loop .q - 1) (s .pre .0) (place-before (l .loop .inv .0) z) in
+    let x = index-is _ _ _ (c .before .before .before .before .before .through2 .ensures .is) in
+    let z = passes-some t (l .loop .q .0) _ _ (c .before .before .before .before .before .through2 .ensures .is) (c .before .before .if2 .taken) in
+    let pa = table-parent t (s .args .count) (l .loop .q .0 - 1) (s .pre .0) (place-before (l .loop .inv .0) z) in
     let below = parent-below _ (c .parent-at .ensures .is) pa z in
     below
 
 loop-again : tie.Need-loop-again Inv-loop μ-loop
 loop-again c =
-    let l = c .before .before .before in
-    let s = l .before .before .before .before in
+    let l = c .before .before .before .before .before .before in
+    let s = l .before .before .before .before .before .before in
     let t = s .args .prefixes .now in
-    let x = index-is _ _ _ (c .before .before .index-of2 .ensures .is) in
-    let z = passes-some t (l .loop .q) _ _ (c .before .before .index-of2 .ensures .is) (c .before .if2 .taken) in
-    let pa = table-parent t (s .args .count) (l .loop .q - 1) (s .pre .0) (place-before (l .loop .inv .0) z) in
+    let x = index-is _ _ _ (c .before .before .before .before .before .through2 .ensures .is) in
+    let z = passes-some t (l .loop .q .0) _ _ (c .before .before .before .before .before .through2 .ensures .is) (c .before .before .if2 .taken) in
+    let pa = table-parent t (s .args .count) (l .loop .q .0 - 1) (s .pre .0) (place-before (l .loop .inv .0) z) in
     let below = parent-below _ (c .parent-at .ensures .is) pa z in (
       parent-within _ (c .parent-at .ensures .is) pa (l .loop .inv .0),
-      slice-next (prefixRow t) _ _ _ (l .loop .inv .1) x (c .before .if2 .taken) _ (c .parent-at .ensures .is) below,
+      slice-next (prefixRow t) _ _ _ (l .loop .inv .1) x (c .before .before .if2 .taken) _ (c .parent-at .ensures .is) below,
     )
 
 returns-2 : tie.Need-returns-2 Inv-loop μ-loop
 returns-2 c =
-    let l = c .before .before in
-    let s = l .before .before .before .before .args in
-    slice-found (s .prefixes .now) (s .p) (s .through .0) _ (index-is _ _ _ (l .before .before .index-of .ensures .is)) (l .before .if1 .left) _
-    (slice-done (prefixRow (s .prefixes .now)) _ _ _ (l .loop .inv .1) (index-is _ _ _ (c .before .index-of2 .ensures .is)) (c .if2 .left))
+    let l = c .before .before .before .before in
+    let s = l .before .before .before .before .before .before .args in
+    slice-found (s .prefixes .now) (s .p .0) (s .index .0) _ (index-is _ _ _ (l .before .before .before .before .through .ensures .is)) (l .before .if1 .left) _
+    (slice-done (prefixRow (s .prefixes .now)) _ _ _ (l .loop .inv .1) (index-is _ _ _ (c .before .before .before .through2 .ensures .is)) (c .if2 .left))
 
 pub slice-through-spec : {M : Type 1} → statement M
 slice-through-spec =
@@ -87,10 +87,10 @@ slice-through-spec =
     (tie.spec
     Inv-loop
     μ-loop
-    index-of-requires
+    through-requires
     returns
     loop-holds
-    index-of-requires-2
+    through-requires-2
     sub-parent-at
     parent-at-requires
     loop-less

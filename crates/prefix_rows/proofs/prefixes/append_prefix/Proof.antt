@@ -32,7 +32,7 @@ returns c =
     let s = m .before .before .before .before .args in
     b .set-prefix-count .ensures
     ∙ then-count (s .history .now) (wordAt (s .history .now) 0 2) (m .prefix-count .result) 3145 41
-    (prefixBytes (s .parent) (s .index .0) (s .term .0) (s .size) (s .content .now)) (m .prefix-count .ensures .is) (r .set-prefix .ensures) 0 2
+    (prefixBytes (s .parent .0) (s .index .0) (s .term .0) (s .size) (s .content .now)) (m .prefix-count .ensures .is) (r .set-prefix .ensures) 0 2
 
 pub append-prefix-spec : {M : Type 1} → statement M
 append-prefix-spec =

@@ -13,8 +13,8 @@ part-requires c κs = let l = formed _ (c .before .pre) .long in omega arith
 committed-number-requires : tie.Need-committed-number-requires
 committed-number-requires c κs = let l = formed _ (c .before .before .pre) .long in omega arith
 
-index-of-requires : tie.Need-index-of-requires
-index-of-requires c κs =
+through-requires : tie.Need-through-requires
+through-requires c κs =
     let o = formed _ (c .before .before .before .pre) in
     let n = c .committed-number .ensures .is in
     let a = o .committed in
@@ -24,9 +24,9 @@ index-of-requires c κs =
 returns : tie.Need-returns
 unfolding committedEnd
 returns c =
-    c .index-of .ensures .is
+    c .through .ensures .is
     ∙ (λ i. numberIndex (c .before .before .part .ensures .is i) (c .before .committed-number .ensures .is i))
 
 pub committed-end-spec : {M : Type 1} → statement M
 committed-end-spec =
-    tie.close (tie.spec part-requires committed-number-requires index-of-requires returns)
+    tie.close (tie.spec part-requires committed-number-requires through-requires returns)

@@ -34,7 +34,7 @@ returns c =
     let b2 = b .before .before .before .before in
     let b1 = b2 .before .before .before .before in
     let s = b1 .before .before .before .args in
-    let A = wordBytes 2 (s .parent) in
+    let A = wordBytes 2 (s .parent .0) in
     let B = wordBytes 2 (s .index .0) in
     b .put32 .ensures
     ∙ field-next (s .t .now) (s .o) (A ++ B) (wordBytes 4 (s .term .0)) (s .o + 4)

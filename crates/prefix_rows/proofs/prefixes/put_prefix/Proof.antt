@@ -38,7 +38,7 @@ returns c =
     let b2 = b .before .before .before .before in
     let b1 = b2 .before .before .before .before in
     let s = b1 .before .before .before .before .args in
-    let A = wordBytes 2 (s .parent) ++ wordBytes 2 (s .index .0) ++ wordBytes 4 (s .term .0) in
+    let A = wordBytes 2 (s .parent .0) ++ wordBytes 2 (s .index .0) ++ wordBytes 4 (s .term .0) in
     let B = wordBytes 1 (s .size) in
     b .put-bytes .ensures
     ∙ field-next (s .prefixes .now) (s .k * 41) (A ++ B) (s .content .now) (s .k * 41 + 9)

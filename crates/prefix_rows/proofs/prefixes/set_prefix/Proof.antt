@@ -32,8 +32,8 @@ returns c =
     let s = c .before .before .before .before .before .before in
     let a = s .args in
     let p = c .before .before .put-prefix in
-    let l = prefix-length (a .parent) (a .index .0) (a .term .0) (a .size) (a .content .now) (s .pre .2) in
-    part-written (a .history .now) (p .last .0) 3145 20992 (a .k * 41) (prefixBytes (a .parent) (a .index .0) (a .term .0) (a .size) (a .content .now)) (p .ensures) (omega arith) (omega arith)
+    let l = prefix-length (a .parent .0) (a .index .0) (a .term .0) (a .size) (a .content .now) (s .pre .2) in
+    part-written (a .history .now) (p .last .0) 3145 20992 (a .k * 41) (prefixBytes (a .parent .0) (a .index .0) (a .term .0) (a .size) (a .content .now)) (p .ensures) (omega arith) (omega arith)
 
 pub set-prefix-spec : {M : Type 1} → statement M
 set-prefix-spec =

@@ -14,14 +14,14 @@ parent-at-requires c κs = search needs
 
 returns : tie.Need-returns
 returns c =
-    let s = c .before .before .before .args in
-    sym (right-parent (s .prefixes .now) (s .k) (c .before .parent-at .result) (c .before .parent-at .ensures .is) (c .if1 .taken))
+    let s = c .before .before .before .before .args in
+    sym (right-parent (s .prefixes .now) (s .k) (c .before .before .parent-at .result .0) (c .before .before .parent-at .ensures .is) (c .if1 .taken))
 
 index-at-requires : tie.Need-index-at-requires
 index-at-requires c κs = search needs
 
-index-of-requires : tie.Need-index-of-requires
-index-of-requires c κs = search needs
+through-requires : tie.Need-through-requires
+through-requires c κs = search needs
 
 add-if2 : tie.Need-add-if2
 add-if2 c = search needs
@@ -29,19 +29,19 @@ add-if2 c = search needs
 returns-2 : tie.Need-returns-2
 returns-2 c =
     let b = c .before .before .before in
-    let s = b .before .before .before .args in
+    let s = b .before .before .before .before .before .before .args in
     sym
-    (right-rest (s .prefixes .now) (s .k) _ _ _ (b .before .parent-at .ensures .is) (b .if1 .left) (c .before .before .index-at .ensures .is) (c .before .index-of .ensures .is)
+    (right-rest (s .prefixes .now) (s .k) _ _ _ (b .before .before .before .before .parent-at .ensures .is) (b .before .before .if1 .left) (c .before .before .before .before .index-at .ensures .is) (c .before .before .before .through .ensures .is)
     ∙ stop _ (ne-eqb _ _ (c .if2 .taken)))
 
 returns-3 : tie.Need-returns-3
 returns-3 c =
     let b2 = c .before in
     let b = b2 .before .before .before in
-    let s = b .before .before .before .args in
+    let s = b .before .before .before .before .before .before .before .args in
     sym
-    (right-rest (s .prefixes .now) (s .k) _ _ _ (b .before .parent-at .ensures .is) (b .if1 .left) (b2 .before .before .index-at .ensures .is) (b2 .before .index-of .ensures .is)
-    ∙ pass _ (eq-eqb _ _ (b2 .if2 .left))
+    (right-rest (s .prefixes .now) (s .k) _ _ _ (b .before .before .before .before .before .parent-at .ensures .is) (b .before .before .before .if1 .left) (b2 .before .before .before .before .before .index-at .ensures .is) (b2 .before .before .before .before .through .ensures .is)
+    ∙ pass _ (eq-eqb _ _ (b2 .before .if2 .left))
     ∙ stop _ (lt-leb _ _ (c .if3 .taken)))
 
 size-at-requires : tie.Need-size-at-requires
@@ -52,10 +52,10 @@ returns-4 c =
     let b3 = c .before .before in
     let b2 = b3 .before in
     let b = b2 .before .before .before in
-    let s = b .before .before .before .args in
+    let s = b .before .before .before .before .before .before .before .args in
     sym
-    (right-rest (s .prefixes .now) (s .k) _ _ _ (b .before .parent-at .ensures .is) (b .if1 .left) (b2 .before .before .index-at .ensures .is) (b2 .before .index-of .ensures .is)
-    ∙ pass _ (eq-eqb _ _ (b2 .if2 .left))
+    (right-rest (s .prefixes .now) (s .k) _ _ _ (b .before .before .before .before .before .parent-at .ensures .is) (b .before .before .before .if1 .left) (b2 .before .before .before .before .before .index-at .ensures .is) (b2 .before .before .before .before .through .ensures .is)
+    ∙ pass _ (eq-eqb _ _ (b2 .before .if2 .left))
     ∙ pass _ (le-leb _ _ (b3 .if3 .left))
     ∙ stop _ (lt-leb _ _ (rw (c .before .size-at .ensures .is) at (c .if4 .taken))))
 
@@ -68,11 +68,11 @@ returns-5 c =
     let b3 = b4 .before .before in
     let b2 = b3 .before in
     let b = b2 .before .before .before in
-    let s = b .before .before .before .args in
+    let s = b .before .before .before .before .before .before .before .args in
     ap not (c .is-among .ensures)
     ∙ sym
-    (right-rest (s .prefixes .now) (s .k) _ _ _ (b .before .parent-at .ensures .is) (b .if1 .left) (b2 .before .before .index-at .ensures .is) (b2 .before .index-of .ensures .is)
-    ∙ pass _ (eq-eqb _ _ (b2 .if2 .left))
+    (right-rest (s .prefixes .now) (s .k) _ _ _ (b .before .before .before .before .before .parent-at .ensures .is) (b .before .before .before .if1 .left) (b2 .before .before .before .before .before .index-at .ensures .is) (b2 .before .before .before .before .through .ensures .is)
+    ∙ pass _ (eq-eqb _ _ (b2 .before .if2 .left))
     ∙ pass _ (le-leb _ _ (b3 .if3 .left))
     ∙ pass _ (le-leb _ _ (rw (b4 .before .size-at .ensures .is) at (b4 .if4 .left))))
 
@@ -83,7 +83,7 @@ prefix-right-spec =
     parent-at-requires
     returns
     index-at-requires
-    index-of-requires
+    through-requires
     add-if2
     returns-2
     returns-3

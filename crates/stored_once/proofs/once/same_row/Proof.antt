@@ -17,7 +17,7 @@ parent-at-requires-2 c κs = search needs
 
 returns : tie.Need-returns
 unfolding sameRow
-returns c = rw (← c .before .before .parent-at .ensures .is, ← c .before .parent-at2 .ensures .is, ne-eqb _ _ (c .if1 .taken))
+returns c = rw (← c .before .before .before .before .parent-at .ensures .is, ← c .before .before .before .parent-at2 .ensures .is, ne-eqb _ _ (c .if1 .taken))
 
 term-at-requires : tie.Need-term-at-requires
 term-at-requires c κs = search needs
@@ -30,8 +30,8 @@ unfolding sameRow
 returns-2 c =
     let b = c .before .before .before .before .before in
     rw (
-      ← b .before .before .parent-at .ensures .is,
-      ← b .before .parent-at2 .ensures .is,
+      ← b .before .before .before .before .parent-at .ensures .is,
+      ← b .before .before .before .parent-at2 .ensures .is,
       eq-eqb _ _ (b .if1 .left),
       ← c .before .before .before .before .term-at .ensures,
       ← c .before .before .before .term-at2 .ensures,
@@ -50,8 +50,8 @@ returns-3 c =
     let b2 = c .before .before .before in
     let b1 = b2 .before .before .before .before .before in
     rw (
-      ← b1 .before .before .parent-at .ensures .is,
-      ← b1 .before .parent-at2 .ensures .is,
+      ← b1 .before .before .before .before .parent-at .ensures .is,
+      ← b1 .before .before .before .parent-at2 .ensures .is,
       eq-eqb _ _ (b1 .if1 .left),
       ← b2 .before .before .before .before .term-at .ensures,
       ← b2 .before .before .before .term-at2 .ensures,
@@ -85,9 +85,9 @@ returns-4 c =
     let n = b3 .before .before .size-at in
     c .same-bytes .ensures
     ∙ sym
-    (same-row-rest (s .args .prefixes .now) (s .args .j) (s .args .k) _ _ _ _ _ (n .result)
-    (b1 .before .before .parent-at .ensures .is)
-    (b1 .before .parent-at2 .ensures .is)
+    (same-row-rest (s .before .before .args .prefixes .now) (s .before .before .args .j) (s .before .before .args .k) _ _ _ _ _ (n .result)
+    (b1 .before .before .before .before .parent-at .ensures .is)
+    (b1 .before .before .before .parent-at2 .ensures .is)
     (b1 .if1 .left)
     (b2 .before .before .before .before .term-at .ensures)
     (b2 .before .before .before .term-at2 .ensures)
@@ -95,7 +95,7 @@ returns-4 c =
     (b3 .before .size-at2 .ensures .is)
     (n .ensures .is)
     (b3 .if3 .left)
-    (omega (arith, n .ensures .is, s .pre .3)))
+    (omega (arith, n .ensures .is, s .before .before .pre .3)))
 
 pub same-row-spec : {M : Type 1} → statement M
 same-row-spec =

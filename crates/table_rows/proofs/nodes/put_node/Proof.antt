@@ -38,7 +38,7 @@ returns c =
     let b2 = b .before .before .before .before in
     let b1 = b2 .before .before .before .before in
     let s = b1 .before .before .before .args in
-    let A = wordBytes 2 (s .x .front) in
+    let A = wordBytes 2 (s .x .front .0) in
     let B = wordBytes 2 (s .x .last .0) in
     b .put163 .ensures
     ∙ field-next (s .nodes .now) (s .k * 6) (A ++ B) (wordBytes 2 (s .x .unseen .0)) _

@@ -32,7 +32,7 @@ returns c =
     let s = n .before .before .before .before .before .args in
     let read = ap (λ (x : NodeRow). x .unseen) (n .node-at .ensures) ∙ ap (λ (t : Bytes). nodeRow t (s .node .0) .unseen) (n .before .part .ensures .is) in
     c .before .before .set-node .ensures
-    ∙ ap (λ (u : ℕ). putBytes (s .history .now) (9 + s .node .0 * 6) (nodeBytes (record { front = s .front; last = s .last .0; unseen = u }))) read
+    ∙ ap (λ (u : ℕ). putBytes (s .history .now) (9 + s .node .0 * 6) (nodeBytes (record { front = s .front .0; last = s .last .0; unseen = u }))) read
 
 same-length : tie.Need-same-length
 same-length c = ap length (c .before .before .set-node .ensures) ∙ put-length _ _ _

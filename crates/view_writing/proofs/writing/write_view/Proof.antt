@@ -12,36 +12,33 @@ use Rattle.view_writing.proofs.writing.write_view.Tie as tie
 store-requires : tie.Need-store-requires
 store-requires c κs = search needs
 
-sub-last-index : tie.Need-sub-last-index
-sub-last-index c = c .before .before .before .before .before .before .before .before .pre .0 .stands .positive
-
-last-index-requires : tie.Need-last-index-requires
-last-index-requires c κs = c .before .before .before .before .before .before .before .before .pre .0 .stands .walk
+last-of-requires : tie.Need-last-of-requires
+last-of-requires c κs = let g = c .before .before .before .before .before .before .before .pre .0 .stands in (g .walk, g .positive)
 
 replace-view-requires : tie.Need-replace-view-requires
 replace-view-requires c κs =
-    let o = c .before .before .before .before .before in
+    let o = c .before .before .before .before in
     (o .before .before .before .before .before .pre .1, o .store .ensures .long)
 
 keep-findings-requires : tie.Need-keep-findings-requires
 keep-findings-requires c κs =
     let r = c .before .before .before in
-    let o = r .before .before .before .before .before .before in
+    let o = r .before .before .before .before .before in
     (ap length (r .replace-view .ensures) ∙ replaced-length _ _ _ _ ∙ o .store .ensures .long, o .before .before .before .before .before .pre .2)
 
 returns : tie.Need-returns
 returns c =
     let r = c .before .before .before .before .before .before in
     let f = r .before .before in
-    let o = f .before .before .before .before in
+    let o = f .before .before .before in
     let s = o .before .before .before .before .before in
     view-written (s .args .history .now) (s .args .count) (s .args .view .now) (s .args .rest) (s .args .node .0) _ _ _ (s .args .held) _ _ _
-    (o .store .ensures) (f .last-index .ensures) (r .replace-view .ensures) (c .before .before .keep-findings .ensures)
+    (o .store .ensures) (f .last-of .ensures) (r .replace-view .ensures) (c .before .before .keep-findings .ensures)
 
 same-length : tie.Need-same-length
 same-length c =
     let r = c .before .before .before .before .before .before in
-    let o = r .before .before .before .before .before .before in
+    let o = r .before .before .before .before .before in
     ap length (c .before .before .keep-findings .ensures) ∙ kept-length _ _ _ ∙ ap length (r .replace-view .ensures) ∙ replaced-length _ _ _ _
     ∙ o .store .ensures .long ∙ sym (formed _ (o .before .before .before .before .before .pre .0 .right) .long)
 
@@ -50,8 +47,7 @@ write-view-spec =
     tie.close
     (tie.spec
     store-requires
-    sub-last-index
-    last-index-requires
+    last-of-requires
     replace-view-requires
     keep-findings-requires
     same-length

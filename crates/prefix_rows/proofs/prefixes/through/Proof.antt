@@ -1,11 +1,11 @@
--- `prefix_rows::prefixes::index_of` meets its contract.
+-- `prefix_rows::prefixes::through` meets its contract.
 -- Assumes nothing.
 use Rattle.storage.specs.Values.{numberIndex}
 use borrow.Author.Tests.{eq-eqb, ne-eqb}
 use native.Mathlib.Omega.{arith}
 use borrow.Author.Needs.{needs}
-use Rattle.prefix_rows.proofs.prefixes.index_of.Statement.{statement}
-use Rattle.prefix_rows.proofs.prefixes.index_of.Tie as tie
+use Rattle.prefix_rows.proofs.prefixes.through.Statement.{statement}
+use Rattle.prefix_rows.proofs.prefixes.through.Tie as tie
 
 returns : tie.Need-returns
 unfolding numberIndex
@@ -19,7 +19,7 @@ index-at-requires c κs = search needs
 
 returns-2 : tie.Need-returns-2
 unfolding numberIndex
-returns-2 c = record { is = rw (ne-eqb _ _ (c .before .if1 .left)) (c .index-at .ensures .is); below = c .index-at .ensures .below }
+returns-2 c = record { is = rw (ne-eqb _ _ (c .before .before .if1 .left)) (c .index-at .ensures .is); below = c .index-at .ensures .below }
 
-pub index-of-spec : {M : Type 1} → statement M
-index-of-spec = tie.close (tie.spec returns sub-index-at index-at-requires returns-2)
+pub through-spec : {M : Type 1} → statement M
+through-spec = tie.close (tie.spec returns sub-index-at index-at-requires returns-2)

@@ -1,0 +1,140 @@
+-- `view_judging::judging::judge_stored` meets its contract.
+-- Assumes nothing.
+use Prim.Native.Nat.{ℕ, _≤_}
+use mathlib.Core.Path.{sym, subst, _∙_}
+use native.Mathlib.Omega.{arith}
+use borrow.Author.Needs.{needs}
+use Rattle.record_walk.proofs.Walks.{here}
+use Rattle.prefix_lookup.proofs.StoredLaws.{stored-number, stored-nothing}
+use Rattle.view_judging.specs.Judging.{placeAt, Rest}
+use Rattle.view_judging.proofs.Turns.{find-within, front-none, front-gap, entry-short, Judging, judging-starts, judging-ends, judging-lost, judging-next}
+use Rattle.view_judging.proofs.Rest.{rest-starts, rest-next}
+use Rattle.view_judging.proofs.judging.judge_stored.Statement.{statement}
+use Rattle.view_judging.proofs.judging.judge_stored.Tie as tie
+
+abbrev Inv-loop : tie.InvT-loop
+Inv-loop prefixes count view entries node findings₀ held at₀ left₀ i₀ p₀ n₀ findings at left i p n =
+    Judging prefixes count view entries (node .0) findings₀ held findings at left i (p .0) n × Rest prefixes count view entries (placeAt at left i (p .0))
+
+abbrev μ-loop : tie.MeasureT-loop
+μ-loop prefixes count view entries node findings₀ held at₀ left₀ i₀ p₀ n₀ findings at left i p n = left
+
+loop-holds : tie.Need-loop-holds Inv-loop μ-loop
+loop-holds c =
+    let s = c .before .before .before in (
+      judging-starts (s .args .prefixes .now) (s .args .count) (s .args .view .now) (s .args .entries) (s .args .node .0) (s .args .findings .now) (s .args .held) (s .pre .2) (s .pre .3),
+      rest-starts (s .args .prefixes .now) (s .args .count) (s .pre .0) (s .args .view .now) (s .args .entries) (s .pre .1),
+    )
+
+entry-at-requires : tie.Need-entry-at-requires Inv-loop μ-loop
+entry-at-requires c κs = here _ _ _ (c .before .loop .inv .1 .stands .walk) (c .loop-test .taken)
+
+find-extension-requires : tie.Need-find-extension-requires Inv-loop μ-loop
+find-extension-requires c κs =
+    let l = c .before .before .before .before in
+    let s = l .before .before .before .before in (
+      s .pre .0 .fits,
+      l .loop .inv .1 .stands .number,
+      s .pre .0 .long,
+      entry-short (s .args .view .now) (l .loop .at) (l .loop .left) (l .loop .i) (l .loop .inv .1 .stands .walk) (c .before .before .before .loop-test .taken) _ (c .before .before .entry-at .ensures),
+    )
+
+enum-known-next : tie.Need-enum-known-next Inv-loop μ-loop
+enum-known-next c = search needs
+
+enum-told : tie.Need-enum-told Inv-loop μ-loop
+enum-told c = search needs
+
+is-other-requires : tie.Need-is-other-requires Inv-loop μ-loop
+is-other-requires c κs =
+    let l = c .before .before .before .before .before .before .before .before in
+    let s = l .before .before .before .before in
+    let x = stored-number _ _ (c .before .before .before .find-extension .ensures) _ (c .before .next .given .1) in (
+      s .pre .0,
+      subst (λ (y : ℕ). 1 ≤ y) (sym (c .before .before .before .before .if1 .left)) (l .loop .inv .1 .stands .positive),
+      subst (λ (y : ℕ). y ≤ s .args .count) (sym (x .0)) (find-within _ _ _),
+    )
+
+note-other-requires : tie.Need-note-other-requires Inv-loop μ-loop
+note-other-requires c κs =
+    let l = c .before .before .before .before .before .before .before .before .before .before in
+    (l .loop .inv .0 .noting .few, l .loop .inv .0 .noting .long)
+
+add-i : tie.Need-add-i Inv-loop μ-loop
+add-i c = let x = c .before .before .before .before .before .before .before .before .before .before .before .before .before .loop .inv .1 .stands .small in omega arith
+
+sub-left : tie.Need-sub-left Inv-loop μ-loop
+sub-left c = search needs
+
+loop-less : tie.Need-loop-less Inv-loop μ-loop
+loop-less c = search needs
+
+loop-again : tie.Need-loop-again Inv-loop μ-loop
+loop-again c =
+    let l = c .before .before .before .before .before .before .before .before .before .before .before .before .before in
+    let s = l .before .before .before .before in
+    let e = c .before .before .before .before .before .before .before .before .before .before .before .entry-at .result in
+    let q = c .before .before .before .before .before .before .before .before .before .before .before .entry-at .ensures in
+    let h = c .before .before .before .before .before .before .before .before .before .before .before .before .loop-test .taken in
+    let g = c .before .before .before .before .before .before .before .before .before .if1 .left in
+    let w = c .before .before .before .before .before .before .next in
+    let x = stored-number _ _ (c .before .before .before .before .before .before .before .before .find-extension .ensures) _ (w .given .1) in (
+      judging-next (s .args .prefixes .now) (s .args .count) (s .args .view .now) (s .args .entries) (s .args .node .0) (s .args .findings .now) (s .args .held) (l .loop .findings) (l .loop .at) (l .loop .left) (l .loop .i) (l .loop .p .0) (l .loop .n) (l .loop .inv .0) (l .loop .inv .1)
+          h e q g _ (x .0) (x .1) _ (c .before .before .before .before .is-other .ensures) _ _ (c .before .before .note-other .ensures),
+      rest-next (s .args .prefixes .now) (s .args .count) (s .pre .0) (s .args .view .now) (s .args .entries) (l .loop .at) (l .loop .left) (l .loop .i) (l .loop .p .0) (l .loop .inv .1)
+          h e q g _ (x .0) (λ z. x .1 (sym (x .0) ∙ z)) (subst (λ (y : ℕ). y ≤ s .args .count) (sym (x .0)) (find-within _ _ _)),
+    )
+
+same-length : tie.Need-same-length Inv-loop μ-loop
+same-length c = let l = c .before in l .loop .inv .0 .noting .long ∙ sym (l .before .before .before .before .pre .3)
+
+returns : tie.Need-returns Inv-loop μ-loop
+returns c =
+    let l = c .before in
+    let s = l .before .before .before .before in
+    judging-ends (s .args .prefixes .now) (s .args .count) (s .args .view .now) (s .args .entries) (s .args .node .0) (s .args .findings .now) (s .args .held) (l .loop .findings) (l .loop .at) (l .loop .left) (l .loop .i) (l .loop .p .0) (l .loop .n) (l .loop .inv .0) (l .loop .inv .1)
+    (front-none (s .args .view .now) (l .loop .at) (l .loop .left) (l .loop .i) (c .loop-test .left))
+
+same-length-2 : tie.Need-same-length-2 Inv-loop μ-loop
+same-length-2 c = let l = c .before .before .before .before in l .loop .inv .0 .noting .long ∙ sym (l .before .before .before .before .pre .3)
+
+returns-2 : tie.Need-returns-2 Inv-loop μ-loop
+returns-2 c =
+    let l = c .before .before .before .before in
+    let s = l .before .before .before .before in
+    judging-ends (s .args .prefixes .now) (s .args .count) (s .args .view .now) (s .args .entries) (s .args .node .0) (s .args .findings .now) (s .args .held) (l .loop .findings) (l .loop .at) (l .loop .left) (l .loop .i) (l .loop .p .0) (l .loop .n) (l .loop .inv .0) (l .loop .inv .1)
+    (front-gap (s .args .view .now) (l .loop .at) (l .loop .left) (l .loop .i) (l .loop .inv .1 .stands .walk) (c .before .before .before .loop-test .taken) _ (c .before .before .entry-at .ensures) (c .if1 .taken))
+
+same-length-3 : tie.Need-same-length-3 Inv-loop μ-loop
+same-length-3 c = let l = c .before .before .before .before .before .before .before in l .loop .inv .0 .noting .long ∙ sym (l .before .before .before .before .pre .3)
+
+returns-3 : tie.Need-returns-3 Inv-loop μ-loop
+returns-3 c =
+    let l = c .before .before .before .before .before .before .before in
+    let s = l .before .before .before .before in
+    judging-lost (s .args .prefixes .now) (s .args .count) (s .args .view .now) (s .args .entries) (s .args .node .0) (s .args .findings .now) (s .args .held) (l .loop .findings) (l .loop .at) (l .loop .left) (l .loop .i) (l .loop .p .0) (l .loop .n) (l .loop .inv .0) (l .loop .inv .1)
+    (c .before .before .before .before .before .before .loop-test .taken) _ (c .before .before .before .before .before .entry-at .ensures) (c .before .before .before .if1 .left) (stored-nothing _ _ (c .before .before .find-extension .ensures) (c .enum-told .given .1))
+
+pub judge-stored-spec : {M : Type 1} → statement M
+judge-stored-spec =
+    tie.close
+    (tie.spec
+    Inv-loop
+    μ-loop
+    loop-holds
+    entry-at-requires
+    find-extension-requires
+    enum-known-next
+    enum-told
+    is-other-requires
+    note-other-requires
+    add-i
+    sub-left
+    loop-less
+    loop-again
+    same-length
+    returns
+    same-length-2
+    returns-2
+    same-length-3
+    returns-3)
