@@ -5,26 +5,9 @@ ghost use Prim.Native.Nat.{_≤_, _<_};
 ghost use lib.ListN.{length};
 ghost use Rattle.storage.specs.Tables.{certificateRow};
 ghost use Rattle.certificate_order.specs.Order.{placeFrom, heldBefore, takenBefore};
-use storage_bytes::layout::CERTIFICATE_WIDTH;
-use storage_bytes::words::get8;
-use storage_bytes::words::get32;
+use certificate_rows::certificates::number_at;
+use certificate_rows::certificates::term_at;
 use units::Term;
-
-// The term of row k.
-fn term_at(certificates: &[u8], k: usize) -> Term
-    requires { ⌜ (k < 64) × (length (now certificates) ≡ 704) ⌝ }
-    ensures { λ r. ⌜ r .0 ≡ certificateRow (now (certificates .entry)) k .term ⌝ }
-{
-    Term(get32(certificates, k * CERTIFICATE_WIDTH))
-}
-
-// The number of row k within its term.
-fn number_at(certificates: &[u8], k: usize) -> usize
-    requires { ⌜ (k < 64) × (length (now certificates) ≡ 704) ⌝ }
-    ensures { λ r. ⌜ r ≡ certificateRow (now (certificates .entry)) k .number ⌝ }
-{
-    get8(certificates, k * CERTIFICATE_WIDTH + 9)
-}
 
 // How many of the n stand before those of a later term: from the end back, the first that is of no later one is the last of them.
 pub fn place_of(certificates: &[u8], n: usize, term: Term) -> usize

@@ -9,6 +9,7 @@ ghost use Rattle.storage_bytes.specs.Words.{wordAt, wordBytes, putBytes};
 ghost use Rattle.storage.specs.Writes.{certificateBytes, certificateInserted, certificateAdded};
 use storage::head::certificate_count;
 use storage::head::set_certificate_count;
+use storage_bytes::layout::CERTIFICATE_MARK;
 use storage_bytes::layout::CERTIFICATE_WIDTH;
 use storage_bytes::layout::CERTIFICATES_LENGTH;
 use storage_bytes::layout::CERTIFICATES_START;
@@ -43,11 +44,35 @@ pub fn certificate_at(certificates: &[u8], k: usize) -> Certificate
     Certificate {
         term: Term(get32(certificates, o)),
         log: LogPrefixWitness(get16(certificates, o + 4)),
-        mark: LogIndex(get16(certificates, o + 6)),
+        mark: LogIndex(get16(certificates, o + CERTIFICATE_MARK)),
         leader: NodeId(get8(certificates, o + 8) as u8),
         number: get8(certificates, o + 9),
         present: get8(certificates, o + 10),
     }
+}
+
+// The term of row k alone.
+pub fn term_at(certificates: &[u8], k: usize) -> Term
+    requires { ⌜ (k < 64) × (length (now certificates) ≡ 704) ⌝ }
+    ensures { λ r. ⌜ r .0 ≡ certificateRow (now (certificates .entry)) k .term ⌝ }
+{
+    Term(get32(certificates, k * CERTIFICATE_WIDTH))
+}
+
+// Its mark alone.
+pub fn mark_at(certificates: &[u8], k: usize) -> LogIndex
+    requires { ⌜ (k < 64) × (length (now certificates) ≡ 704) ⌝ }
+    ensures { λ r. ⌜ r .0 ≡ certificateRow (now (certificates .entry)) k .mark ⌝ }
+{
+    LogIndex(get16(certificates, k * CERTIFICATE_WIDTH + CERTIFICATE_MARK))
+}
+
+// Its number within its term alone.
+pub fn number_at(certificates: &[u8], k: usize) -> usize
+    requires { ⌜ (k < 64) × (length (now certificates) ≡ 704) ⌝ }
+    ensures { λ r. ⌜ r ≡ certificateRow (now (certificates .entry)) k .number ⌝ }
+{
+    get8(certificates, k * CERTIFICATE_WIDTH + 9)
 }
 
 fn put_log(t: &mut [u8], o: usize, c: Certificate)
@@ -56,7 +81,7 @@ fn put_log(t: &mut [u8], o: usize, c: Certificate)
 {
     put32(&mut t[..], o, c.term.0);
     put16(&mut t[..], o + 4, c.log.0);
-    put16(&mut t[..], o + 6, c.mark.0);
+    put16(&mut t[..], o + CERTIFICATE_MARK, c.mark.0);
 }
 
 fn put_leader(t: &mut [u8], o: usize, c: Certificate)

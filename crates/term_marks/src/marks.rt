@@ -4,13 +4,13 @@ ghost use mathlib.Core.Path.{_≡_};
 ghost use Prim.Native.Nat.{_≤_, _<_};
 ghost use lib.ListN.{length};
 ghost use Rattle.term_marks.specs.Marks.{certificateOf, markSet, lowerBytes, lowerBack};
+use certificate_rows::certificates::mark_at;
+use certificate_rows::certificates::term_at;
 use storage_bytes::layout::CERTIFICATE_MARK;
 use storage_bytes::layout::CERTIFICATE_WIDTH;
 use storage_bytes::layout::CERTIFICATES_LENGTH;
 use storage_bytes::layout::CERTIFICATES_START;
 use storage_bytes::layout::part;
-use storage_bytes::words::get16;
-use storage_bytes::words::get32;
 use storage_bytes::words::put16;
 use units::LogIndex;
 use units::Term;
@@ -20,8 +20,7 @@ fn election_term(history: &[u8], k: usize) -> Term
     requires { ⌜ (k < 64) × (length (now history) ≡ 24137) ⌝ }
     ensures { λ r. ⌜ r .0 ≡ certificateOf (now (history .entry)) k .term ⌝ }
 {
-    let certificates = part(history, CERTIFICATES_START, CERTIFICATES_LENGTH);
-    Term(get32(certificates, k * CERTIFICATE_WIDTH))
+    term_at(part(history, CERTIFICATES_START, CERTIFICATES_LENGTH), k)
 }
 
 // The mark of certificate k.
@@ -29,8 +28,7 @@ pub fn checked_mark(history: &[u8], k: usize) -> LogIndex
     requires { ⌜ (k < 64) × (length (now history) ≡ 24137) ⌝ }
     ensures { λ r. ⌜ r .0 ≡ certificateOf (now (history .entry)) k .mark ⌝ }
 {
-    let certificates = part(history, CERTIFICATES_START, CERTIFICATES_LENGTH);
-    LogIndex(get16(certificates, k * CERTIFICATE_WIDTH + CERTIFICATE_MARK))
+    mark_at(part(history, CERTIFICATES_START, CERTIFICATES_LENGTH), k)
 }
 
 // The mark of certificate k, written.

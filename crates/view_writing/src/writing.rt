@@ -49,7 +49,8 @@ fn replace_view(history: &mut [u8], node: NodeId, front: LogPrefixWitness, last:
     ensures { λ r. ⌜ now (history .exit) ≡ viewReplaced (now (history .entry)) (node .0) (front .0) (last .0) ⌝ }
 {
     let k = node.0 as usize;
-    let unseen = node_at(part(&history[..], NODES_START, NODES_LENGTH), k).unseen;
+    let old = node_at(part(&history[..], NODES_START, NODES_LENGTH), k);
+    let unseen = old.unseen;
     set_node(
         &mut history[..],
         k,
