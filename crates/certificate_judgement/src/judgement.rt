@@ -21,6 +21,7 @@ use storage_bytes::layout::CERTIFICATES_LENGTH;
 use storage_bytes::layout::CERTIFICATES_START;
 use storage_bytes::layout::part;
 use table_rows::findings::Found;
+use table_rows::findings::LG_05;
 use units::LogIndex;
 
 // How far the judging has come: the sum of the flags, 4 where an index was relevant, and how many findings are held.
@@ -62,7 +63,7 @@ fn note_lacking(
     let node = c.leader;
     let term = c.term;
     let lg05 = Found {
-        name: 5,
+        name: LG_05,
         node,
         index,
         term,

@@ -23,6 +23,7 @@ use storage_bytes::layout::PREFIXES_LENGTH;
 use storage_bytes::layout::PREFIXES_START;
 use storage_bytes::layout::part;
 use table_rows::findings::Found;
+use table_rows::findings::LG_04;
 use table_rows::nodes::Node;
 use table_rows::nodes::node_at;
 use table_rows::nodes::set_node;
@@ -136,7 +137,7 @@ pub fn note_difference(history: &mut [u8], node: NodeId, end: LogIndex) -> Commi
     ensures { λ r. ⌜ Noted (now (history .entry)) (node .0) (end .0) r (now (history .exit)) ⌝ }
 {
     let lg04 = Found {
-        name: 4,
+        name: LG_04,
         node,
         index: end,
         term: Term::ZERO,

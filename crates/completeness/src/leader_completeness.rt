@@ -8,6 +8,7 @@ use check_marks::marks::move_marks;
 use log_violation::violation::copy_findings;
 use log_violation::violation::keep_findings;
 use prefix_rows::prefixes::committed_end;
+use storage_bytes::layout::FINDINGS_LENGTH;
 use units::FINDING_LIMIT;
 
 pub enum Checked {
@@ -23,7 +24,7 @@ pub fn record_leader_completeness(history: &mut [u8]) -> Checked
     ensures { λ r. ⌜ CheckedAs (now (history .entry)) r (now (history .exit)) ⌝ }
 {
     let end = committed_end(&history[..]);
-    let mut findings = [0u8; 1024];
+    let mut findings = [0u8; FINDINGS_LENGTH];
     let held = copy_findings(&history[..], &mut findings);
     let judged = judge_all(&history[..], end, &mut findings, held);
     if FINDING_LIMIT < judged.held {

@@ -13,6 +13,7 @@ use storage_bytes::layout::FINDINGS_LENGTH;
 use storage_bytes::layout::FINDINGS_START;
 use storage_bytes::layout::part;
 use table_rows::findings::Found;
+use table_rows::findings::LG_05;
 use table_rows::findings::finding_at as row_at;
 use units::NodeId;
 use units::Term;
@@ -58,7 +59,7 @@ fn lesser(f: Found, best: LeaderAnswer) -> LeaderAnswer
 fn better(f: Found, t: Term, l: usize, best: LeaderAnswer) -> LeaderAnswer
     ensures { λ r. ⌜ r ≡ betterOf (pair (t .0) l) (findingValue f) best ⌝ }
 {
-    if f.name != 5 {
+    if f.name != LG_05 {
         return best;
     }
     if is_below(f.term, f.node, t, l) {

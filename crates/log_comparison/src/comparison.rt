@@ -8,6 +8,7 @@ ghost use Rattle.log_comparison.specs.Comparison.{sameFrom};
 use prefix_rows::prefixes::parent_at;
 use prefix_rows::prefixes::size_at;
 use prefix_rows::prefixes::term_at;
+use storage_bytes::layout::PREFIX_CONTENT;
 use storage_bytes::layout::PREFIX_WIDTH;
 use units::LogPrefixWitness;
 
@@ -35,8 +36,8 @@ pub fn same_prefix(prefixes: &[u8], count: usize, a: LogPrefixWitness, b: LogPre
         if n != size_at(prefixes, j) {
             break 'entries;
         }
-        let x = i * PREFIX_WIDTH + 9;
-        let y = j * PREFIX_WIDTH + 9;
+        let x = i * PREFIX_WIDTH + PREFIX_CONTENT;
+        let y = j * PREFIX_WIDTH + PREFIX_CONTENT;
         let mut k = 0;
         while k < n {
             if prefixes[x + k] != prefixes[y + k] {

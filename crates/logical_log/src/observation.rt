@@ -4,6 +4,7 @@ ghost use Prim.Native.Nat.{_≤_, _<_};
 ghost use Rattle.view_judging.specs.Judging.{Observing};
 ghost use Rattle.logical_log.specs.Observation.{observed, observedBytes};
 use storage::head::prefix_count;
+use storage_bytes::layout::FINDINGS_LENGTH;
 use units::FINDING_LIMIT;
 use units::NodeId;
 use view_judging::judging::judge_view;
@@ -31,7 +32,7 @@ pub fn observe_prefixes(
     requires { ⌜ Observing (now history) (now view) entries (node .0) × (limit ≤ 512) ⌝ }
     ensures { λ r. ⌜ (r ≡ observed limit (now (history .entry)) (now (view .entry)) entries (node .0)) × (now (history .exit) ≡ observedBytes limit (now (history .entry)) (now (view .entry)) entries (node .0)) ⌝ }
 {
-    let mut findings = [0u8; 1024];
+    let mut findings = [0u8; FINDINGS_LENGTH];
     let judged = judge_view(&history[..], view, entries, node, &mut findings);
     let count = prefix_count(&history[..]);
     let total = count + judged.missing;

@@ -16,6 +16,7 @@ use record_walk::walk::ShownEntry;
 use storage::head::prefix_count;
 use storage_bytes::layout::NODES_LENGTH;
 use storage_bytes::layout::NODES_START;
+use storage_bytes::layout::PREFIX_CONTENT;
 use storage_bytes::layout::PREFIX_WIDTH;
 use storage_bytes::layout::PREFIXES_LENGTH;
 use storage_bytes::layout::PREFIXES_START;
@@ -55,7 +56,7 @@ fn matches_extension(prefixes: &[u8], k: usize, p: LogPrefixWitness, e: ShownEnt
         return false;
     }
     let content = e.content;
-    same_bytes(prefixes, k * PREFIX_WIDTH + 9, &content, 0, n)
+    same_bytes(prefixes, k * PREFIX_WIDTH + PREFIX_CONTENT, &content, 0, n)
 }
 
 // The stored prefix that extends the given one by the entry. It comes after that one.

@@ -12,6 +12,7 @@ ghost use Rattle.storage.specs.Values.{Index, committedEnd};
 use storage::head::committed_number;
 use storage::head::prefix_count;
 use storage::head::set_prefix_count;
+use storage_bytes::layout::PREFIX_CONTENT;
 use storage_bytes::layout::PREFIX_WIDTH;
 use storage_bytes::layout::PREFIXES_LENGTH;
 use storage_bytes::layout::PREFIXES_START;
@@ -103,7 +104,7 @@ pub fn put_prefix(
     let o = k * PREFIX_WIDTH;
     put_key(&mut prefixes[..], o, parent, index, term);
     put8(&mut prefixes[..], o + 8, size);
-    put_bytes(&mut prefixes[..], o + 9, content);
+    put_bytes(&mut prefixes[..], o + PREFIX_CONTENT, content);
 }
 
 // The same in the whole history, of which only the table is lent.

@@ -7,6 +7,8 @@ ghost use Rattle.storage.specs.Tables.{findingRows};
 ghost use Rattle.storage.specs.Rules.{findingRight};
 ghost use Rattle.table_rows.specs.Values.{findingValue};
 use table_rows::findings::Found;
+use table_rows::findings::LG_03;
+use table_rows::findings::LG_05;
 use table_rows::findings::finding_at;
 use units::INDEX_LIMIT;
 use units::NODE_LIMIT;
@@ -15,10 +17,10 @@ use units::NODE_LIMIT;
 fn finding_right(f: Found) -> bool
     ensures { λ r. ⌜ r ≡ findingRight (findingValue f) ⌝ }
 {
-    if f.name < 3 {
+    if f.name < LG_03 {
         return false;
     }
-    if 5 < f.name {
+    if LG_05 < f.name {
         return false;
     }
     if NODE_LIMIT < f.node.0 {

@@ -42,6 +42,9 @@ pub const FINDING_WIDTH: usize = 8;
 
 pub const PREFIX_WIDTH: usize = 41;
 
+// Where the content of a prefix's last entry lies in its row.
+pub const PREFIX_CONTENT: usize = 9;
+
 // The n bytes from a on.
 pub fn part(h: &[u8], a: usize, n: usize) -> &[u8]
     requires { ⌜ a + n ≤ length (now h) ⌝ }

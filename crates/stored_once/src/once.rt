@@ -9,6 +9,7 @@ ghost use Rattle.storage.specs.Rules.{sameRow, isAmong};
 use prefix_rows::prefixes::parent_at;
 use prefix_rows::prefixes::size_at;
 use prefix_rows::prefixes::term_at;
+use storage_bytes::layout::PREFIX_CONTENT;
 use storage_bytes::layout::PREFIX_WIDTH;
 use storage_bytes::words::same_bytes;
 
@@ -29,9 +30,9 @@ fn same_row(prefixes: &[u8], j: usize, k: usize) -> bool
     }
     same_bytes(
         prefixes,
-        j * PREFIX_WIDTH + 9,
+        j * PREFIX_WIDTH + PREFIX_CONTENT,
         prefixes,
-        k * PREFIX_WIDTH + 9,
+        k * PREFIX_WIDTH + PREFIX_CONTENT,
         n,
     )
 }

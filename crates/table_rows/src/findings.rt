@@ -18,8 +18,16 @@ use units::LogIndex;
 use units::NodeId;
 use units::Term;
 
+// Two logs differ under one index and term.
+pub const LG_03: usize = 3;
+
+// Two committed prefixes differ.
+pub const LG_04: usize = 4;
+
+// A leader was elected without a committed entry.
+pub const LG_05: usize = 5;
+
 pub struct Found {
-    // 3, 4 or 5: LG-03, LG-04 or LG-05.
     pub name: usize,
     pub node: NodeId,
     pub index: LogIndex,

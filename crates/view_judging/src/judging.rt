@@ -21,6 +21,7 @@ use storage_bytes::layout::PREFIXES_LENGTH;
 use storage_bytes::layout::PREFIXES_START;
 use storage_bytes::layout::part;
 use table_rows::findings::Found;
+use table_rows::findings::LG_03;
 use units::LogIndex;
 use units::LogPrefixWitness;
 use units::NodeId;
@@ -93,7 +94,7 @@ fn note_other(
         return n;
     }
     let lg03 = Found {
-        name: 3,
+        name: LG_03,
         node,
         index,
         term,
