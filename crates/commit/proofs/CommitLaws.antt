@@ -24,14 +24,15 @@ use Rattle.storage.proofs.DecodeLaws.{FindingNamed}
 use Rattle.storage.proofs.Meanings.{Stands, withNoted, findings-right, noted-right}
 use Rattle.prefix_lookup.specs.declared.lookup.Slice.{Slice}
 use Rattle.log_violation.specs.Violation.{findingsKept}
-use Rattle.prefix_lookup.specs.Prefix.{witness, storedOf, sliceOf, frontThrough}
-use Rattle.committed_prefix.specs.Prefix.{rowsOf, nodeOf, longerIn, endIn, agreeIn, unseenSet, keepBytes, difference, heldWith, tableWith, noteAnswer, noteLeaves}
+use Rattle.prefix_lookup.specs.Prefix.{witness, storedOf, frontThrough}
+use Rattle.committed_prefix.specs.Prefix.{longerIn, endIn, agreeIn, unseenSet, keepBytes, difference, heldWith, tableWith, noteAnswer, noteLeaves}
 use Rattle.commit.specs.Prefix.{flagsOf, commitAnswer, commitBytes, Inserted, Observed}
 use Rattle.prefix_lookup.proofs.StoredLaws.{stored-none, stored-read}
+use Rattle.prefix_lookup.proofs.Fronts.{Part, front-cut}
 use Rattle.committed_prefix.specs.declared.committed.CommitAnswer.{CommitAnswer}
 use Rattle.storage.proofs.WellFormed.{formed}
 use Rattle.commit.proofs.PrefixTurns.{insert-differs, insert-longer, insert-shorter, observe-unseen, observe-zero, observe-first, observe-later}
-use Rattle.committed_prefix.proofs.PrefixLaws.{changed, at, committed-is, owner-is, front-is, findings-held, empty-is, Part, slice-is, longer-means, end-means, agree-means, end-limit, unseen-written, noted-written, difference-holds, table-length, keep-written}
+use Rattle.committed_prefix.proofs.PrefixLaws.{changed, at, committed-is, owner-is, findings-held, empty-is, longer-means, end-means, agree-means, end-limit, unseen-written, noted-written, difference-holds, table-length, keep-written}
 
 -- ---- of the model alone
 
@@ -255,19 +256,11 @@ module _ (h : Bytes) (x : History) (n i : ℕ) (s : Stands h x) (here : n < 64) 
   from : (r : CommitAnswer) (h′ : Bytes) → Observed h n i r h′ → Outcome x n i h r h′ → Told
   from r h′ o w = subst₂ (Outcome x n i h) (o .answers) (o .leaves) w
 
-  seen-told : (v : Slice) → sliceOf (rowsOf h) (nodeOf h n .front) i ≡ v → frontThrough h n i ≡ v
-  unfolding frontThrough
-  seen-told v e = e
-
-  front-length : length (frontOf x n) ≡ length (at h x s (nodeOf h n .front))
-  front-length = ap length (front-is h x s n here)
-
   -- the front is shorter
-  not-reached : sliceOf (rowsOf h) (nodeOf h n .front) i ≡ Slice.Beyond → length (at h x s (nodeOf h n .front)) < i → Told
+  not-reached : frontThrough h n i ≡ Slice.Beyond → length (frontOf x n) < i → Told
   not-reached e l =
-      let f = front-length in
-      let short = lt-leb i (length (frontOf x n)) (omega arith) in
-      from (CommitAnswer.Accepted 0) (unseenSet h n i) (observe-unseen h n i (frontThrough h n i) refl (seen-told Slice.Beyond e) (unseenSet h n i) refl)
+      let short = lt-leb i (length (frontOf x n)) l in
+      from (CommitAnswer.Accepted 0) (unseenSet h n i) (observe-unseen h n i (frontThrough h n i) refl e (unseenSet h n i) refl)
       (inl (
         0,
         refl,
@@ -275,30 +268,26 @@ module _ (h : Bytes) (x : History) (n i : ℕ) (s : Stands h x) (here : n < 64) 
             (cond-false (leb i (length (frontOf x n))) (take i (frontOf x n)) [] short),
       ))
 
-  module _ (b : Part h x s (nodeOf h n .front) i) where
+  module _ (b : Part h x (frontThrough h n i) (frontOf x n) i) where
     reaches : leb i (length (frontOf x n)) ≡ true
-    reaches = le-leb i (length (frontOf x n)) (let f = front-length in let r = b .reaches in omega arith)
+    reaches = le-leb i (length (frontOf x n)) (b .reaches)
 
     cleared : 0 ≡ unseenMark (frontOf x n) i
     cleared = sym (cond-true (leb i (length (frontOf x n))) 0 i reaches)
 
     shown : seen x n i ≡ at h x s (b .part)
-    shown =
-        cond-true (leb i (length (frontOf x n))) (take i (frontOf x n)) [] reaches ∙ ap (take i) (front-is h x s n here) ∙ sym (b .first)
-
-    told : frontThrough h n i ≡ Slice.Prefix (witness (b .part))
-    told = seen-told (Slice.Prefix (witness (b .part))) (b .told)
+    shown = cond-true (leb i (length (frontOf x n))) (take i (frontOf x n)) [] reaches ∙ sym (b .first)
 
     index-zero : b .part ≡ 0 → Told
     index-zero z =
-        from (CommitAnswer.Accepted 0) (unseenSet h n 0) (observe-zero h n i (frontThrough h n i) refl (witness (b .part)) told z (unseenSet h n 0) refl)
+        from (CommitAnswer.Accepted 0) (unseenSet h n 0) (observe-zero h n i (frontThrough h n i) refl (witness (b .part)) (b .told) z (unseenSet h n 0) refl)
         (inl (0, refl, nothing-seen x n i h s here limit 0 (omega arith) cleared (shown ∙ ap (at h x s) z)))
 
     module _ (some-seen : b .part ≡ 0 → ⊥) where
       first-one : wordAt h 4 2 ≡ 0 → Told
       first-one z =
           from (CommitAnswer.Accepted 0) (keepBytes h n (b .part))
-          (observe-first h n i (frontThrough h n i) refl (witness (b .part)) told some-seen (storedOf (wordAt h 4 2)) refl
+          (observe-first h n i (frontThrough h n i) refl (witness (b .part)) (b .told) some-seen (storedOf (wordAt h 4 2)) refl
           (sym (stored-none (wordAt h 4 2) z)) (keepBytes h n (b .part)) refl)
           (inl (0, refl, first-seen x n i h s here limit (b .part) (b .within) cleared shown some-seen (committed-is h x s ∙ ap (at h x s) z)))
 
@@ -309,7 +298,7 @@ module _ (h : Bytes) (x : History) (n i : ℕ) (s : Stands h x) (here : n < 64) 
         later : (r : CommitAnswer) (h′ : Bytes) → Inserted h n c (b .part) r h′ → Outcome x n i h r h′ → Told
         later r h′ w o =
             from r h′
-            (observe-later h n i (frontThrough h n i) refl (witness (b .part)) told some-seen (storedOf c) refl (witness c)
+            (observe-later h n i (frontThrough h n i) refl (witness (b .part)) (b .told) some-seen (storedOf c) refl (witness c)
             (sym (stored-read c c refl some-kept)) r h′ w)
             o
 
@@ -348,6 +337,4 @@ module _ (h : Bytes) (x : History) (n i : ℕ) (s : Stands h x) (here : n < 64) 
     reached = ⊎-elim (λ e. index-zero (eqb-true (b .part) 0 e)) (λ e. some-one (eqb-false (b .part) 0 e)) (either (eqb (b .part) 0))
 
   pub commit-told : Outcome x n i h (commitAnswer h n i) (commitBytes h n i)
-  commit-told =
-      ⊎-elim (λ b. not-reached (b .0) (b .1)) reached
-      (slice-is h x s (nodeOf h n .front) i (formed h (s .right) .node n here .front))
+  commit-told = ⊎-elim (λ b. not-reached (b .0) (b .1)) reached (front-cut h x s n here i)

@@ -4,7 +4,7 @@ use Prim.Native.Nat.{ℕ, zero, suc, _-_, _≤_, _<_, min}
 use native.Mathlib.Omega.{arith}
 use mathlib.Core.Path.{_≡_, refl, sym, _∙_, ap, subst}
 use mathlib.Core.Bool.{true, false, cond}
-use mathlib.Core.Logic.{_⊎_, inl, inr, ⊎-elim}
+use mathlib.Core.Logic.{inl, ⊎-elim}
 use mathlib.Core.List.{List, [], _∷_}
 use lib.Dec.{ltb, eqb}
 use lib.ListN.{length, getD, set, take}
@@ -12,7 +12,7 @@ use lib.Seq.{set-getD}
 use borrow.Author.Tests.{ltb-true, ltb-false}
 use Rattle.model.specs.Sizes.{Bytes}
 use Rattle.model.specs.Entry.{Prefix, same, agree, withAll}
-use Rattle.model.specs.History.{Finding, History, frontOf, noted}
+use Rattle.model.specs.History.{Finding, History, noted}
 use Rattle.model.proofs.Tests.{cond-cases}
 use Rattle.storage_bytes.specs.Words.{wordAt}
 use Rattle.storage.specs.Values.{indexOf}
@@ -21,13 +21,14 @@ use Rattle.storage.specs.Tables.{PrefixRow, NodeRow, findingRows, prefixRows, f
 use Rattle.storage.specs.Decode.{prefixAt, resolve}
 use Rattle.storage.specs.Rules.{findingRight}
 use Rattle.storage.proofs.RowFacts.{Facts}
-use Rattle.storage.proofs.Meanings.{Stands, withNoted, prefixes-read, findings-read, owner-read, front-read, last-read, node-written, committed-written, prefixes-stored, findings-stored, committed-stored, findings-taken}
+use Rattle.storage.proofs.Meanings.{Stands, withNoted, prefixes-read, findings-read, owner-read, last-read, node-written, committed-written, prefixes-stored, findings-stored, committed-stored, findings-taken}
 use Rattle.log_violation.specs.Violation.{findingsKept}
-use Rattle.prefix_lookup.specs.Prefix.{witness, sliceOf}
+use Rattle.prefix_lookup.specs.Prefix.{sliceOf}
 use Rattle.log_comparison.specs.Comparison.{sameFrom}
 use Rattle.prefix_lookup.specs.declared.lookup.Slice.{Slice}
 use Rattle.prefix_lookup.proofs.TableLaws.{rows-length, rows-at}
-use Rattle.prefix_lookup.proofs.SliceLaws.{index-length, slice-cases}
+use Rattle.prefix_lookup.proofs.SliceLaws.{index-length}
+use Rattle.prefix_lookup.proofs.Fronts.{Part, slice-is, front-is}
 use Rattle.log_comparison.proofs.ComparisonLaws.{same-prefix}
 use Rattle.log_violation.proofs.ViolationLaws.{Holds, note-holds, note-length, findings-long}
 use Rattle.committed_prefix.specs.Prefix.{rowsOf, nodeOf, longerIn, endIn, sameSlices, agreeIn, unseenSet, keepBytes, difference, heldWith, tableWith}
@@ -84,10 +85,6 @@ module _ (h : Bytes) (x : History) (s : Stands h x) where
   pub owner-is : x .owner ≡ wordAt h 8 1
   owner-is = ap (λ (y : History). y .owner) (sym (s .decodes)) ∙ owner-read h
 
-  pub front-is : (n : ℕ) → n < 64 → frontOf x n ≡ at (nodeOf h n .front)
-  front-is n l =
-      ap (λ (y : History). frontOf y n) (sym (s .decodes)) ∙ front-read h n l ∙ ap (λ (y : History). prefixAt (y .prefixes) (nodeOf h n .front)) (s .decodes)
-
   last-is : (n : ℕ) → n < 64 → getD (x .lasts) n 0 ≡ nodeOf h n .last
   last-is n l = ap (λ (y : History). getD (y .lasts) n 0) (sym (s .decodes)) ∙ last-read h n l
 
@@ -111,30 +108,8 @@ module _ (h : Bytes) (x : History) (s : Stands h x) where
       same-prefix (rowsOf h) rows known (rows-at (prefixesPart h) (wordAt h 0 2)) p q (number p l) (number q m)
       ∙ ap (λ (ps : List Prefix). same (prefixAt ps p) (prefixAt ps q)) resolves
 
-  -- a part of a stored prefix, by number
-  pub record Part (p i : ℕ) : Type 0 where
-    pub part : ℕ
-    pub told : sliceOf (rowsOf h) p i ≡ Slice.Prefix (witness part)
-    pub reaches : i ≤ length (at p)
-    pub within : part ≤ wordAt h 0 2
-    pub first : at part ≡ take i (at p)
-
-  pub slice-is : (p i : ℕ) → p ≤ wordAt h 0 2 → ((sliceOf (rowsOf h) p i ≡ Slice.Beyond) × (length (at p) < i)) ⊎ Part p i
-  slice-is p i l =
-      ⊎-elim
-      (λ b. inl (b .0, subst (λ (ps : List Prefix). length (prefixAt ps p) < i) resolves (b .1)))
-      (λ b.
-      inr (record {
-        part = b .0;
-        told = b .1;
-        reaches = subst (λ (ps : List Prefix). i ≤ length (prefixAt ps p)) resolves (b .2);
-        within = subst (λ (m : ℕ). b .0 ≤ m) count (b .3);
-        first = subst (λ (ps : List Prefix). prefixAt ps (b .0) ≡ take i (prefixAt ps p)) resolves (b .4);
-      }))
-      (slice-cases (rowsOf h) rows known (rows-at (prefixesPart h) (wordAt h 0 2)) p i (number p l))
-
-  part-of : (p i : ℕ) → p ≤ wordAt h 0 2 → i ≤ length (at p) → Part p i
-  part-of p i l r = ⊎-elim (λ b. absurd (let z = b .1 in omega arith)) (λ b. b) (slice-is p i l)
+  part-of : (p i : ℕ) → p ≤ wordAt h 0 2 → i ≤ length (at p) → Part h x (sliceOf (rowsOf h) p i) (at p) i
+  part-of p i l r = ⊎-elim (λ b. absurd (let z = b .1 in omega arith)) (λ b. b) (slice-is h x s p i l)
 
   -- ---- two stored prefixes compared
 
@@ -161,7 +136,7 @@ module _ (h : Bytes) (x : History) (s : Stands h x) where
     unfolding agreeIn
     agree-beyond i l =
         ⊎-elim (λ b. ap (λ (y : Slice). sameSlices (rowsOf h) y (sliceOf (rowsOf h) p i)) (b .0) ∙ none-first (sliceOf (rowsOf h) p i))
-        (λ b. absurd (let z = b .reaches in omega arith)) (slice-is c i lc)
+        (λ b. absurd (let z = b .reaches in omega arith)) (slice-is h x s c i lc)
       where
         none-first : (y : Slice) → sameSlices (rowsOf h) Slice.Beyond y ≡ false
         none-first (Slice.Prefix q) = refl
@@ -194,7 +169,7 @@ module _ (h : Bytes) (x : History) (s : Stands h x) where
       let r = facts .node n l in
       let row : NodeRow = record { front = nodeOf h n .front; last = nodeOf h n .last; unseen = m } in
       let fronts : set (x .fronts) n (at (nodeOf h n .front)) ≡ x .fronts =
-      ap (λ (p : Prefix). set (x .fronts) n p) (sym (front-is n l)) ∙ set-getD (x .fronts) n [] in
+      ap (λ (p : Prefix). set (x .fronts) n p) (sym (front-is h x s n l)) ∙ set-getD (x .fronts) n [] in
       let lasts : set (x .lasts) n (nodeOf h n .last) ≡ x .lasts =
       ap (λ (k : ℕ). set (x .lasts) n k) (sym (last-is n l)) ∙ set-getD (x .lasts) n 0 in
       subst (Stands (unseenSet h n m))

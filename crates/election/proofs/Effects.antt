@@ -1,5 +1,5 @@
--- An election on bytes that stand for a history, in the model's words: the front, the certificates held, the answer, and the
--- certificate that is kept.
+-- An election on bytes that stand for a history, in the model's words: the certificates held, the answer, and the certificate that
+-- is kept.
 -- Assumes nothing.
 use Prim.Native.Nat.{ℕ, suc, _+_, _≤_, _<_}
 use native.Mathlib.Omega.{arith}
@@ -20,21 +20,20 @@ use Rattle.model.specs.Election.{held, taken, inOrder, electionRefusal, certifi
 use Rattle.model.proofs.Tests.{tf, cond-true, cond-false}
 use Rattle.storage_bytes.specs.Words.{wordAt}
 use Rattle.storage.specs.Values.{certificatesOf}
-use Rattle.storage.specs.Tables.{CertificateRow, PrefixRow, certificateRow, certificatesPart, prefixRow, prefixRows, prefixesPart}
-use Rattle.storage.specs.Decode.{prefixAt, resolve, logIn, certificateIn}
+use Rattle.storage.specs.Tables.{CertificateRow, certificateRow, certificatesPart}
+use Rattle.storage.specs.Decode.{prefixAt, logIn, certificateIn}
 use Rattle.storage.specs.Order.{placeOf, heldOf}
 use Rattle.storage.specs.Rules.{numbered}
 use Rattle.storage.specs.Writes.{CertificateFits, certificateAdded}
 use Rattle.storage_bytes.proofs.ListLaws.{tabulate-length}
 use Rattle.storage.proofs.DecodeLaws.{CertificateNamed}
-use Rattle.storage.proofs.WellFormed.{certificates-are, formed, formed-rows}
+use Rattle.storage.proofs.WellFormed.{certificates-are, formed}
 use Rattle.storage.proofs.Meanings as meanings
-use Rattle.storage.proofs.Meanings.{Stands, withElections, front-read, prefixes-stored, certificates-stored}
+use Rattle.storage.proofs.Meanings.{Stands, withElections, certificates-stored}
 use Rattle.storage.proofs.OrderLaws.{held-is, election-written}
-use Rattle.prefix_lookup.specs.Prefix.{witness, frontIn, frontThrough}
+use Rattle.prefix_lookup.specs.Prefix.{witness, frontThrough}
 use Rattle.prefix_lookup.specs.declared.lookup.Slice.{Slice}
-use Rattle.prefix_lookup.proofs.TableLaws.{rows-length, rows-at}
-use Rattle.prefix_lookup.proofs.SliceLaws.{slice-cases}
+use Rattle.prefix_lookup.proofs.Fronts.{front-cut}
 use Rattle.election_judging.specs.declared.judging.ElectionAnswer.{ElectionAnswer}
 use Rattle.certificate_order.specs.Order.{takenOf}
 use Rattle.election_judging.specs.declared.judging.Numbering.{Numbering}
@@ -104,9 +103,6 @@ bytes-left h l t p n e = left h l t p (frontThrough h l n) (fullIn h) (numbering
 -- ---- bytes that stand for a history
 
 module _ (h : Bytes) (x : History) (s : Stands h x) where
-  abbrev rows : List PrefixRow
-  rows = prefixRows (prefixesPart h) (wordAt h 0 2)
-
   abbrev cs : List CertificateRow
   cs = certificatesOf h
 
@@ -135,12 +131,6 @@ module _ (h : Bytes) (x : History) (s : Stands h x) where
       numbering-is (certificateRow (certificatesPart h)) t (wordAt h 6 1)
       (subst (λ (rs : List CertificateRow). numbered rs ≡ true) (certificates-are h) (meanings.kept h x s .numbered))
 
-  front-is : (l : ℕ) → l < 64 → prefixAt (resolve rows) (frontIn h l) ≡ frontOf x l
-  front-is l b =
-      ap (λ (ps : List Prefix). prefixAt ps (frontIn h l)) (prefixes-stored h x s ∙ sym (ap (λ (y : History). y .prefixes) (s .decodes)))
-      ∙ sym (front-read h l b)
-      ∙ ap (λ (y : History). frontOf y l) (s .decodes)
-
   -- 10 and 11 are the model's
   room-same : (t q : ℕ)
       → refusalOf (answerOf (Slice.Prefix (witness q)) (fullIn h) (numberingIn h t))
@@ -153,27 +143,15 @@ module _ (h : Bytes) (x : History) (s : Stands h x) where
       ∙ (λ i. cond (leb 64 (c i)) (some certificatesFull) (cond (k i) (some numberTaken) none))
 
   module _ (l t : ℕ) (p : Bool) (n : ℕ) (leads : l < 64) (fits : t < 4294967296) where
-    abbrev front : Prefix
-    front = prefixAt (resolve rows) (frontIn h l)
-
-    front-length : length front ≡ length (frontOf x l)
-    front-length = ap length (front-is l leads)
-
-    rows-count : length rows ≡ wordAt h 0 2
-    rows-count = rows-length (prefixesPart h) (wordAt h 0 2)
-
-    front-stored : frontIn h l ≤ length rows
-    front-stored = omega (arith, rows-count, formed h (s .right) .node l leads .front)
-
-    model-beyond : length front < n → electionRefusal x l t n ≡ some lengthExceedsFront
+    model-beyond : length (frontOf x l) < n → electionRefusal x l t n ≡ some lengthExceedsFront
     unfolding electionRefusal
-    model-beyond b = cond-true (ltb (length (frontOf x l)) n) _ _ (lt-ltb (length (frontOf x l)) n (omega (arith, front-length)))
+    model-beyond b = cond-true (ltb (length (frontOf x l)) n) _ _ (lt-ltb (length (frontOf x l)) n b)
 
-    model-within : n ≤ length front
+    model-within : n ≤ length (frontOf x l)
         → electionRefusal x l t n
         ≡ cond (leb 64 (length (x .certificates))) (some certificatesFull) (cond (taken t (held t (x .certificates)) (x .certificates)) (some numberTaken) none)
     unfolding electionRefusal
-    model-within b = cond-false (ltb (length (frontOf x l)) n) _ _ (le-ltb (length (frontOf x l)) n (omega (arith, front-length)))
+    model-within b = cond-false (ltb (length (frontOf x l)) n) _ _ (le-ltb (length (frontOf x l)) n b)
 
     answer-beyond : frontThrough h l n ≡ Slice.Beyond → answerIn h l t n ≡ ElectionAnswer.LengthExceedsFront
     unfolding answerIn
@@ -188,24 +166,16 @@ module _ (h : Bytes) (x : History) (s : Stands h x) where
     unfolding bytesIn
     bytes-within q e = sym (λ i. bytesOf h l t p (e i) (fullIn h) (numbering-same t i))
 
-    -- the log is beyond the front, or the first n entries of it are stored under q
-    data Cut : Type 0 where
-      beyond : frontThrough h l n ≡ Slice.Beyond → length front < n → Cut
-      within : (q : ℕ) → frontThrough h l n ≡ Slice.Prefix (witness q) → n ≤ length front → q ≤ length rows → prefixAt (resolve rows) q ≡ take n front → Cut
-
-    cut : Cut
-    unfolding frontThrough
-    cut =
-        ⊎-elim (λ c. beyond (c .0) (c .1)) (λ c. within (c .0) (c .1) (c .2) (c .3) (c .4))
-        (slice-cases (prefixRow (prefixesPart h)) rows (formed-rows h (formed h (s .right))) (rows-at (prefixesPart h) (wordAt h 0 2)) (frontIn h l) n front-stored)
-
-    refusal-cut : Cut → refusalOf (answerIn h l t n) ≡ electionRefusal x l t n
-    refusal-cut (beyond e b) = ap refusalOf (answer-beyond e) ∙ sym (model-beyond b)
-    refusal-cut (within q e b _ _) = ap refusalOf (answer-within q e) ∙ room-same t q ∙ sym (model-within b)
+    -- the answer is the model's
+    pub refusal-is : refusalOf (answerIn h l t n) ≡ electionRefusal x l t n
+    refusal-is =
+        ⊎-elim (λ c. ap refusalOf (answer-beyond (c .0)) ∙ sym (model-beyond (c .1)))
+        (λ c. ap refusalOf (answer-within (c .part) (c .told)) ∙ room-same t (c .part) ∙ sym (model-within (c .reaches)))
+        (front-cut h x s l leads n)
 
     -- ---- the certificate
 
-    module _ (q : ℕ) (stored : q ≤ length rows) (log : prefixAt (resolve rows) q ≡ take n front) (room : wordAt h 6 1 < 64) where
+    module _ (q : ℕ) (stored : q ≤ wordAt h 0 2) (log : prefixAt (x .prefixes) q ≡ take n (frontOf x l)) (room : wordAt h 6 1 < 64) where
       abbrev new : CertificateRow
       new = kept l t (number t) p q
 
@@ -220,7 +190,7 @@ module _ (h : Bytes) (x : History) (s : Stands h x) where
           let r = formed h (s .right) .prefixes in
           record {
             term = fits;
-            log = omega (arith, rows-count);
+            log = omega arith;
             mark = omega arith;
             leader = omega arith;
             number = omega arith;
@@ -228,16 +198,13 @@ module _ (h : Bytes) (x : History) (s : Stands h x) where
           }
 
       new-named : CertificateNamed (wordAt h 0 2) new
-      new-named = record { log = omega (arith, rows-count); mark = omega arith; leader = omega arith; present = flag-small p }
-
-      log-same : prefixAt (x .prefixes) q ≡ take n (frontOf x l)
-      log-same = ap (λ (ps : List Prefix). prefixAt ps q) (sym (prefixes-stored h x s)) ∙ log ∙ ap (take n) (front-is l leads)
+      new-named = record { log = stored; mark = omega arith; leader = omega arith; present = flag-small p }
 
       certificate-is : certificateIn (x .prefixes) new ≡ certificate x l t p n
       unfolding certificate
       certificate-is =
           let m = held-same t in
-          let g = log-is (x .prefixes) l t (number t) p q n (frontOf x l) log-same in
+          let g = log-is (x .prefixes) l t (number t) p q n (frontOf x l) log in
           λ i. record { leader = l; term = t; number = m i; log = g i; mark = 0 }
 
       effect-is : withElections x (inOrder (certificateIn (x .prefixes) new) (x .certificates)) ≡ electionEffect x l t p n
@@ -252,24 +219,19 @@ module _ (h : Bytes) (x : History) (s : Stands h x) where
           (subst (λ (rs : List CertificateRow). Stands (certificateAdded h (placeOf t rs) new) (withElections x (inOrder (certificateIn (x .prefixes) new) (x .certificates)))) e w)
 
     -- an accepted election is kept
-    effect-within : (q : ℕ) → q ≤ length rows → prefixAt (resolve rows) q ≡ take n front → (a b : Bool) → fullIn h ≡ a
+    effect-within : (q : ℕ) → q ≤ wordAt h 0 2 → prefixAt (x .prefixes) q ≡ take n (frontOf x l) → (a b : Bool) → fullIn h ≡ a
         → answerOf (Slice.Prefix (witness q)) a (found b (place t) (number t)) ≡ ElectionAnswer.Accepted
         → Stands (bytesOf h l t p (Slice.Prefix (witness q)) a (found b (place t) (number t))) (electionEffect x l t p n)
     effect-within q stored log true b e r = absurd (tf (sym (ap isAccepted r)))
     effect-within q stored log false true e r = absurd (tf (sym (ap isAccepted r)))
     effect-within q stored log false false e r = kept-stands q stored log (leb-false 64 (wordAt h 6 1) e)
 
-    effect-cut : Cut → answerIn h l t n ≡ ElectionAnswer.Accepted → Stands (bytesIn h l t p n) (electionEffect x l t p n)
-    effect-cut (beyond e _) a = absurd (tf (sym (ap isAccepted a) ∙ ap isAccepted (answer-beyond e)))
-    effect-cut (within q e _ stored log) a =
-        subst (λ (y : Bytes). Stands y (electionEffect x l t p n)) (bytes-within q e)
-        (effect-within q stored log (fullIn h) (takenOf t (number t) cs) refl
-        (sym (ap (λ (m : Numbering). answerOf (Slice.Prefix (witness q)) (fullIn h) m) (numbering-same t)) ∙ sym (answer-within q e) ∙ a))
-
-    -- the answer is the model's
-    pub refusal-is : refusalOf (answerIn h l t n) ≡ electionRefusal x l t n
-    refusal-is = refusal-cut cut
-
-    -- and the bytes after an accepted one stand for the model's history
+    -- the bytes after an accepted election stand for the model's history
     pub effect-stands : answerIn h l t n ≡ ElectionAnswer.Accepted → Stands (bytesIn h l t p n) (electionEffect x l t p n)
-    effect-stands a = effect-cut cut a
+    effect-stands a =
+        ⊎-elim (λ c. absurd (tf (sym (ap isAccepted a) ∙ ap isAccepted (answer-beyond (c .0)))))
+        (λ c.
+        subst (λ (y : Bytes). Stands y (electionEffect x l t p n)) (bytes-within (c .part) (c .told))
+        (effect-within (c .part) (c .within) (c .first) (fullIn h) (takenOf t (number t) cs) refl
+        (sym (ap (λ (m : Numbering). answerOf (Slice.Prefix (witness (c .part))) (fullIn h) m) (numbering-same t)) ∙ sym (answer-within (c .part) (c .told)) ∙ a)))
+        (front-cut h x s l leads n)
