@@ -2,18 +2,16 @@
 -- effect, and refused ones are as they were.
 -- Assumes nothing.
 use Prim.Native.Nat.{ℕ, zero, suc, _+_, _-_, _<_, _≤_}
-use native.Mathlib.Nat.{le-refl}
 use native.Mathlib.Omega.{arith}
 use mathlib.Core.Path.{_≡_, refl, sym, _∙_, ap, subst}
 use mathlib.Core.Bool.{Bool, true, false, cond}
 use mathlib.Core.Logic.{inl, ⊎-elim}
-use mathlib.Core.List.{List, [], _∷_, _++_, List·Memᴰ, List·Memᴰ·not-nil, List·Memᴰ·cases-cons, List·Memᴰ·append-cases, List·Memᴰ·eq-of-singleton}
+use mathlib.Core.List.{List, [], _∷_, List·Memᴰ, List·Memᴰ·not-nil, List·Memᴰ·append-cases, List·Memᴰ·eq-of-singleton}
 use mathlib.Core.Option.{Option, none, some}
-use lib.Dec.{ltb, eqb}
+use lib.Dec.{ltb}
 use lib.ListN.{length, getD, set}
 use lib.Seq.{set-getD}
 use borrow.Author.Tests.{lt-ltb, ltb-false}
-use Rattle.model.proofs.Tests.{cond-cases}
 use Rattle.model.specs.Sizes.{Bytes}
 use Rattle.model.specs.Entry.{Entry, Prefix, prefixes, withAll}
 use Rattle.model.specs.Refusal.{Refusal, prefixesFull, findingsFull}
@@ -21,8 +19,9 @@ use Rattle.model.specs.Record.{Shown, view, front, lastFrom, lastIndex}
 use Rattle.model.specs.History.{Finding, History, noted}
 use Rattle.model.specs.Answer.{Answer, accepted, refused}
 use Rattle.model.specs.View.{begunBy, mismatches, stored, viewFindings, viewRefusal, viewEffect}
-use Rattle.record_scan.specs.Places.{Walk, firstEntry, indexAt, nextAt, shownAt, entriesAt}
-use Rattle.record_walk.proofs.Walks.{entries-none, entries-next, next-walk, walk-entered}
+use Rattle.record_scan.specs.Places.{Walk, firstEntry, indexAt, termAt, nextAt, entriesAt, itemsAt}
+use Rattle.bit_fields.proofs.Widths.{field-lt}
+use Rattle.record_walk.proofs.Walks.{walk-entered}
 use Rattle.storage_bytes.specs.Lists.{every}
 use Rattle.storage_bytes.specs.Words.{wordAt}
 use Rattle.storage.specs.Tables.{PrefixRow, NodeRow, prefixRow, prefixesPart, nodeRow, nodesPart, findingRow, findingRows, findingsPart, tablesIn, tablesOf}
@@ -36,14 +35,16 @@ use Rattle.storage.proofs.Meanings.{Stands, withPrefixes, withFront, withNoted,
 use Rattle.storage.proofs.Answered.{Means, accepts, refuses}
 use Rattle.view_writing.specs.Observation.{viewReplaced}
 use Rattle.logical_log.specs.Observation.{viewWritten, observed, observedBytes}
-use Rattle.view_judging.specs.Judging.{other, isRemembered, noteOf, lackNotes, nextNumber, notesFrom, missingFrom, missingIn, notesIn, heldIn, tableIn}
+use Rattle.view_judging.specs.Judging.{other, isRemembered, noteOf, lackNotes, frontAt, endsAt, placeFrom, storedNotes, notesFrom, placeIn, missingIn, notesIn, heldIn, tableIn}
 use Rattle.log_prefix.specs.Extension.{writtenBytes, writtenCount, writtenNumber}
 use Rattle.log_violation.specs.Violation.{heldAll, bytesAll, findingsKept}
 use Rattle.logical_log.specs.declared.observation.Observed.{Observed}
 use Rattle.log_prefix.proofs.Extend.{Fits, extendAll, extends-all}
+use Rattle.view_judging.proofs.Places.{Turn, gap, lost, more, turn, next, ends-gap, ends-lost, goes-on, stored-stays, stored-goes, walk-more}
 use Rattle.view_judging.proofs.Judge.{missing-made, notes-are}
+use Rattle.view_judging.proofs.Judged.{place-in-stands}
 use Rattle.log_violation.proofs.ViolationLaws.{Holds, all-hold, findings-long}
-use Rattle.logical_log.proofs.Whole.{written-count, table-length}
+use Rattle.logical_log.proofs.Whole.{front-count, table-length}
 use Rattle.view_writing.proofs.Stored.{rows-good, rows-by-place}
 use Rattle.logical_log.proofs.Stored.{Sound, front-sound, Whole, front-stands}
 
@@ -82,11 +83,6 @@ sound-fits : (es : List Entry) (i : ℕ) → Sound i es → Fits i es
 sound-fits [] i s = tt
 sound-fits (e ∷ es) i s = (s .0, s .1, sound-fits es (i + 1) (s .3))
 
-sound-short : (es : List Entry) (i : ℕ) → Sound i es → (e : Entry) → List·Memᴰ e es → length (e .content) ≤ 32
-sound-short [] i s e m = absurd (List·Memᴰ·not-nil m)
-sound-short (x ∷ es) i s e m =
-    ⊎-elim (λ q. subst (λ (y : Entry). length (y .content) ≤ 32) (sym q) (s .1)) (λ k. sound-short es (i + 1) (s .3) e k) (List·Memᴰ·cases-cons m)
-
 -- ---- a view's LG-03 are within the limits
 
 pub record Noted (node : ℕ) (f : Finding) : Type 0 where
@@ -114,30 +110,30 @@ lack-noted row n node (e ∷ es) i s f m =
     ⊎-elim (note-noted node i (e .term) f (s .0) (s .2) (isRemembered row n i (e .term))) (lack-noted row n node es (i + 1) (s .3) f)
     (List·Memᴰ·append-cases (noteOf (isRemembered row n i (e .term)) node i (e .term)) m)
 
-notes-noted : (row : ℕ → PrefixRow) (n node : ℕ) (es : List Entry) (p i : ℕ) → Sound i es
-    → (f : Finding) → List·Memᴰ f (notesFrom row n node p i es) → Noted node f
-unfolding notesFrom
-notes-noted row n node [] p i s f = λ m. absurd (List·Memᴰ·not-nil m)
-notes-noted row n node (e ∷ es) p i s f =
-    let k = nextNumber row n p e in
-    cond-cases (λ (gs : List Finding). List·Memᴰ f gs → Noted node f) (eqb k 0) (lackNotes row n node i (e ∷ es))
-    (noteOf (other row n i (e .term) k) node i (e .term) ++ notesFrom row n node k (i + 1) es)
-    (λ _. lack-noted row n node (e ∷ es) i s f)
-    (λ _ m.
-    ⊎-elim (note-noted node i (e .term) f (s .0) (s .2) (other row n i (e .term) k)) (notes-noted row n node es k (i + 1) (s .3) f)
-    (List·Memᴰ·append-cases (noteOf (other row n i (e .term) k) node i (e .term)) m))
+stored-noted : (row : ℕ → PrefixRow) (n node : ℕ) (s : Bytes) (m k i p : ℕ) → Walk s k m
+    → (f : Finding) → List·Memᴰ f (storedNotes row n node s k m i p) → Noted node f
+unfolding storedNotes
+stored-noted row n node s zero k i p w f a = absurd (List·Memᴰ·not-nil a)
+stored-noted row n node s (suc m) k i p w f a = go (turn row n s k i p) (stored-noted row n node s m (nextAt s k) (i + 1) (next row n s k i p) (walk-more s k m w) f)
+  where
+    none-noted : endsAt row n s k i p ≡ true → Noted node f
+    none-noted e = absurd (List·Memᴰ·not-nil (subst (List·Memᴰ f) (stored-stays row n s k i p m node e) a))
+
+    go : Turn row n s k i p → (List·Memᴰ f (storedNotes row n node s (nextAt s k) m (i + 1) (next row n s k i p)) → Noted node f) → Noted node f
+    go (gap g) ih = none-noted (ends-gap row n s k i p g)
+    go (lost g z) ih = none-noted (ends-lost row n s k i p g z)
+    go (more g z) ih =
+        ⊎-elim
+        (note-noted node i (termAt s k) f (subst (λ (j : ℕ). j ≤ 256) g (walk-entered s k (suc m) w (omega arith) .within)) (field-lt s (k + 10) 32) (other row n i (termAt s k) (next row n s k i p)))
+        ih
+        (List·Memᴰ·append-cases (noteOf (other row n i (termAt s k) (next row n s k i p)) node i (termAt s k)) (subst (List·Memᴰ f) (stored-goes row n s k i p m node (goes-on row n s k i p g z)) a))
 
 -- ---- a view's last index and a node's mark are within the limits
 
 last-small : (n : ℕ) (s : Bytes) (k d : ℕ) → Walk s k n → d ≤ 256 → lastFrom d (entriesAt s k n) ≤ 256
-unfolding lastFrom
-last-small zero s k d w h = subst (λ (es : List Shown). lastFrom d es ≤ 256) (sym (entries-none s k zero (le-refl 0))) h
-last-small (suc n) s k d w h =
-    let one : suc n - 1 ≡ n = omega arith in
-    subst (λ (es : List Shown). lastFrom d es ≤ 256)
-    (sym (entries-next s k (suc n) (omega arith) ∙ ap (λ (j : ℕ). shownAt s k ∷ entriesAt s (nextAt s k) j) one))
-    (last-small n s (nextAt s k) (indexAt s k) (subst (Walk s (nextAt s k)) one (next-walk s k (suc n) w (omega arith)))
-    (walk-entered s k (suc n) w (omega arith) .within))
+unfolding lastFrom itemsAt
+last-small zero s k d w h = h
+last-small (suc n) s k d w h = last-small n s (nextAt s k) (indexAt s k) (walk-more s k n w) (walk-entered s k (suc n) w (omega arith) .within)
 
 unseen-small : (h : Bytes) (x : History) → Stands h x → (k : ℕ) → k < 64 → nodeRow (nodesPart h) k .unseen ≤ 256
 unfolding tablesIn
@@ -160,12 +156,12 @@ module _ (limit : ℕ) (h : Bytes) (x : History) (s : Bytes) (m node : ℕ) (st 
   -- ---- 6
 
   total : wordAt h 0 2 + missingIn h s m ≡ length (stored (x .prefixes) F)
-  unfolding missingIn stored
+  unfolding missingIn placeIn stored
   total =
       let rs = tablesOf h .rows in
       let a = extends-all F rs (rows-good h x st) 0 1 (omega arith) refl (sound-fits F 1 sound) in
-      (λ j. sym (rows-count h) j + missingFrom (prefixRow (prefixesPart h)) (sym (rows-count h) j) 0 F)
-      ∙ missing-made (prefixRow (prefixesPart h)) rs (rows-by-place h x st) F 0 1
+      (λ j. sym (rows-count h) j + length (frontAt s (placeFrom (prefixRow (prefixesPart h)) (sym (rows-count h) j) s firstEntry m 1 0)))
+      ∙ missing-made (prefixRow (prefixesPart h)) rs (rows-by-place h x st) s m firstEntry 1 0
       ∙ sym (resolve-count (extendAll rs 0 1 F))
       ∙ ap length (a .stores)
       ∙ ap (λ (ps : List Prefix). length (withAll prefixes ps (begunBy F))) (prefixes-is h x st)
@@ -176,13 +172,17 @@ module _ (limit : ℕ) (h : Bytes) (x : History) (s : Bytes) (m node : ℕ) (st 
   unfolding notesIn
   notes =
       let rs = tablesOf h .rows in
-      ap (λ (n : ℕ). notesFrom (prefixRow (prefixesPart h)) n node 0 1 F) (sym (rows-count h))
-      ∙ notes-are (prefixRow (prefixesPart h)) rs (rows-good h x st .known) (rows-by-place h x st) node F [] 0 1 refl (omega arith, refl) (sound-short F 1 sound)
+      ap (λ (n : ℕ). notesFrom (prefixRow (prefixesPart h)) n node s firstEntry m 1 0) (sym (rows-count h))
+      ∙ notes-are (prefixRow (prefixesPart h)) rs (rows-good h x st .known) (rows-by-place h x st) node s m firstEntry 1 0 [] w refl (omega arith, refl)
       ∙ ap (λ (ps : List Prefix). mismatches ps node (begunBy F)) (prefixes-is h x st)
 
   noted-in : (f : Finding) → List·Memᴰ f (notesIn h s m node) → Noted node f
-  unfolding notesIn
-  noted-in = notes-noted (prefixRow (prefixesPart h)) (wordAt h 0 2) node F 0 1 sound
+  unfolding notesIn placeIn
+  noted-in f a =
+      let r = placeIn h s m in
+      ⊎-elim (stored-noted (prefixRow (prefixesPart h)) (wordAt h 0 2) node s m firstEntry 1 0 w f)
+      (lack-noted (prefixRow (prefixesPart h)) (wordAt h 0 2) node (frontAt s r) (r .index .0) (front-sound (r .left) s (r .at) (r .index .0) (place-in-stands h s m w .walk)) f)
+      (List·Memᴰ·append-cases (storedNotes (prefixRow (prefixesPart h)) (wordAt h 0 2) node s firstEntry m 1 0) a)
 
   holds : Holds (tableIn h s m node) (heldIn h s m node) (viewFindings x node F)
   unfolding tableIn heldIn viewFindings
@@ -266,8 +266,7 @@ module _ (limit : ℕ) (h : Bytes) (x : History) (s : Bytes) (m node : ℕ) (st 
             }
 
     room : writtenCount h (wordAt h 0 2) 0 1 F ≤ 512
-    unfolding missingIn
-    room = (let a = written-count F h (wordAt h 0 2) 0 1 in let b = total in let c = ok .few in omega arith)
+    room = (let a = front-count h s m (st .right) w in let b = total in let c = ok .few in omega arith)
 
     abbrev h₁ : Bytes
     h₁ = writtenBytes h (wordAt h 0 2) 0 1 F

@@ -1,7 +1,6 @@
 -- The front of a view stored in bytes that stand for a history: after it they stand for the history with the front's prefixes.
 -- Assumes nothing.
 use Prim.Native.Nat.{ℕ, zero, suc, _+_, _-_, _<_, _≤_}
-use native.Mathlib.Nat.{le-refl}
 use native.Mathlib.Omega.{arith}
 use mathlib.Core.Path.{_≡_, sym, _∙_, ap, subst}
 use mathlib.Core.Logic.{⊎-elim}
@@ -15,15 +14,15 @@ use Rattle.model.specs.Record.{frontFrom}
 use Rattle.model.specs.History.{History}
 use Rattle.model.specs.View.{begun}
 use Rattle.model.proofs.Tests.{either}
-use Rattle.record_scan.specs.Places.{Walk, indexAt, lengthAt, nextAt, entriesAt}
-use Rattle.bit_fields.proofs.Widths.{field-lt, bytes-length}
-use Rattle.record_walk.proofs.Walks.{next-walk, walk-entered}
+use Rattle.record_scan.specs.Places.{Walk, indexAt, nextAt, entriesAt}
+use Rattle.bit_fields.proofs.Widths.{field-lt}
+use Rattle.record_walk.proofs.Walks.{walk-entered}
 use Rattle.storage_bytes.specs.Words.{wordAt}
 use Rattle.storage.specs.Decode.{prefixAt}
 use Rattle.storage.proofs.RuleLaws.{within}
 use Rattle.storage.proofs.Meanings.{Stands, withPrefixes}
 use Rattle.log_prefix.specs.Extension.{extendedBytes, extendedCount, extendedNumber, writtenBytes, writtenCount, writtenNumber}
-use Rattle.view_judging.proofs.Turns.{front-more, front-stop, front-none}
+use Rattle.view_judging.proofs.Places.{front-suc, front-cut, front-zero, walk-more, content-short}
 use Rattle.log_prefix.proofs.Written.{count-grows, written-cons}
 use Rattle.view_writing.proofs.Stored.{Step, extension-step}
 
@@ -36,21 +35,18 @@ Sound i (e ∷ es) = (i ≤ 256) × (length (e .content) ≤ 32) × (e .term < 4
 
 -- so are those of a readable view's front
 pub front-sound : (n : ℕ) (s : Bytes) (k i : ℕ) → Walk s k n → Sound i (frontFrom i (entriesAt s k n))
-front-sound zero s k i w = subst (Sound i) (sym (front-none s k zero i (le-refl 0))) tt
+front-sound zero s k i w = subst (Sound i) (sym (front-zero s k i)) tt
 front-sound (suc n) s k i w =
     ⊎-elim
     (λ t.
     let e = eqb-true (indexAt s k) i t in
-    let x = walk-entered s k (suc n) w (omega arith) in
-    let one : suc n - 1 ≡ n = omega arith in
-    subst (Sound i) (sym (front-more s k (suc n) i (omega arith) e)) (
-      subst (λ (j : ℕ). j ≤ 256) e (x .within),
-      subst (λ (j : ℕ). j ≤ 32) (sym (bytes-length s (k + 48) (lengthAt s k))) (x .short),
+    subst (Sound i) (sym (front-suc s k n i e)) (
+      subst (λ (j : ℕ). j ≤ 256) e (walk-entered s k (suc n) w (omega arith) .within),
+      content-short s k n w,
       field-lt s (k + 10) 32,
-      subst (λ (m : ℕ). Sound (i + 1) (frontFrom (i + 1) (entriesAt s (nextAt s k) m))) (sym one)
-          (front-sound n s (nextAt s k) (i + 1) (subst (Walk s (nextAt s k)) one (next-walk s k (suc n) w (omega arith)))),
+      front-sound n s (nextAt s k) (i + 1) (walk-more s k n w),
     ))
-    (λ f. subst (Sound i) (sym (front-stop s k (suc n) i (omega arith) (eqb-false (indexAt s k) i f))) tt)
+    (λ f. subst (Sound i) (sym (front-cut s k n i (eqb-false (indexAt s k) i f))) tt)
     (either (eqb (indexAt s k) i))
 
 -- ---- the whole front

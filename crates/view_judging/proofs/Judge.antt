@@ -3,27 +3,32 @@
 use Prim.Native.Nat.{ℕ, zero, suc, _+_, _-_, _<_, _≤_}
 use native.Mathlib.Omega.{arith}
 use native.Mathlib.Numerals.{add-one}
-use mathlib.Core.Path.{_≡_, refl, sym, _∙_, ap}
+use mathlib.Core.Path.{_≡_, refl, sym, _∙_, ap, subst}
 use mathlib.Core.Bool.{Bool, true, false, cond, not, _&&_}
-use mathlib.Core.List.{List, [], _∷_, _++_, List·Memᴰ, List·Memᴰ·head, List·Memᴰ·tail}
+use mathlib.Core.List.{List, [], _∷_, _++_}
 use lib.Dec.{eqb}
 use lib.ListN.{length, length-append}
 use borrow.Author.Tests.{ne-eqb}
+use Rattle.model.specs.Sizes.{Bytes}
 use Rattle.model.specs.Entry.{Entry, Prefix, same, lastTerm}
+use Rattle.model.specs.Record.{frontFrom}
 use Rattle.model.specs.History.{Finding}
 use Rattle.model.specs.View.{begun, remembered, unlike, mismatch, mismatches}
-use Rattle.model.proofs.Tests.{cond-false, no-same}
+use Rattle.model.proofs.Tests.{no-same}
+use Rattle.record_scan.specs.Places.{Walk, nextAt, shownAt, entriesAt, itemsAt}
 use Rattle.storage.specs.Tables.{PrefixRow}
 use Rattle.storage.specs.Decode.{prefixAt, resolve}
 use Rattle.storage.specs.Rules.{sameRow}
 use Rattle.storage.proofs.RowFacts.{Facts, rowAt, nil≢snoc, snoc-injective}
 use Rattle.prefix_lookup.specs.Prefix.{rowOf, searchFrom, find, first}
 use Rattle.log_comparison.specs.Comparison.{sameFrom}
-use Rattle.view_judging.specs.Judging.{differs, other, isRemembered, noteOf, lackNotes, nextNumber, notesFrom, missingFrom}
+use Rattle.view_judging.specs.Judging.{differs, other, isRemembered, noteOf, lackNotes, nextNumber, frontAt, endsAt, placeFrom, storedNotes, notesFrom}
+use Rattle.view_judging.specs.declared.judging.Place.{Place}
 use Rattle.log_prefix.specs.Extension.{orNext}
 use Rattle.prefix_lookup.proofs.PrefixLaws.{Rows, found, missing, first-some, first-none, lastTerm-snoc}
 use Rattle.log_comparison.proofs.ComparisonLaws.{same-prefix}
 use Rattle.log_prefix.proofs.Extend.{extendRows, extendNumber, extendAll}
+use Rattle.view_judging.proofs.Places.{Turn, gap, lost, more, turn, next, ends-gap, ends-lost, goes-on, place-stays, place-goes, notes-stay, notes-go, front-suc, front-cut, front-zero, walk-more, content-short}
 
 -- ---- searches that see the same rows find the same
 
@@ -63,27 +68,56 @@ made (e ∷ es) rs i =
     ∙ made es (rs ++ (r ∷ [])) (i + 1)
     ∙ (let z : length (rs ++ (r ∷ [])) + length es ≡ length rs + suc (length es) = omega arith in z)
 
-module _ (row : ℕ → PrefixRow) (rs : List PrefixRow) (at : Rows row rs) where
-  pub missing-made : (es : List Entry) (p i : ℕ) → length rs + missingFrom row (length rs) p es ≡ length (extendAll rs p i es)
-  unfolding missingFrom extendAll extendRows extendNumber
-  missing-made [] p i = omega arith
-  missing-made (e ∷ es) p i =
-      ap (λ (x : ℕ). length rs + cond (eqb x 0) (length (e ∷ es)) (missingFrom row (length rs) x es)) (find-ext row rs at (rowOf p 0 e) ∙ find-index (rowAt rs) (length rs) p 0 i e)
-      ∙ go (find (rowAt rs) (length rs) (rowOf p i e)) (missing-made es)
+module _ (row : ℕ → PrefixRow) (rs : List PrefixRow) (rows : Rows row rs) where
+  -- the search by place finds what the one by row finds
+  found-same : (p i : ℕ) (e : Entry) → find (rowAt rs) (length rs) (rowOf p i e) ≡ nextNumber row (length rs) p e
+  found-same p i e = sym (find-ext row rs rows (rowOf p 0 e) ∙ find-index (rowAt rs) (length rs) p 0 i e)
+
+  -- one that is not stored is made, and each after it
+  all-made : (p i : ℕ) (e : Entry) (es : List Entry) → nextNumber row (length rs) p e ≡ 0 → length rs + length (e ∷ es) ≡ length (extendAll rs p i (e ∷ es))
+  unfolding extendAll extendRows extendNumber
+  all-made p i e es z =
+      let k = found-same p i e ∙ z in
+      let more : length (rs ++ (rowOf p i e ∷ [])) ≡ length rs + 1 = length-append rs (rowOf p i e ∷ []) in
+      let a = ap (λ (x : ℕ). length (extendAll (cond (eqb x 0) (rs ++ (rowOf p i e ∷ [])) rs) (orNext x (length rs)) (i + 1) es)) k
+      ∙ ap (λ (x : ℕ). length (extendAll (rs ++ (rowOf p i e ∷ [])) x (i + 1) es)) (sym more)
+      ∙ made es (rs ++ (rowOf p i e ∷ [])) (i + 1) in
+      omega arith
+
+  -- one that is stored is not
+  not-made : (p i : ℕ) (e : Entry) (es : List Entry) → (nextNumber row (length rs) p e ≡ 0 → ⊥)
+      → extendAll rs p i (e ∷ es) ≡ extendAll rs (nextNumber row (length rs) p e) (i + 1) es
+  unfolding extendAll extendRows extendNumber
+  not-made p i e es z =
+      let k = nextNumber row (length rs) p e in
+      let d : eqb k 0 ≡ false = ne-eqb k 0 z in
+      ap (λ (x : ℕ). extendAll (cond (eqb x 0) (rs ++ (rowOf p i e ∷ [])) rs) (orNext x (length rs)) (i + 1) es) (found-same p i e)
+      ∙ (λ j. extendAll (cond (d j) (rs ++ (rowOf p i e ∷ [])) rs) (cond (d j) (length rs + 1) k) (i + 1) es)
+
+  pub missing-made : (s : Bytes) (n at i p : ℕ) → length rs + length (frontAt s (placeFrom row (length rs) s at n i p)) ≡ length (extendAll rs p i (frontFrom i (entriesAt s at n)))
+  unfolding placeFrom extendAll
+  missing-made s zero at i p = (let a = front-zero s at i in ap (λ (es : List Entry). length rs + length es) a ∙ (let z : length rs + 0 ≡ length rs = omega arith in z) ∙ sym (ap (λ (es : List Entry). length (extendAll rs p i es)) a))
+  missing-made s (suc n) at i p = go (turn row (length rs) s at i p) (missing-made s n (nextAt s at) (i + 1) (next row (length rs) s at i p))
     where
-      go : (x : ℕ) → ((q j : ℕ) → length rs + missingFrom row (length rs) q es ≡ length (extendAll rs q j es))
-          → length rs + cond (eqb x 0) (length (e ∷ es)) (missingFrom row (length rs) x es)
-          ≡ length (extendAll (cond (eqb x 0) (rs ++ (rowOf p i e ∷ [])) rs) (orNext x (length rs)) (i + 1) es)
-      go zero ih =
-          let more : length (rs ++ (rowOf p i e ∷ [])) ≡ length rs + 1 = length-append rs (rowOf p i e ∷ []) in
-          let b = ap (λ (x : ℕ). length (extendAll (rs ++ (rowOf p i e ∷ [])) x (i + 1) es)) (sym more) ∙ made es (rs ++ (rowOf p i e ∷ [])) (i + 1) in
-          omega arith
-      go (suc x) ih =
-          let d : eqb (suc x) 0 ≡ false = ne-eqb (suc x) 0 (λ w. omega arith) in
-          ap (λ (y : ℕ). length rs + y) (cond-false (eqb (suc x) 0) (length (e ∷ es)) (missingFrom row (length rs) (suc x) es) d)
-          ∙ ih (suc x) (i + 1)
-          ∙ ap (λ (l : List PrefixRow). length (extendAll l (suc x) (i + 1) es)) (sym (cond-false (eqb (suc x) 0) (rs ++ (rowOf p i e ∷ [])) rs d))
-          ∙ ap (λ (y : ℕ). length (extendAll (cond (eqb (suc x) 0) (rs ++ (rowOf p i e ∷ [])) rs) y (i + 1) es)) (sym (cond-false (eqb (suc x) 0) (length rs + 1) (suc x) d))
+      ended : endsAt row (length rs) s at i p ≡ true
+          → length rs + length (frontFrom i (entriesAt s at (suc n))) ≡ length (extendAll rs p i (frontFrom i (entriesAt s at (suc n))))
+          → length rs + length (frontAt s (placeFrom row (length rs) s at (suc n) i p)) ≡ length (extendAll rs p i (frontFrom i (entriesAt s at (suc n))))
+      ended e z = ap (λ (r : Place). length rs + length (frontAt s r)) (place-stays row (length rs) s at i p n e) ∙ z
+
+      go : Turn row (length rs) s at i p
+          → length rs + length (frontAt s (placeFrom row (length rs) s (nextAt s at) n (i + 1) (next row (length rs) s at i p)))
+          ≡ length (extendAll rs (next row (length rs) s at i p) (i + 1) (frontFrom (i + 1) (entriesAt s (nextAt s at) n)))
+          → length rs + length (frontAt s (placeFrom row (length rs) s at (suc n) i p)) ≡ length (extendAll rs p i (frontFrom i (entriesAt s at (suc n))))
+      go (gap g) ih =
+          ended (ends-gap row (length rs) s at i p g)
+          (subst (λ (es : List Entry). length rs + length es ≡ length (extendAll rs p i es)) (sym (front-cut s at n i g)) (let z : length rs + 0 ≡ length rs = omega arith in z))
+      go (lost g z) ih =
+          ended (ends-lost row (length rs) s at i p g z)
+          (subst (λ (es : List Entry). length rs + length es ≡ length (extendAll rs p i es)) (sym (front-suc s at n i g)) (all-made p i (shownAt s at .entry) (frontFrom (i + 1) (entriesAt s (nextAt s at) n)) z))
+      go (more g z) ih =
+          ap (λ (r : Place). length rs + length (frontAt s r)) (place-goes row (length rs) s at i p n (goes-on row (length rs) s at i p g z))
+          ∙ ih
+          ∙ sym (ap length (ap (extendAll rs p i) (front-suc s at n i g) ∙ not-made p i (shownAt s at .entry) (frontFrom (i + 1) (entriesAt s (nextAt s at) n)) z))
 
 -- ---- its LG-03
 
@@ -110,10 +144,14 @@ module _ (row : ℕ → PrefixRow) (rs : List PrefixRow) (f : Facts rs) (at : Ro
     next-none : nextNumber row (length rs) p e ≡ 0 → Unstored (q ++ (e ∷ []))
     next-none z y l w = missing row rs f at p 0 e (s .0) short z y l (w ∙ ap (λ (t : Prefix). t ++ (e ∷ [])) (sym (s .1)))
 
-    next-some : (x : ℕ) → nextNumber row (length rs) p e ≡ suc x → Numbers (suc x) (q ++ (e ∷ []))
-    next-some x z =
-        let y = found row rs f at p 0 e (s .0) short x z in
-        (y .0, y .1 ∙ ap (λ (t : Prefix). t ++ (e ∷ [])) (s .1))
+    next-some : (nextNumber row (length rs) p e ≡ 0 → ⊥) → Numbers (nextNumber row (length rs) p e) (q ++ (e ∷ []))
+    next-some o = go (nextNumber row (length rs) p e) refl
+      where
+        go : (k : ℕ) → nextNumber row (length rs) p e ≡ k → Numbers (nextNumber row (length rs) p e) (q ++ (e ∷ []))
+        go zero z = absurd (o z)
+        go (suc x) z =
+            let y = found row rs f at p 0 e (s .0) short x z in
+            subst (λ (k : ℕ). Numbers k (q ++ (e ∷ []))) (sym z) (y .0, y .1 ∙ ap (λ (t : Prefix). t ++ (e ∷ [])) (s .1))
 
   -- ---- one entry
 
@@ -185,36 +223,55 @@ module _ (row : ℕ → PrefixRow) (rs : List PrefixRow) (f : Facts rs) (at : Ro
       let b = lack-are n es next (i + 1) (ap (λ (x : ℕ). x + 1) len) (unstored-next q e u) in
       λ j. a j ++ b j
 
-  -- the notes of a front that begins with e, by the number of the next prefix
-  abbrev after : ℕ → Entry → List Entry → ℕ → ℕ → List Finding
-  after n e es i x =
-      cond (eqb x 0) (noteOf (isRemembered row (length rs) i (e .term)) n i (e .term) ++ lackNotes row (length rs) n (i + 1) es)
-      (noteOf (other row (length rs) i (e .term) x) n i (e .term) ++ notesFrom row (length rs) n x (i + 1) es)
+  -- from an entry on whose prefix is not stored
+  lost-are : (n : ℕ) (e : Entry) (es : List Entry) (q : Prefix) (i : ℕ) → length q + 1 ≡ i → Unstored (q ++ (e ∷ []))
+      → lackNotes row (length rs) n i (e ∷ es) ≡ mismatches (resolve rs) n (begun q (e ∷ es))
+  unfolding lackNotes mismatches begun
+  lost-are n e es q i long u =
+      let len = next-length q e i long in
+      let a = lacking-entry n (q ++ (e ∷ [])) i (e .term) len (lastTerm-snoc q e) u in
+      let b = lack-are n es (q ++ (e ∷ [])) (i + 1) (ap (λ (x : ℕ). x + 1) len) u in
+      λ j. a j ++ b j
 
-  pub notes-are : (n : ℕ) (es : List Entry) (q : Prefix) (p i : ℕ) → length q + 1 ≡ i → Numbers p q
-      → ((e : Entry) → List·Memᴰ e es → length (e .content) ≤ 32)
-      → notesFrom row (length rs) n p i es ≡ mismatches (resolve rs) n (begun q es)
-  unfolding notesFrom mismatches begun lackNotes
-  notes-are n [] q p i long s short = refl
-  notes-are n (e ∷ es) q p i long s short =
-      go (nextNumber row (length rs) p e) refl (λ x w. notes-are n es (q ++ (e ∷ [])) (suc x) (i + 1) (ap (λ (y : ℕ). y + 1) len) w (λ y m. short y (List·Memᴰ·tail m)))
+  -- from an entry on whose prefix is stored
+  stored-are : (n : ℕ) (e : Entry) (es : List Entry) (q : Prefix) (i k : ℕ) → length q + 1 ≡ i → Numbers k (q ++ (e ∷ [])) → (fs : List Finding)
+      → fs ≡ mismatches (resolve rs) n (begun (q ++ (e ∷ [])) es)
+      → noteOf (other row (length rs) i (e .term) k) n i (e .term) ++ fs ≡ mismatches (resolve rs) n (begun q (e ∷ es))
+  unfolding mismatches begun
+  stored-are n e es q i k long m fs b =
+      let a = noted-entry n (q ++ (e ∷ [])) i (e .term) (next-length q e i long) (lastTerm-snoc q e) k m in
+      λ j. a j ++ b j
+
+  pub notes-are : (n : ℕ) (s : Bytes) (m k i p : ℕ) (q : Prefix) → Walk s k m → length q + 1 ≡ i → Numbers p q
+      → notesFrom row (length rs) n s k m i p ≡ mismatches (resolve rs) n (begun q (frontFrom i (entriesAt s k m)))
+  unfolding storedNotes placeFrom mismatches begun lackNotes frontFrom itemsAt
+  notes-are n s zero k i p q w long y = refl
+  notes-are n s (suc m) k i p q w long y =
+      go (turn row (length rs) s k i p)
+      (λ z. notes-are n s m (nextAt s k) (i + 1) (next row (length rs) s k i p) (q ++ (e ∷ [])) (walk-more s k m w) (ap (λ (x : ℕ). x + 1) (next-length q e i long)) (next-some q p e short y z))
     where
-      len : length (q ++ (e ∷ [])) ≡ i
-      len = next-length q e i long
+      e : Entry
+      e = shownAt s k .entry
 
-      small : length (e .content) ≤ 32
-      small = short e (List·Memᴰ·head refl)
+      es : List Entry
+      es = frontFrom (i + 1) (entriesAt s (nextAt s k) m)
 
-      go : (x : ℕ) → nextNumber row (length rs) p e ≡ x
-          → ((y : ℕ) → Numbers (suc y) (q ++ (e ∷ [])) → notesFrom row (length rs) n (suc y) (i + 1) es ≡ mismatches (resolve rs) n (begun (q ++ (e ∷ [])) es))
-          → after n e es i (nextNumber row (length rs) p e) ≡ mismatch (resolve rs) n (q ++ (e ∷ [])) ++ mismatches (resolve rs) n (begun (q ++ (e ∷ [])) es)
-      go zero z ih =
-          let u = next-none q p e small s z in
-          let a = lacking-entry n (q ++ (e ∷ [])) i (e .term) len (lastTerm-snoc q e) u in
-          let b = lack-are n es (q ++ (e ∷ [])) (i + 1) (ap (λ (y : ℕ). y + 1) len) u in
-          ap (after n e es i) z ∙ (λ j. a j ++ b j)
-      go (suc x) z ih =
-          let m = next-some q p e small s x z in
-          let a = noted-entry n (q ++ (e ∷ [])) i (e .term) len (lastTerm-snoc q e) (suc x) m in
-          let b = ih x m in
-          ap (after n e es i) z ∙ cond-false (eqb (suc x) 0) _ _ (ne-eqb (suc x) 0 (λ w. omega arith)) ∙ (λ j. a j ++ b j)
+      short : length (e .content) ≤ 32
+      short = content-short s k m w
+
+      go : Turn row (length rs) s k i p
+          → ((next row (length rs) s k i p ≡ 0 → ⊥)
+          → notesFrom row (length rs) n s (nextAt s k) m (i + 1) (next row (length rs) s k i p)
+          ≡ mismatches (resolve rs) n (begun (q ++ (e ∷ [])) es))
+          → notesFrom row (length rs) n s k (suc m) i p ≡ mismatches (resolve rs) n (begun q (frontFrom i (entriesAt s k (suc m))))
+      go (gap g) ih =
+          notes-stay row (length rs) s k i p m n (ends-gap row (length rs) s k i p g)
+          ∙ subst (λ (xs : List Entry). lackNotes row (length rs) n i xs ≡ mismatches (resolve rs) n (begun q xs)) (sym (front-cut s k m i g)) refl
+      go (lost g z) ih =
+          notes-stay row (length rs) s k i p m n (ends-lost row (length rs) s k i p g z)
+          ∙ subst (λ (xs : List Entry). lackNotes row (length rs) n i xs ≡ mismatches (resolve rs) n (begun q xs)) (sym (front-suc s k m i g))
+          (lost-are n e es q i long (next-none q p e short y z))
+      go (more g z) ih =
+          notes-go row (length rs) s k i p m n (goes-on row (length rs) s k i p g z)
+          ∙ stored-are n e es q i (next row (length rs) s k i p) long (next-some q p e short y z) (notesFrom row (length rs) n s (nextAt s k) m (i + 1) (next row (length rs) s k i p)) (ih z)
+          ∙ sym (ap (λ (xs : List Entry). mismatches (resolve rs) n (begun q xs)) (front-suc s k m i g))

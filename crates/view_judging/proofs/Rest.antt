@@ -1,7 +1,7 @@
--- The place that the walk along the stored prefixes of a front has come to, turn by turn: to write the front from there on is
--- to write all of it.
+-- What is left to write of a view after the walk along its stored prefixes: to write its front from that place on is to write all
+-- of it.
 -- Assumes nothing.
-use Prim.Native.Nat.{ℕ, zero, suc, _+_, _-_, _<_, _≤_}
+use Prim.Native.Nat.{ℕ, zero, suc, _+_, _-_, _≤_}
 use native.Mathlib.Omega.{arith}
 use mathlib.Core.Path.{_≡_, refl, sym, _∙_, ap, subst}
 use mathlib.Core.Bool.{false}
@@ -11,101 +11,101 @@ use lib.ListN.{length, length-append}
 use borrow.Author.Tests.{ne-eqb}
 use Rattle.model.specs.Sizes.{Bytes}
 use Rattle.model.specs.Entry.{Entry}
-use Rattle.model.specs.Record.{frontFrom, lastFrom}
-use Rattle.record_walk.specs.declared.walk.ShownEntry.{ShownEntry}
-use Rattle.record_scan.specs.Places.{Walk, firstEntry, entriesAt}
-use Rattle.record_walk.specs.Values.{shownEntry}
-use Rattle.record_walk.proofs.Walks.{last-next}
-use Rattle.storage.specs.Tables.{prefixRow, prefixRows, prefixesPart}
+use Rattle.model.specs.Record.{frontFrom, front, lastFrom, lastIndex}
+use Rattle.record_scan.specs.Places.{Walk, firstEntry, indexAt, nextAt, shownAt, entriesAt, itemsAt}
+use Rattle.storage_bytes.specs.Words.{wordAt}
+use Rattle.storage.specs.Tables.{PrefixRow, prefixRow, prefixRows, prefixesPart}
 use Rattle.storage.specs.Values.{numberIndex}
 use Rattle.storage.specs.Decode.{prefixAt, resolve}
-use Rattle.storage.proofs.WellFormed.{rows-index}
-use Rattle.prefix_lookup.specs.Table.{Table, entryValue}
+use Rattle.storage.proofs.WellFormed.{Formed, rows-index, formed-rows}
 use Rattle.prefix_lookup.specs.Prefix.{rowOf, find}
-use Rattle.view_judging.specs.Judging.{nextNumber, placeAt, SameWritten, Rest}
-use Rattle.log_prefix.specs.Extension.{extensionIn, writtenBytes, writtenCount, writtenNumber}
 use Rattle.prefix_lookup.proofs.PrefixLaws.{found}
-use Rattle.prefix_lookup.proofs.TableLaws.{rows-length, rows-at, table-facts}
-use Rattle.view_judging.proofs.Turns.{front-shown, entry-short, walk-next, index-within}
-use Rattle.log_prefix.proofs.Written.{value-length, number-found, count-found, bytes-found, written-cons}
+use Rattle.prefix_lookup.proofs.TableLaws.{rows-length, rows-at}
+use Rattle.log_prefix.specs.Extension.{nextIndex, extensionIn, writtenBytes, writtenCount, writtenNumber}
+use Rattle.log_prefix.proofs.Written.{number-found, count-found, bytes-found, written-cons}
+use Rattle.view_judging.specs.Judging.{nextNumber, placeAt, frontAt, lastAt, Stand, placeFrom, placeIn}
+use Rattle.view_judging.specs.declared.judging.Place.{Place}
+use Rattle.view_judging.proofs.Places.{Turn, gap, lost, more, turn, next, ends-gap, ends-lost, goes-on, place-stays, place-goes, front-suc, content-short, stand-next, first-stands}
 
--- ---- a prefix that is stored: its entry writes nothing
+-- a place of a view of m entries such that what is before it writes nothing
+pub record Rest (h s : Bytes) (m : ℕ) (r : Place) : Type 0 where
+  pub bytes : writtenBytes h (wordAt h 0 2) 0 1 (front (entriesAt s firstEntry m)) ≡ writtenBytes h (wordAt h 0 2) (r .prefix .0) (r .index .0) (frontAt s r)
+  pub counts : writtenCount h (wordAt h 0 2) 0 1 (front (entriesAt s firstEntry m)) ≡ writtenCount h (wordAt h 0 2) (r .prefix .0) (r .index .0) (frontAt s r)
+  pub number : writtenNumber h (wordAt h 0 2) 0 1 (front (entriesAt s firstEntry m)) ≡ writtenNumber h (wordAt h 0 2) (r .prefix .0) (r .index .0) (frontAt s r)
+  pub last : lastIndex (entriesAt s firstEntry m) ≡ lastAt s r
+  pub next : r .index .0 ≡ nextIndex h (r .prefix .0)
 
-module _ (h ps : Bytes) (eh : prefixesPart h ≡ ps) (n p i : ℕ) (e : Entry) (k : ℕ) (ek : k ≡ nextNumber (prefixRow ps) n p e) (z : k ≡ 0 → ⊥) where
-  extension-is : extensionIn h n p e ≡ k
+module _ (h : Bytes) (f : Formed h) (s : Bytes) (m : ℕ) where
+  abbrev count : ℕ
+  count = wordAt h 0 2
+
+  abbrev row : ℕ → PrefixRow
+  row = prefixRow (prefixesPart h)
+
+  -- the number of the next prefix
+  abbrev number-at : ℕ → ℕ → ℕ → ℕ
+  number-at at i p = next row count s at i p
+
+  extension-is : (p : ℕ) (e : Entry) → extensionIn h count p e ≡ nextNumber row count p e
   unfolding extensionIn
-  extension-is = ap (λ (t : Bytes). find (prefixRow t) n (rowOf p 0 e)) eh ∙ sym ek
+  extension-is p e = refl
 
-  there : eqb (extensionIn h n p e) 0 ≡ false
-  there = ap (λ (x : ℕ). eqb x 0) extension-is ∙ ne-eqb k 0 z
+  -- a stored extension is one index longer
+  index-next : (p i k : ℕ) (e : Entry) → p ≤ count → length (e .content) ≤ 32 → i ≡ nextIndex h p
+      → nextNumber row count p e ≡ k → (k ≡ 0 → ⊥) → i + 1 ≡ nextIndex h k
+  index-next p i zero e l short w ek z = absurd (z refl)
+  index-next p i (suc k) e l short w ek z =
+      let g = formed-rows h f in
+      let size = rows-length (prefixesPart h) count in
+      let x = found row (prefixRows (prefixesPart h) count) g (rows-at (prefixesPart h) count) p 0 e (subst (λ (n : ℕ). p ≤ n) (sym size) l) short k
+      (ap (λ (n : ℕ). find row n (rowOf p 0 e)) size ∙ ek) in
+      let a = rows-index (prefixesPart h) count p g l in
+      let b = rows-index (prefixesPart h) count (suc k) g (subst (λ (n : ℕ). suc k ≤ n) size (x .0)) in
+      let c = ap length (x .1) ∙ length-append (prefixAt (resolve (prefixRows (prefixesPart h) count)) p) (e ∷ []) in
+      omega arith
 
-  same-next : (s : Bytes) (m at left at′ left′ : ℕ)
-      → frontFrom i (entriesAt s at left) ≡ e ∷ frontFrom (i + 1) (entriesAt s at′ left′)
-      → SameWritten h n s m (placeAt at left i p)
-      → SameWritten h n s m (placeAt at′ left′ (i + 1) k)
-  same-next s m at left at′ left′ steps w =
-      let R = frontFrom (i + 1) (entriesAt s at′ left′) in
-      let u = written-cons h n p i e R in
-      let b = bytes-found h n p i e there in
-      let c = count-found h n p e there in
-      let d = number-found h n p e there ∙ extension-is in
-      record {
-        bytes = w .bytes ∙ ap (writtenBytes h n p i) steps ∙ u .0 ∙ (λ j. writtenBytes (b j) (c j) (d j) (i + 1) R);
-        counts = w .counts ∙ ap (writtenCount h n p i) steps ∙ u .1 ∙ (λ j. writtenCount (b j) (c j) (d j) (i + 1) R);
-        number = w .number ∙ ap (writtenNumber h n p i) steps ∙ u .2 ∙ (λ j. writtenNumber (b j) (c j) (d j) (i + 1) R);
-      }
-
--- the index after it is one more
-index-next : (ps : Bytes) (n p i : ℕ) (e : Entry) (k : ℕ) → Table ps n → p ≤ n → length (e .content) ≤ 32 → i ≡ numberIndex ps p + 1
-    → k ≡ nextNumber (prefixRow ps) n p e → (k ≡ 0 → ⊥) → i + 1 ≡ numberIndex ps k + 1
-index-next ps n p i e zero t l short w ek z = absurd (z refl)
-index-next ps n p i e (suc k) t l short w ek z =
-    let f = table-facts ps n t in
-    let size = rows-length ps n in
-    let x = found (prefixRow ps) (prefixRows ps n) f (rows-at ps n) p 0 e (subst (λ (m : ℕ). p ≤ m) (sym size) l) short k
-    (ap (λ (m : ℕ). find (prefixRow ps) m (rowOf p 0 e)) size ∙ sym ek) in
-    let a = rows-index ps n p f l in
-    let b = rows-index ps n (suc k) f (subst (λ (m : ℕ). suc k ≤ m) size (x .0)) in
-    let c = ap length (x .1) ∙ length-append (prefixAt (resolve (prefixRows ps n)) p) (e ∷ []) in
-    omega arith
-
--- the last index, past an entry as it is read
-pub last-shown : (s : Bytes) (k n i m : ℕ) (e : ShownEntry) → 0 < n → e ≡ shownEntry s k → e .index .0 ≡ i
-    → lastFrom m (entriesAt s k n) ≡ lastFrom i (entriesAt s (e .next) (n - 1))
-last-shown s k n i m e h q g =
-    last-next s k n m i refl h (sym g ∙ ap (λ (x : ShownEntry). x .index .0) q)
-    ∙ ap (λ (x : ℕ). lastFrom i (entriesAt s x (n - 1))) (sym (ap (λ (x : ShownEntry). x .next) q))
-
--- ---- the place, turn by turn
-
-module _ (ps : Bytes) (count : ℕ) (t : Table ps count) (s : Bytes) (n : ℕ) where
-  first : 1 ≡ numberIndex ps 0 + 1
-  unfolding numberIndex
-  first = refl
-
-  pub rest-starts : Walk s firstEntry n → Rest ps count s n (placeAt firstEntry n 1 0)
-  rest-starts w =
-      record {
-        same = λ h e. record { bytes = refl; counts = refl; number = refl };
-        last = refl;
-        stands = record { walk = w; number = omega arith; positive = omega arith; small = omega arith };
-        next = first;
-      }
+  last-suc : (at n d : ℕ) → lastFrom d (entriesAt s at (suc n)) ≡ lastFrom (indexAt s at) (entriesAt s (nextAt s at) n)
+  unfolding lastFrom itemsAt
+  last-suc at n d = refl
 
   -- past an entry whose prefix is stored
-  pub rest-next : (at left i p : ℕ) → Rest ps count s n (placeAt at left i p) → 0 < left → (e : ShownEntry) → e ≡ shownEntry s at → e .index .0 ≡ i
-      → (k : ℕ) → k ≡ nextNumber (prefixRow ps) count p (entryValue e) → (k ≡ 0 → ⊥) → k ≤ count
-      → Rest ps count s n (placeAt (e .next) (left - 1) (i + 1) k)
-  rest-next at left i p w h e q g k ek z nk =
+  rest-next : (n at i p : ℕ) → Stand s count (placeAt at (suc n) i p) → Rest h s m (placeAt at (suc n) i p) → indexAt s at ≡ i → (number-at at i p ≡ 0 → ⊥)
+      → Rest h s m (placeAt (nextAt s at) n (i + 1) (number-at at i p))
+  rest-next n at i p st w g z =
+      let e = shownAt s at .entry in
+      let R = frontFrom (i + 1) (entriesAt s (nextAt s at) n) in
+      let there : eqb (extensionIn h count p e) 0 ≡ false = ap (λ (x : ℕ). eqb x 0) (extension-is p e) ∙ ne-eqb (number-at at i p) 0 z in
+      let steps = front-suc s at n i g in
+      let u = written-cons h count p i e R in
+      let b = bytes-found h count p i e there in
+      let c = count-found h count p e there in
+      let d = number-found h count p e there ∙ extension-is p e in
       record {
-        same = λ u eu. same-next u ps eu count p i (entryValue e) k ek z s n at left (e .next) (left - 1) (front-shown s at left i e (w .stands .walk) h q g) (w .same u eu);
-        last = w .last ∙ last-shown s at left i (i - 1) e h q g ∙ ap (λ (x : ℕ). lastFrom x (entriesAt s (e .next) (left - 1))) (let y : i ≡ i + 1 - 1 = omega arith in y);
-        stands = record {
-          walk = walk-next s at left i (w .stands .walk) h e q;
-          number = nk;
-          positive = omega arith;
-          small = (let x = index-within s at left i (w .stands .walk) h e q g in omega arith);
-        };
-        next = index-next ps count p i (entryValue e) k t (w .stands .number)
-            (subst (λ (x : ℕ). x ≤ 32) (sym (value-length e)) (entry-short s at left i (w .stands .walk) h e q)) (w .next) ek z;
+        bytes = w .bytes ∙ ap (writtenBytes h count p i) steps ∙ u .0 ∙ (λ j. writtenBytes (b j) (c j) (d j) (i + 1) R);
+        counts = w .counts ∙ ap (writtenCount h count p i) steps ∙ u .1 ∙ (λ j. writtenCount (b j) (c j) (d j) (i + 1) R);
+        number = w .number ∙ ap (writtenNumber h count p i) steps ∙ u .2 ∙ (λ j. writtenNumber (b j) (c j) (d j) (i + 1) R);
+        last = w .last ∙ last-suc at n (i - 1) ∙ ap (λ (x : ℕ). lastFrom x (entriesAt s (nextAt s at) n)) (let y : indexAt s at ≡ i + 1 - 1 = omega arith in y);
+        next = index-next p i (number-at at i p) e (st .number) (content-short s at n (st .walk)) (w .next) refl z;
       }
+
+  rest-at : (n at i p : ℕ) → Stand s count (placeAt at n i p) → Rest h s m (placeAt at n i p) → Rest h s m (placeFrom row count s at n i p)
+  unfolding placeFrom
+  rest-at zero at i p st w = w
+  rest-at (suc n) at i p st w = go (turn row count s at i p) (rest-at n (nextAt s at) (i + 1) (number-at at i p))
+    where
+      go : Turn row count s at i p
+          → (Stand s count (placeAt (nextAt s at) n (i + 1) (number-at at i p)) → Rest h s m (placeAt (nextAt s at) n (i + 1) (number-at at i p))
+          → Rest h s m (placeFrom row count s (nextAt s at) n (i + 1) (number-at at i p)))
+          → Rest h s m (placeFrom row count s at (suc n) i p)
+      go (gap g) ih = subst (Rest h s m) (sym (place-stays row count s at i p n (ends-gap row count s at i p g))) w
+      go (lost g z) ih = subst (Rest h s m) (sym (place-stays row count s at i p n (ends-lost row count s at i p g z))) w
+      go (more g z) ih =
+          subst (Rest h s m) (sym (place-goes row count s at i p n (goes-on row count s at i p g z))) (ih (stand-next row count s n at i p st g) (rest-next n at i p st w g z))
+
+  -- the walk's own place is one
+  pub rest-of : Walk s firstEntry m → Rest h s m (placeIn h s m)
+  unfolding placeIn
+  rest-of w = rest-at m firstEntry 1 0 (first-stands s count m w) (record { bytes = refl; counts = refl; number = refl; last = refl; next = first })
+    where
+      first : 1 ≡ nextIndex h 0
+      first = (unfold numberIndex in refl)

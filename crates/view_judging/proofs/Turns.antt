@@ -1,51 +1,36 @@
 -- The turns of the judging walks along a front, each from what was read, and what an entry as it is read is to the front.
 -- Assumes nothing.
-use Prim.Native.Nat.{ℕ, _+_, _-_, _<_, _≤_}
+use Prim.Native.Nat.{ℕ, suc, _+_, _-_, _<_, _≤_}
 use native.Mathlib.Omega.{arith}
-use mathlib.Core.Path.{_≡_, refl, sym, _∙_, ap, subst}
+use mathlib.Core.Path.{_≡_, refl, sym, _∙_, ap, subst, subst₂}
 use mathlib.Core.Bool.{Bool, true, false, not, _&&_}
-use mathlib.Core.Logic.{⊎-elim}
 use mathlib.Core.List.{List, [], _∷_, _++_}
 use lib.Dec.{eqb}
 use lib.ListN.{length, replicate, length-append, length-replicate}
 use borrow.Author.Tests.{eq-eqb, ne-eqb}
 use Rattle.model.specs.Sizes.{Bytes}
 use Rattle.model.specs.Entry.{Entry}
-use Rattle.model.specs.Record.{frontFrom, front}
+use Rattle.model.specs.Record.{frontFrom}
 use Rattle.model.specs.History.{Finding}
 use Rattle.record_walk.specs.declared.walk.ShownEntry.{ShownEntry}
 use Rattle.record_scan.specs.Places.{Walk, firstEntry, indexAt, termAt, lengthAt, contentAt, nextAt, shownAt, entriesAt}
 use Rattle.record_walk.specs.Values.{shownEntry}
 use Rattle.bit_fields.proofs.Widths.{bytes-length}
-use Rattle.record_walk.proofs.Walks.{entries-next, entries-none, next-walk, walk-entered, here, entry-content}
-use Rattle.model.proofs.Tests.{tf, cond-true, cond-false}
+use Rattle.record_walk.proofs.Walks.{next-walk, walk-entered, here, entry-content}
+use Rattle.model.proofs.Tests.{tf}
 use Rattle.storage.specs.Tables.{PrefixRow, prefixRow}
 use Rattle.storage.proofs.RowLaws.{bytes-take}
 use Rattle.prefix_lookup.specs.Table.{entryValue}
 use Rattle.log_violation.specs.Violation.{noteHeld, noteBytes, heldAll, bytesAll}
-use Rattle.prefix_lookup.specs.Prefix.{storedOf, searchFrom, find, isOf, first}
+use Rattle.prefix_lookup.specs.Prefix.{storedOf, first}
 use Rattle.prefix_lookup.specs.declared.lookup.Stored.{Stored}
 use Rattle.units.specs.declared.LogPrefixWitness.{LogPrefixWitness}
 use Rattle.log_comparison.specs.Comparison.{sameFrom}
-use Rattle.view_judging.specs.Judging.{differs, other, isRemembered, noteOf, lackNotes, nextNumber, notesFrom, missingFrom, placeAt, Rest, ReachedAs, LackingAs, JudgedAs}
+use Rattle.view_judging.specs.Judging.{differs, other, isRemembered, noteOf, lackNotes, nextNumber, placeAt, frontAt, Stand, endsAt, placeFrom, storedNotes, ReachedAs, LackingAs, JudgedAs}
 use Rattle.view_judging.specs.declared.judging.Place.{Place}
-use Rattle.prefix_lookup.proofs.PrefixLaws.{searched}
 use Rattle.prefix_lookup.proofs.StoredLaws.{stored-number, stored-nothing}
 use Rattle.log_violation.proofs.ViolationLaws.{all-length, held-append, bytes-append, held-few}
-
--- a number found is one of the rows
-search-within : (test : ℕ → Bool) (k n : ℕ) → searchFrom test k (n - k) ≤ n
-search-within test k n =
-    ⊎-elim (λ h. let a = h .number in let b = h .before in let c = h .after in omega arith)
-    (λ m. let a = m .isZero in omega arith) (searched test k (n - k))
-
-pub first-within : (row : ℕ → PrefixRow) (n i t : ℕ) → first row n i t ≤ n
-unfolding first
-first-within row n i t = search-within (λ k. isOf i t (row k)) (i - 1) n
-
-pub find-within : (row : ℕ → PrefixRow) (n : ℕ) (r : PrefixRow) → find row n r ≤ n
-unfolding find
-find-within row n r = search-within _ (r .parent) n
+use Rattle.view_judging.proofs.Places.{front-suc, front-cut, front-zero, ends-gap, ends-lost, goes-on, place-stays, place-goes, stored-stays, stored-goes, stand-next, first-stands}
 
 -- ---- whether another prefix is remembered
 
@@ -96,17 +81,17 @@ entry-read s k e q h =
 -- ---- the front, entry by entry
 
 module _ (s : Bytes) (k n i : ℕ) where
+  one-more : 0 < n → n ≡ suc (n - 1)
+  one-more h = omega arith
+
   pub front-more : 0 < n → indexAt s k ≡ i → frontFrom i (entriesAt s k n) ≡ shownAt s k .entry ∷ frontFrom (i + 1) (entriesAt s (nextAt s k) (n - 1))
-  unfolding frontFrom
-  front-more h e = ap (frontFrom i) (entries-next s k n h) ∙ cond-true (eqb (indexAt s k) i) _ [] (eq-eqb (indexAt s k) i e)
+  front-more h e = ap (λ (m : ℕ). frontFrom i (entriesAt s k m)) (one-more h) ∙ front-suc s k (n - 1) i e
 
   pub front-stop : 0 < n → (indexAt s k ≡ i → ⊥) → frontFrom i (entriesAt s k n) ≡ []
-  unfolding frontFrom
-  front-stop h e = ap (frontFrom i) (entries-next s k n h) ∙ cond-false (eqb (indexAt s k) i) _ [] (ne-eqb (indexAt s k) i e)
+  front-stop h e = ap (λ (m : ℕ). frontFrom i (entriesAt s k m)) (one-more h) ∙ front-cut s k (n - 1) i e
 
   pub front-none : n ≤ 0 → frontFrom i (entriesAt s k n) ≡ []
-  unfolding frontFrom
-  front-none h = ap (frontFrom i) (entries-none s k n h)
+  front-none h = ap (λ (m : ℕ). frontFrom i (entriesAt s k m)) (let z : n ≡ 0 = omega arith in z) ∙ front-zero s k i
 
 -- the front goes on with the entry as it is read
 pub front-shown : (s : Bytes) (k n i : ℕ) (e : ShownEntry) → Walk s k n → 0 < n → e ≡ shownEntry s k → e .index .0 ≡ i
@@ -130,41 +115,6 @@ pub note-other-one : (b : Bool) (n i t held r : ℕ) (u v : Bytes) → b ≡ tru
 unfolding heldAll bytesAll
 note-other-one true n i t held r u v e w = w
 note-other-one false n i t held r u v e w = absurd (tf (sym e))
-
--- ---- what a front comes to, entry by entry
-
-module _ (row : ℕ → PrefixRow) (n node p i : ℕ) where
-  pub notes-none : notesFrom row n node p i [] ≡ lackNotes row n node i []
-  unfolding notesFrom lackNotes
-  notes-none = refl
-
-  pub missing-none : missingFrom row n p [] ≡ 0
-  unfolding missingFrom
-  missing-none = refl
-
-  module _ (e : Entry) (es : List Entry) where
-    -- its prefix is not stored, and none after it
-    pub notes-lost : nextNumber row n p e ≡ 0 → notesFrom row n node p i (e ∷ es) ≡ lackNotes row n node i (e ∷ es)
-    unfolding notesFrom
-    notes-lost z = cond-true (eqb (nextNumber row n p e) 0) _ _ (eq-eqb _ 0 z)
-
-    pub missing-lost : nextNumber row n p e ≡ 0 → missingFrom row n p (e ∷ es) ≡ length (e ∷ es)
-    unfolding missingFrom
-    missing-lost z = cond-true (eqb (nextNumber row n p e) 0) _ _ (eq-eqb _ 0 z)
-
-    -- its prefix is stored
-    pub notes-stored : (nextNumber row n p e ≡ 0 → ⊥) → notesFrom row n node p i (e ∷ es)
-        ≡ noteOf (other row n i (e .term) (nextNumber row n p e)) node i (e .term) ++ notesFrom row n node (nextNumber row n p e) (i + 1) es
-    unfolding notesFrom
-    notes-stored z = cond-false (eqb (nextNumber row n p e) 0) _ _ (ne-eqb _ 0 z)
-
-    pub missing-stored : (nextNumber row n p e ≡ 0 → ⊥) → missingFrom row n p (e ∷ es) ≡ missingFrom row n (nextNumber row n p e) es
-    unfolding missingFrom
-    missing-stored z = cond-false (eqb (nextNumber row n p e) 0) _ _ (ne-eqb _ 0 z)
-
-    pub lack-cons : lackNotes row n node i (e ∷ es) ≡ noteOf (isRemembered row n i (e .term)) node i (e .term) ++ lackNotes row n node (i + 1) es
-    unfolding lackNotes
-    lack-cons = refl
 
 -- ---- one note more, and the rest
 
@@ -206,73 +156,98 @@ module _ (s : Bytes) (at left i : ℕ) (w : Walk s at left) (h : 0 < left) (e : 
 -- ---- the walk along the stored prefixes
 
 pub record Judging (ps : Bytes) (count : ℕ) (s : Bytes) (entries node : ℕ) (t₀ : Bytes) (held : ℕ) (t : Bytes) (at left i p n : ℕ) : Type 0 where
-  pub lacks : missingFrom (prefixRow ps) count 0 (front (entriesAt s firstEntry entries)) ≡ missingFrom (prefixRow ps) count p (frontFrom i (entriesAt s at left))
-  pub holds : heldAll t₀ held (notesFrom (prefixRow ps) count node 0 1 (front (entriesAt s firstEntry entries)))
-      ≡ heldAll t n (notesFrom (prefixRow ps) count node p i (frontFrom i (entriesAt s at left)))
-  pub table : bytesAll t₀ held (notesFrom (prefixRow ps) count node 0 1 (front (entriesAt s firstEntry entries)))
-      ≡ bytesAll t n (notesFrom (prefixRow ps) count node p i (frontFrom i (entriesAt s at left)))
+  pub place : placeFrom (prefixRow ps) count s firstEntry entries 1 0 ≡ placeFrom (prefixRow ps) count s at left i p
+  pub holds : heldAll t₀ held (storedNotes (prefixRow ps) count node s firstEntry entries 1 0) ≡ heldAll t n (storedNotes (prefixRow ps) count node s at left i p)
+  pub table : bytesAll t₀ held (storedNotes (prefixRow ps) count node s firstEntry entries 1 0) ≡ bytesAll t n (storedNotes (prefixRow ps) count node s at left i p)
   pub noting : Noting t n
+  pub stands : Stand s count (placeAt at left i p)
 
 module _ (ps : Bytes) (count : ℕ) (s : Bytes) (entries node : ℕ) (t₀ : Bytes) (held : ℕ) where
-  pub judging-starts : held ≤ 129 → length t₀ ≡ 1024 → Judging ps count s entries node t₀ held t₀ firstEntry entries 1 0 held
-  judging-starts h l = record { lacks = refl; holds = refl; table = refl; noting = record { few = h; long = l } }
+  pub judging-starts : Walk s firstEntry entries → held ≤ 129 → length t₀ ≡ 1024 → Judging ps count s entries node t₀ held t₀ firstEntry entries 1 0 held
+  judging-starts w h l = record { place = refl; holds = refl; table = refl; noting = record { few = h; long = l }; stands = first-stands s count entries w }
 
-  module _ (t : Bytes) (at left i p n : ℕ) (j : Judging ps count s entries node t₀ held t at left i p n) (r : Rest ps count s entries (placeAt at left i p)) where
-    abbrev L : List Entry
-    L = frontFrom i (entriesAt s at left)
-
-    reached : missingFrom (prefixRow ps) count p L ≡ length L → notesFrom (prefixRow ps) count node p i L ≡ lackNotes (prefixRow ps) count node i L
+  module _ (t : Bytes) (at left i p n : ℕ) (j : Judging ps count s entries node t₀ held t at left i p n) where
+    ends : placeFrom (prefixRow ps) count s at left i p ≡ placeAt at left i p → storedNotes (prefixRow ps) count node s at left i p ≡ []
         → ReachedAs ps count s entries node t₀ held n (placeAt at left i p) t
-    reached m k =
+    unfolding heldAll bytesAll
+    ends e z =
         record {
-          lack = j .lacks ∙ m;
-          holds = j .holds ∙ ap (heldAll t n) k;
-          table = j .table ∙ ap (bytesAll t n) k;
-          few = j .noting .few;
-          long = j .noting .long;
-          rest = r;
+          place = sym (j .place ∙ e);
+          holds = sym (j .holds ∙ ap (heldAll t n) z);
+          table = sym (j .table ∙ ap (bytesAll t n) z);
         }
 
-    pub judging-ends : L ≡ [] → ReachedAs ps count s entries node t₀ held n (placeAt at left i p) t
-    judging-ends e =
-        reached (ap (missingFrom (prefixRow ps) count p) e ∙ missing-none (prefixRow ps) count node p i ∙ sym (ap length e))
-        (ap (notesFrom (prefixRow ps) count node p i) e ∙ notes-none (prefixRow ps) count node p i ∙ sym (ap (lackNotes (prefixRow ps) count node i) e))
+    pub judging-none : left ≤ 0 → ReachedAs ps count s entries node t₀ held n (placeAt at left i p) t
+    unfolding placeFrom storedNotes
+    judging-none l =
+        let z : left ≡ 0 = omega arith in
+        ends (ap (λ (m : ℕ). placeFrom (prefixRow ps) count s at m i p) z ∙ ap (λ (m : ℕ). placeAt at m i p) (sym z)) (ap (λ (m : ℕ). storedNotes (prefixRow ps) count node s at m i p) z)
 
-    module _ (h : 0 < left) (e : ShownEntry) (q : e ≡ shownEntry s at) (g : e .index .0 ≡ i) where
-      abbrev E : Entry
-      E = entryValue e
+    module _ (h : 0 < left) where
+      more : left ≡ suc (left - 1)
+      more = omega arith
 
-      steps : L ≡ E ∷ frontFrom (i + 1) (entriesAt s (e .next) (left - 1))
-      steps = front-shown s at left i e (r .stands .walk) h q g
+      ends-here : endsAt (prefixRow ps) count s at i p ≡ true → ReachedAs ps count s entries node t₀ held n (placeAt at left i p) t
+      ends-here e =
+          ends
+          (ap (λ (m : ℕ). placeFrom (prefixRow ps) count s at m i p) more ∙ place-stays (prefixRow ps) count s at i p (left - 1) e ∙ ap (λ (m : ℕ). placeAt at m i p) (sym more))
+          (ap (λ (m : ℕ). storedNotes (prefixRow ps) count node s at m i p) more ∙ stored-stays (prefixRow ps) count s at i p (left - 1) node e)
 
-      pub judging-lost : nextNumber (prefixRow ps) count p E ≡ 0 → ReachedAs ps count s entries node t₀ held n (placeAt at left i p) t
-      judging-lost z =
-          reached (ap (missingFrom (prefixRow ps) count p) steps ∙ missing-lost (prefixRow ps) count node p i E _ z ∙ sym (ap length steps))
-          (ap (notesFrom (prefixRow ps) count node p i) steps ∙ notes-lost (prefixRow ps) count node p i E _ z ∙ sym (ap (lackNotes (prefixRow ps) count node i) steps))
+      module _ (e : ShownEntry) (q : e ≡ shownEntry s at) where
+        index-read : e .index .0 ≡ indexAt s at
+        index-read = ap (λ (x : ShownEntry). x .index .0) q
 
-      pub judging-next : (k : ℕ) → k ≡ nextNumber (prefixRow ps) count p E → (nextNumber (prefixRow ps) count p E ≡ 0 → ⊥)
-          → (b : Bool) → b ≡ other (prefixRow ps) count (e .index .0) (e .term .0) k
-          → (n′ : ℕ) (t′ : Bytes) → (n′ ≡ heldAll t n (noteOf b node (e .index .0) (e .term .0))) × (t′ ≡ bytesAll t n (noteOf b node (e .index .0) (e .term .0)))
-          → Judging ps count s entries node t₀ held t′ (e .next) (left - 1) (i + 1) k n′
-      judging-next k ek z b eb n′ t′ en =
-          record {
-            lacks = j .lacks ∙ ap (missingFrom (prefixRow ps) count p) steps ∙ missing-stored (prefixRow ps) count node p i E F z
-                ∙ ap (λ (x : ℕ). missingFrom (prefixRow ps) count x F) (sym ek);
-            holds = j .holds ∙ ap (heldAll t n) noted ∙ held-then t n _ _ n′ t′ en;
-            table = j .table ∙ ap (bytesAll t n) noted ∙ bytes-then t n _ _ n′ t′ en;
-            noting = noting-next t n _ n′ t′ (j .noting) en;
-          }
-        where
-          F : List Entry
-          F = frontFrom (i + 1) (entriesAt s (e .next) (left - 1))
+        pub judging-gap : (e .index .0 ≡ i → ⊥) → ReachedAs ps count s entries node t₀ held n (placeAt at left i p) t
+        judging-gap g = ends-here (ends-gap (prefixRow ps) count s at i p (λ x. g (index-read ∙ x)))
 
-          noted : notesFrom (prefixRow ps) count node p i L ≡ noteOf b node (e .index .0) (e .term .0) ++ notesFrom (prefixRow ps) count node k (i + 1) F
-          noted =
-              ap (notesFrom (prefixRow ps) count node p i) steps ∙ notes-stored (prefixRow ps) count node p i E F z
-              ∙ (λ x. noteOf (other (prefixRow ps) count (sym g x) (e .term .0) (sym ek x)) node (sym g x) (e .term .0) ++ notesFrom (prefixRow ps) count node (sym ek x) (i + 1) F)
-              ∙ ap (λ (x : Bool). noteOf x node (e .index .0) (e .term .0) ++ notesFrom (prefixRow ps) count node k (i + 1) F) (sym eb)
+        module _ (g : e .index .0 ≡ i) where
+          here-index : indexAt s at ≡ i
+          here-index = sym index-read ∙ g
+
+          value : entryValue e ≡ shownAt s at .entry
+          value = entry-read s at e q (here s at left (j .stands .walk) h .short)
+
+          pub judging-lost : nextNumber (prefixRow ps) count p (entryValue e) ≡ 0 → ReachedAs ps count s entries node t₀ held n (placeAt at left i p) t
+          judging-lost z = ends-here (ends-lost (prefixRow ps) count s at i p here-index (ap (nextNumber (prefixRow ps) count p) (sym value) ∙ z))
+
+          pub judging-next : (k : ℕ) → k ≡ nextNumber (prefixRow ps) count p (entryValue e) → (nextNumber (prefixRow ps) count p (entryValue e) ≡ 0 → ⊥)
+              → (b : Bool) → b ≡ other (prefixRow ps) count (e .index .0) (e .term .0) k
+              → (n′ : ℕ) (t′ : Bytes) → (n′ ≡ heldAll t n (noteOf b node (e .index .0) (e .term .0))) × (t′ ≡ bytesAll t n (noteOf b node (e .index .0) (e .term .0)))
+              → Judging ps count s entries node t₀ held t′ (e .next) (left - 1) (i + 1) k n′
+          judging-next k ek z b eb n′ t′ en =
+              record {
+                place = j .place ∙ ap (λ (m : ℕ). placeFrom (prefixRow ps) count s at m i p) more ∙ place-goes (prefixRow ps) count s at i p (left - 1) goes
+                    ∙ (λ x. placeFrom (prefixRow ps) count s (after x) (left - 1) (i + 1) (number x));
+                holds = j .holds ∙ ap (heldAll t n) noted ∙ held-then t n _ _ n′ t′ en;
+                table = j .table ∙ ap (bytesAll t n) noted ∙ bytes-then t n _ _ n′ t′ en;
+                noting = noting-next t n _ n′ t′ (j .noting) en;
+                stands = subst₂ (λ (x y : ℕ). Stand s count (placeAt x (left - 1) (i + 1) y)) after number
+                    (stand-next (prefixRow ps) count s (left - 1) at i p (subst (λ (m : ℕ). Stand s count (placeAt at m i p)) more (j .stands)) here-index);
+              }
+            where
+              number : nextNumber (prefixRow ps) count p (shownAt s at .entry) ≡ k
+              number = ap (nextNumber (prefixRow ps) count p) (sym value) ∙ sym ek
+
+              after : nextAt s at ≡ e .next
+              after = sym (ap (λ (x : ShownEntry). x .next) q)
+
+              goes : endsAt (prefixRow ps) count s at i p ≡ false
+              goes = goes-on (prefixRow ps) count s at i p here-index (λ x. z (ap (nextNumber (prefixRow ps) count p) value ∙ x))
+
+              noted : storedNotes (prefixRow ps) count node s at left i p
+                  ≡ noteOf b node (e .index .0) (e .term .0) ++ storedNotes (prefixRow ps) count node s (e .next) (left - 1) (i + 1) k
+              noted =
+                  ap (λ (m : ℕ). storedNotes (prefixRow ps) count node s at m i p) more ∙ stored-goes (prefixRow ps) count s at i p (left - 1) node goes
+                  ∙ (let term = sym (ap (λ (x : ShownEntry). x .term .0) q) in
+                  λ x. noteOf (other (prefixRow ps) count (sym g x) (term x) (number x)) node (sym g x) (term x) ++ storedNotes (prefixRow ps) count node s (after x) (left - 1) (i + 1) (number x))
+                  ∙ ap (λ (y : Bool). noteOf y node (e .index .0) (e .term .0) ++ storedNotes (prefixRow ps) count node s (e .next) (left - 1) (i + 1) k) (sym eb)
 
 -- ---- the walk along the rest
+
+lack-cons : (row : ℕ → PrefixRow) (n node i : ℕ) (e : Entry) (es : List Entry)
+    → lackNotes row n node i (e ∷ es) ≡ noteOf (isRemembered row n i (e .term)) node i (e .term) ++ lackNotes row n node (i + 1) es
+unfolding lackNotes
+lack-cons row n node i e es = refl
 
 pub record Lacking (ps : Bytes) (count : ℕ) (s : Bytes) (at₀ left₀ i₀ node : ℕ) (t₀ : Bytes) (held : ℕ) (t : Bytes) (at left i missing n : ℕ) : Type 0 where
   pub lacks : length (frontFrom i₀ (entriesAt s at₀ left₀)) ≡ missing + length (frontFrom i (entriesAt s at left))
@@ -304,9 +279,7 @@ module _ (ps : Bytes) (count : ℕ) (s : Bytes) (at₀ left₀ i₀ node : ℕ) 
     lacking-ends e =
         record {
           lack = (let a = j .lacks in let b = ap length e in omega arith);
-          most = (let a = j .below in let b = j .small in omega arith);
           holds = sym (j .holds ∙ ap (λ (es : List Entry). heldAll t n (lackNotes (prefixRow ps) count node i es)) e);
-          few = j .noting .few;
           table = sym (j .table ∙ ap (λ (es : List Entry). bytesAll t n (lackNotes (prefixRow ps) count node i es)) e);
         }
 
@@ -334,7 +307,7 @@ module _ (ps : Bytes) (count : ℕ) (s : Bytes) (at₀ left₀ i₀ node : ℕ) 
         noted : lackNotes (prefixRow ps) count node i (frontFrom i (entriesAt s at left))
             ≡ noteOf b node (e .index .0) (e .term .0) ++ lackNotes (prefixRow ps) count node (i + 1) F
         noted =
-            ap (lackNotes (prefixRow ps) count node i) steps ∙ lack-cons (prefixRow ps) count node 0 i (entryValue e) F
+            ap (lackNotes (prefixRow ps) count node i) steps ∙ lack-cons (prefixRow ps) count node i (entryValue e) F
             ∙ (λ x. noteOf (isRemembered (prefixRow ps) count (sym g x) (e .term .0)) node (sym g x) (e .term .0) ++ lackNotes (prefixRow ps) count node (i + 1) F)
             ∙ ap (λ (x : Bool). noteOf x node (e .index .0) (e .term .0) ++ lackNotes (prefixRow ps) count node (i + 1) F) (sym eb)
 
@@ -345,11 +318,14 @@ pub judged-both : (ps : Bytes) (count : ℕ) (s : Bytes) (n node : ℕ) (t : Byt
     → JudgedAs ps count s n node t held missing held₂ r t₂
 judged-both ps count s n node t held held₁ r t₁ a missing held₂ t₂ b =
     record {
-      lack = b .lack ∙ sym (a .lack);
-      most = b .most;
-      holds = b .holds ∙ sym (a .holds);
-      few = b .few;
-      table = b .table ∙ sym (a .table);
-      place = b .lack;
-      rest = a .rest;
+      place = a .place;
+      lack = b .lack;
+      holds = b .holds ∙ sym (held-then t held N (R r) held₁ t₁ (a .holds, a .table)) ∙ ap (λ (x : Place). heldAll t held (N ++ R x)) (a .place);
+      table = b .table ∙ sym (bytes-then t held N (R r) held₁ t₁ (a .holds, a .table)) ∙ ap (λ (x : Place). bytesAll t held (N ++ R x)) (a .place);
     }
+  where
+    N : List Finding
+    N = storedNotes (prefixRow ps) count node s firstEntry n 1 0
+
+    R : Place → List Finding
+    R x = lackNotes (prefixRow ps) count node (x .index .0) (frontAt s x)

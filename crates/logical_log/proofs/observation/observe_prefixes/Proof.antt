@@ -5,7 +5,7 @@ use native.Mathlib.Omega.{arith}
 use lib.ListN.{length}
 use borrow.Author.Needs.{needs}
 use Rattle.storage.proofs.WellFormed.{formed}
-use Rattle.logical_log.proofs.Whole.{observed-six, observed-seven, observed-ok, observed-room, table-length, written-length}
+use Rattle.logical_log.proofs.Whole.{total-small, observed-six, observed-seven, observed-ok, observed-room, table-length, written-length}
 use Rattle.logical_log.proofs.observation.observe_prefixes.Statement.{statement}
 use Rattle.logical_log.proofs.observation.observe_prefixes.Tie as tie
 
@@ -22,7 +22,10 @@ prefix-count-requires c κs =
     omega arith
 
 add-total : tie.Need-add-total
-add-total c = search needs
+add-total c =
+    let s = c .before .before .before .before .before .before .before .before .before in
+    let x = total-small (s .args .limit) (s .args .history .now) (s .args .view .now) (s .args .entries) (s .args .node .0) _ _ _ _ _ (s .pre .0) (c .before .before .before .before .judge-view .ensures) (c .before .prefix-count .ensures .is) in
+    omega arith
 
 same-length : tie.Need-same-length
 same-length c = search needs
@@ -30,7 +33,7 @@ same-length c = search needs
 returns : tie.Need-returns
 returns c =
     let s = c .before .before .before .before .before .before .before .before .before .before in
-    observed-six (s .args .limit) (s .args .history .now) (s .args .view .now) (s .args .entries) (s .args .node .0) _ _ _ _ _ (c .before .before .before .before .before .judge-view .ensures) (c .before .before .prefix-count .ensures .is) (c .if1 .taken)
+    observed-six (s .args .limit) (s .args .history .now) (s .args .view .now) (s .args .entries) (s .args .node .0) _ _ _ _ _ (s .pre .0) (c .before .before .before .before .before .judge-view .ensures) (c .before .before .prefix-count .ensures .is) (c .if1 .taken)
 
 same-length-2 : tie.Need-same-length-2
 same-length-2 c = search needs
@@ -38,7 +41,7 @@ same-length-2 c = search needs
 returns-2 : tie.Need-returns-2
 returns-2 c =
     let s = c .before .before .before .before .before .before .before .before .before .before .before in
-    observed-seven (s .args .limit) (s .args .history .now) (s .args .view .now) (s .args .entries) (s .args .node .0) _ _ _ _ _ (c .before .before .before .before .before .before .judge-view .ensures) (c .before .before .before .prefix-count .ensures .is) (c .before .if1 .left) (c .if2 .taken)
+    observed-seven (s .args .limit) (s .args .history .now) (s .args .view .now) (s .args .entries) (s .args .node .0) _ _ _ _ _ (s .pre .0) (c .before .before .before .before .before .before .judge-view .ensures) (c .before .before .before .prefix-count .ensures .is) (c .before .if1 .left) (c .if2 .taken)
 
 slice-aggregate-write-view : tie.Need-slice-aggregate-write-view
 slice-aggregate-write-view c = search needs
@@ -47,7 +50,7 @@ write-view-requires : tie.Need-write-view-requires
 write-view-requires c κs =
     let s = c .before .before .before .before .before .before .before .before .before .before .before .before .before .before in
     let j = c .before .before .before .before .before .before .before .before .before .judge-view .ensures in (
-      observed-room (s .args .limit) (s .args .history .now) (s .args .view .now) (s .args .entries) (s .args .node .0) _ _ _ _ _ j (c .before .before .before .before .before .before .prefix-count .ensures .is) (c .before .before .before .before .if1 .left) (s .pre .0) (s .pre .1),
+      observed-room (s .args .limit) (s .args .history .now) (s .args .view .now) (s .args .entries) (s .args .node .0) _ _ _ _ _ (s .pre .0) j (c .before .before .before .before .before .before .prefix-count .ensures .is) (c .before .before .before .before .if1 .left) (s .pre .1),
       s .pre .0 .isNode,
       ap length (j .table) ∙ table-length _ _ _ _ (s .pre .0 .right),
     )
@@ -56,7 +59,7 @@ returns-3 : tie.Need-returns-3
 returns-3 c =
     let e2 = c .before .before .before .before .before .before in
     let s = e2 .before .before .before .before .before .before .before .before .before .before .before in
-    observed-ok (s .args .limit) (s .args .history .now) (s .args .view .now) (s .args .entries) (s .args .node .0) _ _ _ _ _ (e2 .before .before .before .before .before .before .judge-view .ensures) (e2 .before .before .before .prefix-count .ensures .is) (e2 .before .if1 .left) (e2 .if2 .left)
+    observed-ok (s .args .limit) (s .args .history .now) (s .args .view .now) (s .args .entries) (s .args .node .0) _ _ _ _ _ (s .pre .0) (e2 .before .before .before .before .before .before .judge-view .ensures) (e2 .before .before .before .prefix-count .ensures .is) (e2 .before .if1 .left) (e2 .if2 .left)
     _ (c .before .before .write-view .ensures)
 
 same-length-3 : tie.Need-same-length-3

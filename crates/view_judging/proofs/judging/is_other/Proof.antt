@@ -5,7 +5,8 @@ use mathlib.Core.Path.{sym, subst}
 use borrow.Author.Needs.{needs}
 use Rattle.storage.specs.Tables.{prefixRow}
 use Rattle.prefix_lookup.proofs.StoredLaws.{stored-number}
-use Rattle.view_judging.proofs.Turns.{first-within, other-none, other-same}
+use Rattle.view_judging.proofs.Places.{first-within}
+use Rattle.view_judging.proofs.Turns.{other-none, other-same}
 use Rattle.view_judging.proofs.judging.is_other.Statement.{statement}
 use Rattle.view_judging.proofs.judging.is_other.Tie as tie
 

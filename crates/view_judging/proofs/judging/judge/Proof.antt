@@ -1,9 +1,14 @@
 -- `view_judging::judging::judge` meets its contract.
 -- Assumes nothing.
-use mathlib.Core.Path.{ap, sym, _∙_}
+use Prim.Native.Nat.{ℕ, _≤_}
+use mathlib.Core.Path.{ap, sym, subst, _∙_}
 use lib.ListN.{length}
 use borrow.Author.Needs.{needs}
-use Rattle.log_violation.proofs.ViolationLaws.{all-length}
+use Rattle.record_scan.specs.Places.{firstEntry}
+use Rattle.storage.specs.Tables.{prefixRow}
+use Rattle.log_violation.proofs.ViolationLaws.{all-length, held-few}
+use Rattle.view_judging.specs.Judging.{Stand}
+use Rattle.view_judging.proofs.Places.{place-stands, first-stands}
 use Rattle.view_judging.proofs.Turns.{judged-both}
 use Rattle.view_judging.proofs.judging.judge.Statement.{statement}
 use Rattle.view_judging.proofs.judging.judge.Tie as tie
@@ -14,13 +19,18 @@ judge-stored-requires c κs = search needs
 judge-missing-requires : tie.Need-judge-missing-requires
 judge-missing-requires c κs =
     let s = c .before .before .before .before .before .before .before .before .before in
-    let w = c .before .before .before .before .judge-stored .ensures in
-    (s .pre .0, w .rest .stands, w .few, w .long)
+    let w = c .before .before .before .before .judge-stored .ensures in (
+      s .pre .0,
+      subst (Stand (s .args .view .now) (s .args .count)) (sym (w .place))
+      (place-stands (prefixRow (s .args .prefixes .now)) (s .args .count) (s .args .view .now) (s .args .entries) firstEntry 1 0 (first-stands (s .args .view .now) (s .args .count) (s .args .entries) (s .pre .1))),
+      subst (λ (x : ℕ). x ≤ 129) (sym (w .holds)) (held-few _ _ _ (s .pre .2)),
+      ap length (w .table) ∙ all-length _ _ _ ∙ s .pre .3,
+    )
 
 same-length : tie.Need-same-length
 same-length c =
     let s = c .before .before .before .before .before .before .before .before .before .before .before .before in
-    ap length (c .before .before .judge-missing .ensures .table) ∙ all-length _ _ _ ∙ c .before .before .before .before .before .before .before .judge-stored .ensures .long ∙ sym (s .pre .3)
+    ap length (c .before .before .judge-missing .ensures .table) ∙ all-length _ _ _ ∙ ap length (c .before .before .before .before .before .before .before .judge-stored .ensures .table) ∙ all-length _ _ _
 
 returns : tie.Need-returns
 returns c =

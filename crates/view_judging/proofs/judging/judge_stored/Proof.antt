@@ -6,37 +6,34 @@ use native.Mathlib.Omega.{arith}
 use borrow.Author.Needs.{needs}
 use Rattle.record_walk.proofs.Walks.{here}
 use Rattle.prefix_lookup.proofs.StoredLaws.{stored-number, stored-nothing}
-use Rattle.view_judging.specs.Judging.{placeAt, Rest}
-use Rattle.view_judging.proofs.Turns.{find-within, front-none, front-gap, entry-short, Judging, judging-starts, judging-ends, judging-lost, judging-next}
-use Rattle.view_judging.proofs.Rest.{rest-starts, rest-next}
+use Rattle.view_judging.proofs.Places.{find-within}
+use Rattle.view_judging.proofs.Turns.{entry-short, Judging, judging-starts, judging-none, judging-gap, judging-lost, judging-next}
 use Rattle.view_judging.proofs.judging.judge_stored.Statement.{statement}
 use Rattle.view_judging.proofs.judging.judge_stored.Tie as tie
 
 abbrev Inv-loop : tie.InvT-loop
 Inv-loop prefixes count view entries node findings₀ held at₀ left₀ i₀ p₀ n₀ findings at left i p n =
-    Judging prefixes count view entries (node .0) findings₀ held findings at left i (p .0) n × Rest prefixes count view entries (placeAt at left i (p .0))
+    Judging prefixes count view entries (node .0) findings₀ held findings at left i (p .0) n
 
 abbrev μ-loop : tie.MeasureT-loop
 μ-loop prefixes count view entries node findings₀ held at₀ left₀ i₀ p₀ n₀ findings at left i p n = left
 
 loop-holds : tie.Need-loop-holds Inv-loop μ-loop
 loop-holds c =
-    let s = c .before .before .before in (
-      judging-starts (s .args .prefixes .now) (s .args .count) (s .args .view .now) (s .args .entries) (s .args .node .0) (s .args .findings .now) (s .args .held) (s .pre .2) (s .pre .3),
-      rest-starts (s .args .prefixes .now) (s .args .count) (s .pre .0) (s .args .view .now) (s .args .entries) (s .pre .1),
-    )
+    let s = c .before .before .before in
+    judging-starts (s .args .prefixes .now) (s .args .count) (s .args .view .now) (s .args .entries) (s .args .node .0) (s .args .findings .now) (s .args .held) (s .pre .1) (s .pre .2) (s .pre .3)
 
 entry-at-requires : tie.Need-entry-at-requires Inv-loop μ-loop
-entry-at-requires c κs = here _ _ _ (c .before .loop .inv .1 .stands .walk) (c .loop-test .taken)
+entry-at-requires c κs = here _ _ _ (c .before .loop .inv .stands .walk) (c .loop-test .taken)
 
 find-extension-requires : tie.Need-find-extension-requires Inv-loop μ-loop
 find-extension-requires c κs =
     let l = c .before .before .before .before in
     let s = l .before .before .before .before in (
       s .pre .0 .fits,
-      l .loop .inv .1 .stands .number,
+      l .loop .inv .stands .number,
       s .pre .0 .long,
-      entry-short (s .args .view .now) (l .loop .at) (l .loop .left) (l .loop .i) (l .loop .inv .1 .stands .walk) (c .before .before .before .loop-test .taken) _ (c .before .before .entry-at .ensures),
+      entry-short (s .args .view .now) (l .loop .at) (l .loop .left) (l .loop .i) (l .loop .inv .stands .walk) (c .before .before .before .loop-test .taken) _ (c .before .before .entry-at .ensures),
     )
 
 enum-known-next : tie.Need-enum-known-next Inv-loop μ-loop
@@ -51,17 +48,17 @@ is-other-requires c κs =
     let s = l .before .before .before .before in
     let x = stored-number _ _ (c .before .before .before .find-extension .ensures) _ (c .before .next .given .1) in (
       s .pre .0,
-      subst (λ (y : ℕ). 1 ≤ y) (sym (c .before .before .before .before .if1 .left)) (l .loop .inv .1 .stands .positive),
+      subst (λ (y : ℕ). 1 ≤ y) (sym (c .before .before .before .before .if1 .left)) (l .loop .inv .stands .positive),
       subst (λ (y : ℕ). y ≤ s .args .count) (sym (x .0)) (find-within _ _ _),
     )
 
 note-other-requires : tie.Need-note-other-requires Inv-loop μ-loop
 note-other-requires c κs =
     let l = c .before .before .before .before .before .before .before .before .before .before in
-    (l .loop .inv .0 .noting .few, l .loop .inv .0 .noting .long)
+    (l .loop .inv .noting .few, l .loop .inv .noting .long)
 
 add-i : tie.Need-add-i Inv-loop μ-loop
-add-i c = let x = c .before .before .before .before .before .before .before .before .before .before .before .before .before .loop .inv .1 .stands .small in omega arith
+add-i c = let x = c .before .before .before .before .before .before .before .before .before .before .before .before .before .loop .inv .stands .small in omega arith
 
 sub-left : tie.Need-sub-left Inv-loop μ-loop
 sub-left c = search needs
@@ -78,41 +75,37 @@ loop-again c =
     let h = c .before .before .before .before .before .before .before .before .before .before .before .before .loop-test .taken in
     let g = c .before .before .before .before .before .before .before .before .before .if1 .left in
     let w = c .before .before .before .before .before .before .next in
-    let x = stored-number _ _ (c .before .before .before .before .before .before .before .before .find-extension .ensures) _ (w .given .1) in (
-      judging-next (s .args .prefixes .now) (s .args .count) (s .args .view .now) (s .args .entries) (s .args .node .0) (s .args .findings .now) (s .args .held) (l .loop .findings) (l .loop .at) (l .loop .left) (l .loop .i) (l .loop .p .0) (l .loop .n) (l .loop .inv .0) (l .loop .inv .1)
-          h e q g _ (x .0) (x .1) _ (c .before .before .before .before .is-other .ensures) _ _ (c .before .before .note-other .ensures),
-      rest-next (s .args .prefixes .now) (s .args .count) (s .pre .0) (s .args .view .now) (s .args .entries) (l .loop .at) (l .loop .left) (l .loop .i) (l .loop .p .0) (l .loop .inv .1)
-          h e q g _ (x .0) (λ z. x .1 (sym (x .0) ∙ z)) (subst (λ (y : ℕ). y ≤ s .args .count) (sym (x .0)) (find-within _ _ _)),
-    )
+    let x = stored-number _ _ (c .before .before .before .before .before .before .before .before .find-extension .ensures) _ (w .given .1) in
+    judging-next (s .args .prefixes .now) (s .args .count) (s .args .view .now) (s .args .entries) (s .args .node .0) (s .args .findings .now) (s .args .held) (l .loop .findings) (l .loop .at) (l .loop .left) (l .loop .i) (l .loop .p .0) (l .loop .n) (l .loop .inv)
+    h e q g _ (x .0) (x .1) _ (c .before .before .before .before .is-other .ensures) _ _ (c .before .before .note-other .ensures)
 
 same-length : tie.Need-same-length Inv-loop μ-loop
-same-length c = let l = c .before in l .loop .inv .0 .noting .long ∙ sym (l .before .before .before .before .pre .3)
+same-length c = let l = c .before in l .loop .inv .noting .long ∙ sym (l .before .before .before .before .pre .3)
 
 returns : tie.Need-returns Inv-loop μ-loop
 returns c =
     let l = c .before in
     let s = l .before .before .before .before in
-    judging-ends (s .args .prefixes .now) (s .args .count) (s .args .view .now) (s .args .entries) (s .args .node .0) (s .args .findings .now) (s .args .held) (l .loop .findings) (l .loop .at) (l .loop .left) (l .loop .i) (l .loop .p .0) (l .loop .n) (l .loop .inv .0) (l .loop .inv .1)
-    (front-none (s .args .view .now) (l .loop .at) (l .loop .left) (l .loop .i) (c .loop-test .left))
+    judging-none (s .args .prefixes .now) (s .args .count) (s .args .view .now) (s .args .entries) (s .args .node .0) (s .args .findings .now) (s .args .held) (l .loop .findings) (l .loop .at) (l .loop .left) (l .loop .i) (l .loop .p .0) (l .loop .n) (l .loop .inv) (c .loop-test .left)
 
 same-length-2 : tie.Need-same-length-2 Inv-loop μ-loop
-same-length-2 c = let l = c .before .before .before .before in l .loop .inv .0 .noting .long ∙ sym (l .before .before .before .before .pre .3)
+same-length-2 c = let l = c .before .before .before .before in l .loop .inv .noting .long ∙ sym (l .before .before .before .before .pre .3)
 
 returns-2 : tie.Need-returns-2 Inv-loop μ-loop
 returns-2 c =
     let l = c .before .before .before .before in
     let s = l .before .before .before .before in
-    judging-ends (s .args .prefixes .now) (s .args .count) (s .args .view .now) (s .args .entries) (s .args .node .0) (s .args .findings .now) (s .args .held) (l .loop .findings) (l .loop .at) (l .loop .left) (l .loop .i) (l .loop .p .0) (l .loop .n) (l .loop .inv .0) (l .loop .inv .1)
-    (front-gap (s .args .view .now) (l .loop .at) (l .loop .left) (l .loop .i) (l .loop .inv .1 .stands .walk) (c .before .before .before .loop-test .taken) _ (c .before .before .entry-at .ensures) (c .if1 .taken))
+    judging-gap (s .args .prefixes .now) (s .args .count) (s .args .view .now) (s .args .entries) (s .args .node .0) (s .args .findings .now) (s .args .held) (l .loop .findings) (l .loop .at) (l .loop .left) (l .loop .i) (l .loop .p .0) (l .loop .n) (l .loop .inv)
+    (c .before .before .before .loop-test .taken) _ (c .before .before .entry-at .ensures) (c .if1 .taken)
 
 same-length-3 : tie.Need-same-length-3 Inv-loop μ-loop
-same-length-3 c = let l = c .before .before .before .before .before .before .before in l .loop .inv .0 .noting .long ∙ sym (l .before .before .before .before .pre .3)
+same-length-3 c = let l = c .before .before .before .before .before .before .before in l .loop .inv .noting .long ∙ sym (l .before .before .before .before .pre .3)
 
 returns-3 : tie.Need-returns-3 Inv-loop μ-loop
 returns-3 c =
     let l = c .before .before .before .before .before .before .before in
     let s = l .before .before .before .before in
-    judging-lost (s .args .prefixes .now) (s .args .count) (s .args .view .now) (s .args .entries) (s .args .node .0) (s .args .findings .now) (s .args .held) (l .loop .findings) (l .loop .at) (l .loop .left) (l .loop .i) (l .loop .p .0) (l .loop .n) (l .loop .inv .0) (l .loop .inv .1)
+    judging-lost (s .args .prefixes .now) (s .args .count) (s .args .view .now) (s .args .entries) (s .args .node .0) (s .args .findings .now) (s .args .held) (l .loop .findings) (l .loop .at) (l .loop .left) (l .loop .i) (l .loop .p .0) (l .loop .n) (l .loop .inv)
     (c .before .before .before .before .before .before .loop-test .taken) _ (c .before .before .before .before .before .entry-at .ensures) (c .before .before .before .if1 .left) (stored-nothing _ _ (c .before .before .find-extension .ensures) (c .enum-told .given .1))
 
 pub judge-stored-spec : {M : Type 1} → statement M
