@@ -16,7 +16,7 @@ use Rattle.storage_bytes.specs.Words.{wordAt}
 use Rattle.storage.specs.Tables.{CertificateRow, certificateRow, certificatesPart}
 use Rattle.storage_bytes.proofs.ListLaws.{tabulate-cons, tabulate-none}
 use Rattle.log_violation.specs.Violation.{noteHeld, noteBytes, heldAll, bytesAll}
-use Rattle.log_violation.proofs.ViolationLaws.{all-length, held-append, bytes-append, held-few}
+use Rattle.log_violation.proofs.ViolationLaws.{all-length, Room, held-then, bytes-then, room-then}
 use Rattle.storage.proofs.WellFormed.{Formed}
 use Rattle.check_relevance.specs.Relevance.{relevantIn}
 use Rattle.units.specs.declared.LogPrefixWitness.{LogPrefixWitness}
@@ -102,9 +102,6 @@ module _ (h : Bytes) (c : CertificateRow) where
           table = w .table ∙ ap (bytesAll t held) n;
         }
 
-  pub judged-length : (t : Bytes) (b held b′ held′ : ℕ) (t′ : Bytes) → JudgedAs h c t b held b′ held′ t′ → length t′ ≡ length t
-  judged-length t b held b′ held′ t′ w = ap length (w .table) ∙ all-length (lackingIn h c) t held
-
 -- ---- the walk over all of them
 
 -- what is left of the certificates from the k-th on gives the rest
@@ -112,8 +109,7 @@ pub record Walking (h t₀ : Bytes) (held m : ℕ) (t : Bytes) (b n k : ℕ) : T
   pub flag : flagsIn h 0 (certificatesOf h) ≡ flagsIn h b (tabulate (certificateRow (certificatesPart h)) k (m - k))
   pub holds : heldAll t₀ held (lackingsIn h (certificatesOf h)) ≡ heldAll t n (lackingsIn h (tabulate (certificateRow (certificatesPart h)) k (m - k)))
   pub table : bytesAll t₀ held (lackingsIn h (certificatesOf h)) ≡ bytesAll t n (lackingsIn h (tabulate (certificateRow (certificatesPart h)) k (m - k)))
-  pub few : n ≤ 129
-  pub long : length t ≡ 1024
+  pub room : Room t n
   pub within : k ≤ m
 
 module _ (h t₀ : Bytes) (held m : ℕ) where
@@ -125,8 +121,7 @@ module _ (h t₀ : Bytes) (held m : ℕ) where
         flag = ap (flagsIn h 0) s;
         holds = ap (λ (cs : List CertificateRow). heldAll t₀ held (lackingsIn h cs)) s;
         table = ap (λ (cs : List CertificateRow). bytesAll t₀ held (lackingsIn h cs)) s;
-        few = f;
-        long = l;
+        room = record { few = f; long = l };
         within = omega arith;
       }
 
@@ -139,8 +134,6 @@ module _ (h t₀ : Bytes) (held m : ℕ) where
           flag = sym (w .flag ∙ ap (flagsIn h b) s);
           holds = sym (w .holds ∙ ap (λ (cs : List CertificateRow). heldAll t n (lackingsIn h cs)) s);
           table = sym (w .table ∙ ap (λ (cs : List CertificateRow). bytesAll t n (lackingsIn h cs)) s);
-          few = w .few;
-          long = w .long;
         }
 
     module _ (l : k < m) (c : CertificateRow) (e : c ≡ certificateRow (certificatesPart h) k) where
@@ -157,12 +150,9 @@ module _ (h t₀ : Bytes) (held m : ℕ) where
           record {
             flag = w .flag ∙ ap (flagsIn h b) more ∙ ap (λ (x : ℕ). flagsIn h x rest) (sym (j .flag));
             holds = w .holds ∙ ap (λ (cs : List CertificateRow). heldAll t n (lackingsIn h cs)) more
-                ∙ held-append (lackingIn h c) (lackingsIn h rest) t n
-                ∙ (λ i. heldAll (sym (j .table) i) (sym (j .holds) i) (lackingsIn h rest));
+                ∙ held-then t n (lackingIn h c) n′ t′ (j .holds, j .table) (lackingsIn h rest);
             table = w .table ∙ ap (λ (cs : List CertificateRow). bytesAll t n (lackingsIn h cs)) more
-                ∙ bytes-append (lackingIn h c) (lackingsIn h rest) t n
-                ∙ (λ i. bytesAll (sym (j .table) i) (sym (j .holds) i) (lackingsIn h rest));
-            few = subst (λ (x : ℕ). x ≤ 129) (sym (j .holds)) (held-few (lackingIn h c) t n (w .few));
-            long = judged-length h c t b n b′ n′ t′ j ∙ w .long;
+                ∙ bytes-then t n (lackingIn h c) n′ t′ (j .holds, j .table) (lackingsIn h rest);
+            room = room-then t n (lackingIn h c) n′ t′ (j .holds, j .table) (w .room);
             within = omega arith;
           }

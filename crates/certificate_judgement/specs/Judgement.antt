@@ -85,5 +85,3 @@ pub record JudgedAll (h t : Bytes) (held b held′ : ℕ) (t′ : Bytes) : Type 
   pub flag : b ≡ flagsIn h 0 (certificatesOf h)
   pub holds : held′ ≡ heldAll t held (lackingsIn h (certificatesOf h))
   pub table : t′ ≡ bytesAll t held (lackingsIn h (certificatesOf h))
-  pub few : held′ ≤ 129
-  pub long : length t′ ≡ 1024

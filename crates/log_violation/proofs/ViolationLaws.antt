@@ -218,6 +218,26 @@ held-few (x ∷ xs) t n h =
     (cond-cases (λ (m : ℕ). m ≤ 129) (ltb 128 n) n _ (λ _. h)
     (λ f. cond-cases (λ (m : ℕ). m ≤ 129) (isNoted t n x) n (n + 1) (λ _. h) (λ _. let z = ltb-false 128 n f in omega arith)))
 
+-- what a walk keeps of the findings: as many as can be, in a table of its length
+pub record Room (t : Bytes) (n : ℕ) : Type 0 where
+  pub few : n ≤ 129
+  pub long : length t ≡ 1024
+
+-- some notes are taken, with what they leave; the rest go on from there
+module _ (t : Bytes) (n : ℕ) (xs : List Finding) (n′ : ℕ) (t′ : Bytes) (e : (n′ ≡ heldAll t n xs) × (t′ ≡ bytesAll t n xs)) where
+  pub held-then : (ys : List Finding) → heldAll t n (xs ++ ys) ≡ heldAll t′ n′ ys
+  held-then ys = held-append xs ys t n ∙ (λ i. heldAll (sym (e .1) i) (sym (e .0) i) ys)
+
+  pub bytes-then : (ys : List Finding) → bytesAll t n (xs ++ ys) ≡ bytesAll t′ n′ ys
+  bytes-then ys = bytes-append xs ys t n ∙ (λ i. bytesAll (sym (e .1) i) (sym (e .0) i) ys)
+
+  pub room-then : Room t n → Room t′ n′
+  room-then r =
+      record {
+        few = subst (λ (x : ℕ). x ≤ 129) (sym (e .0)) (held-few xs t n (r .few));
+        long = ap length (e .1) ∙ all-length xs t n ∙ r .long;
+      }
+
 -- ---- the turns of `note`
 
 abbrev pub Noted : Bytes → ℕ → Finding → ℕ → Bytes → Type 0

@@ -29,7 +29,7 @@ use Rattle.log_comparison.specs.Comparison.{sameFrom}
 use Rattle.view_judging.specs.Judging.{differs, other, isRemembered, noteOf, lackNotes, nextNumber, placeAt, frontAt, Stand, endsAt, placeFrom, storedNotes, ReachedAs, LackingAs, JudgedAs}
 use Rattle.view_judging.specs.declared.judging.Place.{Place}
 use Rattle.prefix_lookup.proofs.StoredLaws.{stored-number, stored-nothing}
-use Rattle.log_violation.proofs.ViolationLaws.{all-length, held-append, bytes-append, held-few}
+use Rattle.log_violation.proofs.ViolationLaws.{Room, held-then, bytes-then, room-then}
 use Rattle.view_judging.proofs.Places.{front-suc, front-cut, front-zero, ends-gap, ends-lost, goes-on, place-stays, place-goes, stored-stays, stored-goes, stand-next, first-stands}
 
 -- ---- whether another prefix is remembered
@@ -116,27 +116,6 @@ unfolding heldAll bytesAll
 note-other-one true n i t held r u v e w = w
 note-other-one false n i t held r u v e w = absurd (tf (sym e))
 
--- ---- one note more, and the rest
-
-module _ (t : Bytes) (n : ℕ) (N R : List Finding) (n′ : ℕ) (t′ : Bytes) (en : (n′ ≡ heldAll t n N) × (t′ ≡ bytesAll t n N)) where
-  held-then : heldAll t n (N ++ R) ≡ heldAll t′ n′ R
-  held-then = held-append N R t n ∙ (λ z. heldAll (sym (en .1) z) (sym (en .0) z) R)
-
-  bytes-then : bytesAll t n (N ++ R) ≡ bytesAll t′ n′ R
-  bytes-then = bytes-append N R t n ∙ (λ z. bytesAll (sym (en .1) z) (sym (en .0) z) R)
-
--- what a walk keeps of the findings: as many as can be, in a table of its length
-pub record Noting (t : Bytes) (n : ℕ) : Type 0 where
-  pub few : n ≤ 129
-  pub long : length t ≡ 1024
-
-noting-next : (t : Bytes) (n : ℕ) (N : List Finding) (n′ : ℕ) (t′ : Bytes) → Noting t n → (n′ ≡ heldAll t n N) × (t′ ≡ bytesAll t n N) → Noting t′ n′
-noting-next t n N n′ t′ k en =
-    record {
-      few = subst (λ (x : ℕ). x ≤ 129) (sym (en .0)) (held-few N t n (k .few));
-      long = ap length (en .1) ∙ all-length N t n ∙ k .long;
-    }
-
 -- ---- an entry of a walk
 
 module _ (s : Bytes) (at left i : ℕ) (w : Walk s at left) (h : 0 < left) (e : ShownEntry) (q : e ≡ shownEntry s at) where
@@ -159,12 +138,12 @@ pub record Judging (ps : Bytes) (count : ℕ) (s : Bytes) (entries node : ℕ) (
   pub place : placeFrom (prefixRow ps) count s firstEntry entries 1 0 ≡ placeFrom (prefixRow ps) count s at left i p
   pub holds : heldAll t₀ held (storedNotes (prefixRow ps) count node s firstEntry entries 1 0) ≡ heldAll t n (storedNotes (prefixRow ps) count node s at left i p)
   pub table : bytesAll t₀ held (storedNotes (prefixRow ps) count node s firstEntry entries 1 0) ≡ bytesAll t n (storedNotes (prefixRow ps) count node s at left i p)
-  pub noting : Noting t n
+  pub room : Room t n
   pub stands : Stand s count (placeAt at left i p)
 
 module _ (ps : Bytes) (count : ℕ) (s : Bytes) (entries node : ℕ) (t₀ : Bytes) (held : ℕ) where
   pub judging-starts : Walk s firstEntry entries → held ≤ 129 → length t₀ ≡ 1024 → Judging ps count s entries node t₀ held t₀ firstEntry entries 1 0 held
-  judging-starts w h l = record { place = refl; holds = refl; table = refl; noting = record { few = h; long = l }; stands = first-stands s count entries w }
+  judging-starts w h l = record { place = refl; holds = refl; table = refl; room = record { few = h; long = l }; stands = first-stands s count entries w }
 
   module _ (t : Bytes) (at left i p n : ℕ) (j : Judging ps count s entries node t₀ held t at left i p n) where
     ends : placeFrom (prefixRow ps) count s at left i p ≡ placeAt at left i p → storedNotes (prefixRow ps) count node s at left i p ≡ []
@@ -218,9 +197,9 @@ module _ (ps : Bytes) (count : ℕ) (s : Bytes) (entries node : ℕ) (t₀ : Byt
               record {
                 place = j .place ∙ ap (λ (m : ℕ). placeFrom (prefixRow ps) count s at m i p) more ∙ place-goes (prefixRow ps) count s at i p (left - 1) goes
                     ∙ (λ x. placeFrom (prefixRow ps) count s (after x) (left - 1) (i + 1) (number x));
-                holds = j .holds ∙ ap (heldAll t n) noted ∙ held-then t n _ _ n′ t′ en;
-                table = j .table ∙ ap (bytesAll t n) noted ∙ bytes-then t n _ _ n′ t′ en;
-                noting = noting-next t n _ n′ t′ (j .noting) en;
+                holds = j .holds ∙ ap (heldAll t n) noted ∙ held-then t n _ n′ t′ en _;
+                table = j .table ∙ ap (bytesAll t n) noted ∙ bytes-then t n _ n′ t′ en _;
+                room = room-then t n _ n′ t′ en (j .room);
                 stands = subst₂ (λ (x y : ℕ). Stand s count (placeAt x (left - 1) (i + 1) y)) after number
                     (stand-next (prefixRow ps) count s (left - 1) at i p (subst (λ (m : ℕ). Stand s count (placeAt at m i p)) more (j .stands)) here-index);
               }
@@ -255,7 +234,7 @@ pub record Lacking (ps : Bytes) (count : ℕ) (s : Bytes) (at₀ left₀ i₀ no
       ≡ heldAll t n (lackNotes (prefixRow ps) count node i (frontFrom i (entriesAt s at left)))
   pub table : bytesAll t₀ held (lackNotes (prefixRow ps) count node i₀ (frontFrom i₀ (entriesAt s at₀ left₀)))
       ≡ bytesAll t n (lackNotes (prefixRow ps) count node i (frontFrom i (entriesAt s at left)))
-  pub noting : Noting t n
+  pub room : Room t n
   pub walk : Walk s at left
   pub small : i ≤ 257
   pub below : missing < i
@@ -267,7 +246,7 @@ module _ (ps : Bytes) (count : ℕ) (s : Bytes) (at₀ left₀ i₀ node : ℕ) 
         lacks = omega arith;
         holds = refl;
         table = refl;
-        noting = record { few = h; long = l };
+        room = record { few = h; long = l };
         walk = w;
         small = m;
         below = o;
@@ -290,9 +269,9 @@ module _ (ps : Bytes) (count : ℕ) (s : Bytes) (at₀ left₀ i₀ node : ℕ) 
     lacking-next h e q g b eb n′ t′ en =
         record {
           lacks = (let a = j .lacks in let c = ap length steps in omega arith);
-          holds = j .holds ∙ ap (heldAll t n) noted ∙ held-then t n _ _ n′ t′ en;
-          table = j .table ∙ ap (bytesAll t n) noted ∙ bytes-then t n _ _ n′ t′ en;
-          noting = noting-next t n _ n′ t′ (j .noting) en;
+          holds = j .holds ∙ ap (heldAll t n) noted ∙ held-then t n _ n′ t′ en _;
+          table = j .table ∙ ap (bytesAll t n) noted ∙ bytes-then t n _ n′ t′ en _;
+          room = room-then t n _ n′ t′ en (j .room);
           walk = walk-next s at left i (j .walk) h e q;
           small = (let x = index-within s at left i (j .walk) h e q g in omega arith);
           below = (let x = j .below in omega arith);
@@ -320,8 +299,8 @@ judged-both ps count s n node t held held₁ r t₁ a missing held₂ t₂ b =
     record {
       place = a .place;
       lack = b .lack;
-      holds = b .holds ∙ sym (held-then t held N (R r) held₁ t₁ (a .holds, a .table)) ∙ ap (λ (x : Place). heldAll t held (N ++ R x)) (a .place);
-      table = b .table ∙ sym (bytes-then t held N (R r) held₁ t₁ (a .holds, a .table)) ∙ ap (λ (x : Place). bytesAll t held (N ++ R x)) (a .place);
+      holds = b .holds ∙ sym (held-then t held N held₁ t₁ (a .holds, a .table) (R r)) ∙ ap (λ (x : Place). heldAll t held (N ++ R x)) (a .place);
+      table = b .table ∙ sym (bytes-then t held N held₁ t₁ (a .holds, a .table) (R r)) ∙ ap (λ (x : Place). bytesAll t held (N ++ R x)) (a .place);
     }
   where
     N : List Finding

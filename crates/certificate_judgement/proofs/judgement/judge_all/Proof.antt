@@ -42,8 +42,8 @@ judge-requires c κs =
       record {
         right = s .pre .0 .right;
         stored = row-stored (s .args .history .now) _ _ (formed _ (s .pre .0 .right)) (omega arith) _ (c .before .before .before .before .part .ensures .is) (c .before .certificate-at .ensures);
-        long = c .before .before .before .loop .inv .long;
-        few = c .before .before .before .loop .inv .few;
+        long = c .before .before .before .loop .inv .room .long;
+        few = c .before .before .before .loop .inv .room .few;
       },
       s .pre .1,
     )
@@ -61,7 +61,7 @@ loop-again c =
     walking-next (s .history .now) (s .findings .now) (s .held) _ (l .loop .findings) (l .loop .earlier .flags) (l .loop .earlier .held) (l .loop .k) (l .loop .inv) (c .before .before .before .before .before .loop-test .taken) _ (row-here (s .history .now) _ _ _ (l .before .part .ensures .is) (c .before .before .before .before .certificate-at .ensures)) _ _ _ (c .before .before .judge .ensures)
 
 same-length : tie.Need-same-length Inv-loop μ-loop
-same-length c = c .before .loop .inv .long ∙ sym (c .before .before .before .before .before .before .pre .0 .long)
+same-length c = c .before .loop .inv .room .long ∙ sym (c .before .before .before .before .before .before .pre .0 .long)
 
 returns : tie.Need-returns Inv-loop μ-loop
 returns c =

@@ -2,7 +2,7 @@
 -- Assumes nothing.
 use Rattle.completeness.proofs.CheckLaws.{checked-refused, checked-accepted, written-as, written-length}
 use Rattle.storage.proofs.WellFormed.{formed}
-use Rattle.log_violation.proofs.ViolationLaws.{findings-long}
+use Rattle.log_violation.proofs.ViolationLaws.{all-length, findings-long}
 use Rattle.check_marks.proofs.MarkLaws.{marks-length}
 use mathlib.Core.Path.{ap, _∙_}
 use native.Mathlib.Omega.{arith}
@@ -52,8 +52,12 @@ slice-aggregate-keep-findings c = search needs
 
 keep-findings-requires : tie.Need-keep-findings-requires
 keep-findings-requires c κs =
-    let o = formed _ (c .before .before .before .before .before .before .before .before .before .before .before .before .before .before .before .before .before .before .before .pre) in
-    (ap length (c .before .before .before .before .move-marks .ensures) ∙ marks-length _ _ _ _ ∙ o .long, c .before .before .before .before .before .before .before .before .before .judge-all .ensures .long)
+    let j = c .before .before .before .before .before .before .before .before .before in
+    let p = j .before .before .before .before in
+    let s = p .before .before .before .before .before .before in (
+      ap length (c .before .before .before .before .move-marks .ensures) ∙ marks-length _ _ _ _ ∙ formed _ (s .pre) .long,
+      ap length (j .judge-all .ensures .table) ∙ all-length _ _ _ ∙ ap length (p .copy-findings .ensures .1) ∙ findings-long _ (s .pre),
+    )
 
 returns-2 : tie.Need-returns-2
 returns-2 c =

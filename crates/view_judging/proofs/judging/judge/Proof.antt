@@ -1,12 +1,11 @@
 -- `view_judging::judging::judge` meets its contract.
 -- Assumes nothing.
-use Prim.Native.Nat.{ℕ, _≤_}
 use mathlib.Core.Path.{ap, sym, subst, _∙_}
 use lib.ListN.{length}
 use borrow.Author.Needs.{needs}
 use Rattle.record_scan.specs.Places.{firstEntry}
 use Rattle.storage.specs.Tables.{prefixRow}
-use Rattle.log_violation.proofs.ViolationLaws.{all-length, held-few}
+use Rattle.log_violation.proofs.ViolationLaws.{all-length, room-then}
 use Rattle.view_judging.specs.Judging.{Stand}
 use Rattle.view_judging.proofs.Places.{place-stands, first-stands}
 use Rattle.view_judging.proofs.Turns.{judged-both}
@@ -19,12 +18,13 @@ judge-stored-requires c κs = search needs
 judge-missing-requires : tie.Need-judge-missing-requires
 judge-missing-requires c κs =
     let s = c .before .before .before .before .before .before .before .before .before in
-    let w = c .before .before .before .before .judge-stored .ensures in (
+    let w = c .before .before .before .before .judge-stored .ensures in
+    let r = room-then _ _ _ _ _ (w .holds, w .table) (record { few = s .pre .2; long = s .pre .3 }) in (
       s .pre .0,
       subst (Stand (s .args .view .now) (s .args .count)) (sym (w .place))
       (place-stands (prefixRow (s .args .prefixes .now)) (s .args .count) (s .args .view .now) (s .args .entries) firstEntry 1 0 (first-stands (s .args .view .now) (s .args .count) (s .args .entries) (s .pre .1))),
-      subst (λ (x : ℕ). x ≤ 129) (sym (w .holds)) (held-few _ _ _ (s .pre .2)),
-      ap length (w .table) ∙ all-length _ _ _ ∙ s .pre .3,
+      r .few,
+      r .long,
     )
 
 same-length : tie.Need-same-length

@@ -33,7 +33,7 @@ is-remembered-requires c κs =
 note-other-requires : tie.Need-note-other-requires Inv-loop μ-loop
 note-other-requires c κs =
     let l = c .before .before .before .before .before .before in
-    (l .loop .inv .noting .few, l .loop .inv .noting .long)
+    (l .loop .inv .room .few, l .loop .inv .room .long)
 
 add-missing : tie.Need-add-missing Inv-loop μ-loop
 add-missing c = search needs

@@ -55,7 +55,7 @@ is-other-requires c κs =
 note-other-requires : tie.Need-note-other-requires Inv-loop μ-loop
 note-other-requires c κs =
     let l = c .before .before .before .before .before .before .before .before .before .before in
-    (l .loop .inv .noting .few, l .loop .inv .noting .long)
+    (l .loop .inv .room .few, l .loop .inv .room .long)
 
 add-i : tie.Need-add-i Inv-loop μ-loop
 add-i c = let x = c .before .before .before .before .before .before .before .before .before .before .before .before .before .loop .inv .stands .small in omega arith
@@ -80,7 +80,7 @@ loop-again c =
     h e q g _ (x .0) (x .1) _ (c .before .before .before .before .is-other .ensures) _ _ (c .before .before .note-other .ensures)
 
 same-length : tie.Need-same-length Inv-loop μ-loop
-same-length c = let l = c .before in l .loop .inv .noting .long ∙ sym (l .before .before .before .before .pre .3)
+same-length c = let l = c .before in l .loop .inv .room .long ∙ sym (l .before .before .before .before .pre .3)
 
 returns : tie.Need-returns Inv-loop μ-loop
 returns c =
@@ -89,7 +89,7 @@ returns c =
     judging-none (s .args .prefixes .now) (s .args .count) (s .args .view .now) (s .args .entries) (s .args .node .0) (s .args .findings .now) (s .args .held) (l .loop .findings) (l .loop .at) (l .loop .left) (l .loop .i) (l .loop .p .0) (l .loop .n) (l .loop .inv) (c .loop-test .left)
 
 same-length-2 : tie.Need-same-length-2 Inv-loop μ-loop
-same-length-2 c = let l = c .before .before .before .before in l .loop .inv .noting .long ∙ sym (l .before .before .before .before .pre .3)
+same-length-2 c = let l = c .before .before .before .before in l .loop .inv .room .long ∙ sym (l .before .before .before .before .pre .3)
 
 returns-2 : tie.Need-returns-2 Inv-loop μ-loop
 returns-2 c =
@@ -99,7 +99,7 @@ returns-2 c =
     (c .before .before .before .loop-test .taken) _ (c .before .before .entry-at .ensures) (c .if1 .taken)
 
 same-length-3 : tie.Need-same-length-3 Inv-loop μ-loop
-same-length-3 c = let l = c .before .before .before .before .before .before .before in l .loop .inv .noting .long ∙ sym (l .before .before .before .before .pre .3)
+same-length-3 c = let l = c .before .before .before .before .before .before .before in l .loop .inv .room .long ∙ sym (l .before .before .before .before .pre .3)
 
 returns-3 : tie.Need-returns-3 Inv-loop μ-loop
 returns-3 c =
