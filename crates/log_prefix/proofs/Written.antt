@@ -184,6 +184,12 @@ bytes-length-one h n p i e =
     cond-cases (λ (u : Bytes). length u ≡ length h) (eqb (extensionIn h n p e) 0) (appended h p i e) h
     (λ _. appended-length h p i (e .term) (length (e .content)) (storedContent e)) (λ _. refl)
 
+pub written-same : (es : List Entry) (h : Bytes) (n p i : ℕ) → length (writtenBytes h n p i es) ≡ length h
+unfolding writtenBytes
+written-same [] h n p i = refl
+written-same (e ∷ es) h n p i =
+    written-same es (extendedBytes h n p i e) (extendedCount h n p e) (extendedNumber h n p e) (i + 1) ∙ bytes-length-one h n p i e
+
 pub written-cons : (h : Bytes) (n p i : ℕ) (e : Entry) (es : List Entry)
     → (writtenBytes h n p i (e ∷ es) ≡ writtenBytes (extendedBytes h n p i e) (extendedCount h n p e) (extendedNumber h n p e) (i + 1) es)
     × (writtenCount h n p i (e ∷ es) ≡ writtenCount (extendedBytes h n p i e) (extendedCount h n p e) (extendedNumber h n p e) (i + 1) es)

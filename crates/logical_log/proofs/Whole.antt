@@ -23,11 +23,11 @@ use Rattle.log_violation.specs.Violation.{findingsKept}
 use Rattle.view_writing.specs.Observation.{Storing, viewReplaced, restWritten}
 use Rattle.logical_log.specs.Observation.{viewWritten, observed, observedBytes}
 use Rattle.view_judging.specs.Judging.{nextNumber, frontAt, Stand, placeIn, missingIn, notesIn, heldIn, tableIn, Observing, ViewJudged}
-use Rattle.log_prefix.specs.Extension.{nextIndex, extensionIn, extendedBytes, extendedCount, extendedNumber, writtenBytes, writtenCount}
+use Rattle.log_prefix.specs.Extension.{nextIndex, extensionIn, extendedBytes, extendedCount, extendedNumber, writtenCount}
 use Rattle.view_judging.proofs.Places.{Ended}
 use Rattle.view_judging.proofs.Rest.{Rest, rest-of}
 use Rattle.view_judging.proofs.Judged.{place-in-ended, place-in-stands, missing-most}
-use Rattle.log_prefix.proofs.Written.{number-made, count-made, bytes-length-one}
+use Rattle.log_prefix.proofs.Written.{number-made, count-made, written-same}
 use Rattle.log_violation.proofs.ViolationLaws.{all-length, findings-long, kept-length}
 use Rattle.logical_log.specs.declared.observation.Observed.{Observed}
 use Rattle.view_judging.specs.declared.judging.Place.{Place}
@@ -154,12 +154,6 @@ pub table-length : (h s : Bytes) (m node : ℕ) → wellFormed h ≡ true → le
 unfolding tableIn
 table-length h s m node right = all-length (notesIn h s m node) (findingsPart h) (wordAt h 7 1) ∙ findings-long h right
 
-front-length : (es : List Entry) (h : Bytes) (n p i : ℕ) → length (writtenBytes h n p i es) ≡ length h
-unfolding writtenBytes
-front-length [] h n p i = refl
-front-length (e ∷ es) h n p i =
-    front-length es (extendedBytes h n p i e) (extendedCount h n p e) (extendedNumber h n p e) (i + 1) ∙ bytes-length-one h n p i e
-
 pub written-length : (h : Bytes) (n : ℕ) (s : Bytes) (r : Place) (node : ℕ) (t : Bytes) (held : ℕ) → length (restWritten h n s r node t held) ≡ length h
 unfolding restWritten
-written-length h n s r node t held = kept-length _ t held ∙ replaced-length _ node _ _ ∙ front-length (frontAt s r) h n (r .prefix .0) (r .index .0)
+written-length h n s r node t held = kept-length _ t held ∙ replaced-length _ node _ _ ∙ written-same (frontAt s r) h n (r .prefix .0) (r .index .0)

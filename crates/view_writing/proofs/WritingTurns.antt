@@ -68,7 +68,7 @@ module _ (h₀ : Bytes) (n₀ : ℕ) (s : Bytes) (r : Place) (g : Storing h₀ n
       record { bytes = refl; counts = refl; number = refl; walk = g .stands .walk; right = g .right; held = g .count; within = g .stands .number }
 
   module _ (h : Bytes) (at left p n : ℕ) (w : Now h at left p n) where
-    pub writing-long : length h ≡ 24137
+    writing-long : length h ≡ 24137
     writing-long = formed h (w .right) .long
 
     done : Left h s p at left ≡ [] → StoredAs h₀ n₀ s r p h
@@ -77,7 +77,6 @@ module _ (h₀ : Bytes) (n₀ : ℕ) (s : Bytes) (r : Place) (g : Storing h₀ n
         record {
           is = sym ((λ j. writtenNumber h₀ n₀ (r .prefix .0) (g .next j) (frontFrom (g .next j) (entriesAt s (r .at) (r .left)))) ∙ w .number ∙ ap (writtenNumber h n p (nextIndex h p)) e);
           bytes = sym ((λ j. writtenBytes h₀ n₀ (r .prefix .0) (g .next j) (frontFrom (g .next j) (entriesAt s (r .at) (r .left)))) ∙ w .bytes ∙ ap (writtenBytes h n p (nextIndex h p)) e);
-          long = writing-long;
         }
 
     pub writing-ends : left ≤ 0 → StoredAs h₀ n₀ s r p h

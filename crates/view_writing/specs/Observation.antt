@@ -3,7 +3,6 @@
 use Prim.Native.Nat.{ℕ, _+_, _*_, _≤_}
 use mathlib.Core.Path.{_≡_}
 use mathlib.Core.Bool.{true}
-use lib.ListN.{length}
 use Rattle.model.specs.Sizes.{Bytes}
 use Rattle.model.specs.Record.{front}
 use Rattle.storage_bytes.specs.Words.{putBytes, wordAt}
@@ -28,7 +27,6 @@ pub record Storing (h : Bytes) (n : ℕ) (s : Bytes) (r : Place) : Type 0 where
 pub record StoredAs (h : Bytes) (n : ℕ) (s : Bytes) (r : Place) (number : ℕ) (h′ : Bytes) : Type 0 where
   pub is : number ≡ writtenNumber h n (r .prefix .0) (r .index .0) (frontAt s r)
   pub bytes : h′ ≡ writtenBytes h n (r .prefix .0) (r .index .0) (frontAt s r)
-  pub long : length h′ ≡ 24137
 
 -- "an accepted view replaces the node's earlier one": the node's row, its unseen mark as it was
 unfoldable pub viewReplaced : Bytes → ℕ → ℕ → ℕ → Bytes

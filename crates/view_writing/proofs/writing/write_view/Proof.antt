@@ -4,7 +4,7 @@ use mathlib.Core.Path.{ap, sym, _∙_}
 use lib.ListN.{length}
 use borrow.Author.Needs.{needs}
 use Rattle.storage.proofs.WellFormed.{formed}
-use Rattle.view_writing.proofs.Whole.{view-written, replaced-length}
+use Rattle.view_writing.proofs.Whole.{stored-length, view-written, replaced-length}
 use Rattle.log_violation.proofs.ViolationLaws.{kept-length}
 use Rattle.view_writing.proofs.writing.write_view.Statement.{statement}
 use Rattle.view_writing.proofs.writing.write_view.Tie as tie
@@ -18,13 +18,15 @@ last-of-requires c κs = let g = c .before .before .before .before .before .befo
 replace-view-requires : tie.Need-replace-view-requires
 replace-view-requires c κs =
     let o = c .before .before .before .before in
-    (o .before .before .before .before .before .pre .1, o .store .ensures .long)
+    let s = o .before .before .before .before .before in
+    (s .pre .1, stored-length _ _ _ _ _ _ (s .pre .0) (o .store .ensures))
 
 keep-findings-requires : tie.Need-keep-findings-requires
 keep-findings-requires c κs =
     let r = c .before .before .before in
     let o = r .before .before .before .before .before in
-    (ap length (r .replace-view .ensures) ∙ replaced-length _ _ _ _ ∙ o .store .ensures .long, o .before .before .before .before .before .pre .2)
+    let s = o .before .before .before .before .before in
+    (ap length (r .replace-view .ensures) ∙ replaced-length _ _ _ _ ∙ stored-length _ _ _ _ _ _ (s .pre .0) (o .store .ensures), s .pre .2)
 
 returns : tie.Need-returns
 returns c =
@@ -39,8 +41,9 @@ same-length : tie.Need-same-length
 same-length c =
     let r = c .before .before .before .before .before .before in
     let o = r .before .before .before .before .before in
+    let s = o .before .before .before .before .before in
     ap length (c .before .before .keep-findings .ensures) ∙ kept-length _ _ _ ∙ ap length (r .replace-view .ensures) ∙ replaced-length _ _ _ _
-    ∙ o .store .ensures .long ∙ sym (formed _ (o .before .before .before .before .before .pre .0 .right) .long)
+    ∙ stored-length _ _ _ _ _ _ (s .pre .0) (o .store .ensures) ∙ sym (formed _ (s .pre .0 .right) .long)
 
 pub write-view-spec : {M : Type 1} → statement M
 write-view-spec =
