@@ -1,12 +1,12 @@
 -- What the numbers of prefixes mean where bytes stand for a history, and what each write of this kind means.
 -- Assumes nothing.
-use Prim.Native.Nat.{ℕ, zero, suc, _-_, _≤_, _<_, min}
+use Prim.Native.Nat.{ℕ, _-_, _≤_, _<_, min}
 use native.Mathlib.Omega.{arith}
 use mathlib.Core.Path.{_≡_, refl, sym, _∙_, ap, subst}
 use mathlib.Core.Bool.{true, false, cond}
 use mathlib.Core.Logic.{inl, ⊎-elim}
 use mathlib.Core.List.{List, [], _∷_}
-use lib.Dec.{ltb, eqb}
+use lib.Dec.{ltb}
 use lib.ListN.{length, getD, set, take}
 use lib.Seq.{set-getD}
 use borrow.Author.Tests.{ltb-true, ltb-false}
@@ -15,24 +15,23 @@ use Rattle.model.specs.Entry.{Prefix, same, agree, withAll}
 use Rattle.model.specs.History.{Finding, History, noted}
 use Rattle.model.proofs.Tests.{cond-cases}
 use Rattle.storage_bytes.specs.Words.{wordAt}
-use Rattle.storage.specs.Values.{indexOf}
+use Rattle.storage.specs.Values.{indexOf, numberIndex}
 use Rattle.storage_bytes.specs.Lists.{every}
 use Rattle.storage.specs.Tables.{PrefixRow, NodeRow, findingRows, prefixRows, findingsPart, prefixesPart}
 use Rattle.storage.specs.Decode.{prefixAt, resolve}
 use Rattle.storage.specs.Rules.{findingRight}
 use Rattle.storage.proofs.RowFacts.{Facts}
-use Rattle.storage.proofs.Meanings.{Stands, withNoted, prefixes-read, findings-read, owner-read, last-read, node-written, committed-written, prefixes-stored, findings-stored, committed-stored, findings-taken}
+use Rattle.storage.proofs.Meanings.{Stands, withNoted, prefixes-read, findings-read, owner-read, last-read, node-written, committed-written, prefixes-stored, number-length, findings-stored, committed-stored, findings-taken}
 use Rattle.log_violation.specs.Violation.{findingsKept}
 use Rattle.prefix_lookup.specs.Prefix.{sliceOf}
 use Rattle.log_comparison.specs.Comparison.{sameFrom}
 use Rattle.prefix_lookup.specs.declared.lookup.Slice.{Slice}
 use Rattle.prefix_lookup.proofs.TableLaws.{rows-length, rows-at}
-use Rattle.prefix_lookup.proofs.SliceLaws.{index-length}
 use Rattle.prefix_lookup.proofs.Fronts.{Part, slice-is, front-is}
 use Rattle.log_comparison.proofs.ComparisonLaws.{same-prefix}
 use Rattle.log_violation.proofs.ViolationLaws.{Holds, note-holds, note-length, findings-long}
 use Rattle.committed_prefix.specs.Prefix.{rowsOf, nodeOf, longerIn, endIn, sameSlices, agreeIn, unseenSet, keepBytes, difference, heldWith, tableWith}
-use Rattle.storage.proofs.WellFormed.{Formed, formed, formed-rows}
+use Rattle.storage.proofs.WellFormed.{Formed, formed, formed-rows, formed-index}
 
 -- the history with a node's unseen mark, the committed prefix with its owner, and the findings anew
 abbrev pub changed : History → ℕ → ℕ → Prefix → ℕ → List Finding → History
@@ -99,9 +98,8 @@ module _ (h : Bytes) (x : History) (s : Stands h x) where
       known .distinct p 0 (number p l) (omega arith) (ap (λ (ps : List Prefix). prefixAt ps p) resolves ∙ e)
 
   pub index-is : (p : ℕ) → p ≤ wordAt h 0 2 → indexOf (rowsOf h) p ≡ length (at p)
-  index-is p l =
-      index-length (rowsOf h) rows known (rows-at (prefixesPart h) (wordAt h 0 2)) p (number p l)
-      ∙ ap (λ (ps : List Prefix). length (prefixAt ps p)) resolves
+  unfolding numberIndex
+  index-is p l = number-length h x s p l
 
   same-is : (p q : ℕ) → p ≤ wordAt h 0 2 → q ≤ wordAt h 0 2 → sameFrom (rowsOf h) p p q ≡ same (at p) (at q)
   same-is p q l m =
@@ -150,15 +148,8 @@ module _ (h : Bytes) (x : History) (s : Stands h x) where
 
     -- an end is an index
     pub end-limit : endIn h c p ≤ 256
-    end-limit = (let e = end-means in let b = index-is c lc in let d = index-limit c lc in omega arith)
-      where
-        index-limit : (k : ℕ) → k ≤ wordAt h 0 2 → indexOf (rowsOf h) k ≤ 256
-        index-limit zero l = omega arith
-        index-limit (suc k) l =
-            let r : rowsOf h k .index ≤ 256 =
-            subst (λ (y : PrefixRow). y .index ≤ 256) (sym (rows-at (prefixesPart h) (wordAt h 0 2) k (number (suc k) l))) (known .small k (number (suc k) l) .0) in
-            cond-cases (λ (z : ℕ). z ≤ 256) (eqb (suc k) 0) 0 (rowsOf h (suc k - 1) .index) (λ _. omega arith)
-            (λ _. subst (λ (j : ℕ). rowsOf h j .index ≤ 256) (let q : k ≡ suc k - 1 = omega arith in q) r)
+    unfolding numberIndex
+    end-limit = (let e = end-means in let b = index-is c lc in let d = formed-index h facts c lc in omega arith)
 
   -- ---- what is written
 
