@@ -1,5 +1,5 @@
-// An election is judged with nothing written, then its certificate is kept (state/election.rs): the first `length` entries of
-// the leader's front, or no log.
+// An election is judged with nothing written, then its certificate is kept (the type is that of state/election.rs): the first
+// `length` entries of the leader's front, or no log.
 ghost use mathlib.Core.Path.{_≡_};
 ghost use Prim.Native.Nat.{_<_};
 ghost use mathlib.Core.Bool.{true};

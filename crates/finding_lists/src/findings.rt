@@ -1,5 +1,5 @@
 // The printed findings, by name, node, term, index. They are stored in the order found, so the n-th printed one is looked
-// for: each of those before it in the table takes a place in front of it or behind.
+// for: of each stored one it is counted how many later ones are printed before it.
 ghost use mathlib.Core.Path.{_≡_};
 ghost use mathlib.Core.Bool.{true};
 ghost use Prim.Native.Nat.{_-_, _≤_};

@@ -1,4 +1,4 @@
-// The storage rules of the head: its counts are within the limits, and the committed prefix exists.
+// The storage rules of the head: its counts are within the limits, the committed prefix exists, and its owner is a node.
 ghost use mathlib.Core.Path.{_≡_};
 ghost use Prim.Native.Nat.{_≤_};
 ghost use lib.ListN.{length};

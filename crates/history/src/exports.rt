@@ -1,4 +1,4 @@
-// The library for callers in other languages: byte slices and numbers, and nothing is asked of the caller. A reader's `state`
+// The library for callers in other languages: byte slices and numbers, and nothing is asked of the bytes. A reader's `state`
 // is 0 where there is an element, 1 where there are not so many, 12 where the history breaks its storage rules.
 ghost use mathlib.Core.Path.{_≡_};
 ghost use Rattle.storage_bytes.specs.Layout.{historyLength};

@@ -1,5 +1,5 @@
-// Comparison of stored prefixes (the equality of types/prefix.rs): by term and content at each index, never by number alone. Two
-// numbers that are equal are the same stored prefix, which is the Rust's shortcut.
+// Comparison of stored prefixes (the equality of types/prefix.rs). Equal numbers are the same stored prefix, which is the Rust's
+// shortcut; of unequal ones term and content at each index decide.
 ghost use mathlib.Core.Path.{_≡_};
 ghost use Prim.Native.Nat.{_≤_};
 ghost use Rattle.storage.specs.Tables.{prefixRow};
@@ -12,8 +12,8 @@ use storage_bytes::layout::PREFIX_CONTENT;
 use storage_bytes::layout::PREFIX_WIDTH;
 use units::LogPrefixWitness;
 
-// Whether two stored prefixes are the same. From the last entries back, left at the first byte that differs;
-// the two have met where they are the same.
+// Whether two stored prefixes are the same. From the last entries back, left at the first byte that differs; they are the same
+// where that comes to one prefix that both extend.
 pub fn same_prefix(prefixes: &[u8], count: usize, a: LogPrefixWitness, b: LogPrefixWitness) -> bool
     requires { ⌜ Table (now prefixes) count × (a .0 ≤ count) × (b .0 ≤ count) ⌝ }
     ensures { λ r. ⌜ r ≡ sameFrom (prefixRow (now (prefixes .entry))) (a .0) (a .0) (b .0) ⌝ }

@@ -1,5 +1,5 @@
--- Noting a finding once, in a table of findings that is judged before the history is written, and is then written back. One more
--- than the limit means that there are too many: from then on nothing is noted.
+-- Noting a finding once, in a copy of the history's table, which is then written back, or in the history itself. One more than the
+-- limit means that there are too many: from then on nothing is noted.
 -- Assumes nothing.
 use Prim.Native.Nat.{ℕ, zero, suc, _+_, _*_}
 use mathlib.Core.Bool.{Bool, false, cond, _&&_, _||_}

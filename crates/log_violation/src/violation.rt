@@ -1,5 +1,5 @@
-// Findings are noted once (types/violation.rs). They are gathered in a copy of the history's table while a record is judged, so
-// that nothing of the history is written before it is accepted; then the copy is written back.
+// Findings are noted once (types/violation.rs). A record that may bring many is judged on a copy of the history's table, so that
+// nothing is written before it is accepted; then the copy is written back. A single finding is noted in place (`note_in`).
 ghost use mathlib.Core.Path.{_≡_};
 ghost use Prim.Native.Nat.{_≤_, _<_};
 ghost use lib.ListN.{length};

@@ -1,5 +1,5 @@
 // The record reader: it borrows the record and remembers its next bit. A function over it takes it apart, and the bits are
-// read on plain parameters (bits.rt). Callers use `two_fields`, whose parameters are plain too.
+// read on plain parameters (`bit_fields`). Callers use `two_fields`, whose parameters are plain too.
 ghost use mathlib.Core.Path.{_≡_};
 ghost use Prim.Native.Nat.{_+_, _^_, _≤_, _<_};
 ghost use Rattle.model.specs.Reading as reading;

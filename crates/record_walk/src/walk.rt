@@ -1,5 +1,5 @@
 // The entries and rows of a readable record, by value, each with the bit after it, and the last index of a view. A walk
-// starts at FIRST_ENTRY or FIRST_ROW with the count that `read` gave.
+// starts at FIRST_ENTRY or FIRST_ROW with the count that `records::head::read` gave.
 ghost use mathlib.Core.Path.{_≡_};
 ghost use Prim.Native.Nat.{_+_, _*_, _^_, _≤_};
 ghost use lib.ListN.{length};

@@ -19,7 +19,7 @@ use units::LogIndex;
 use units::NodeId;
 use units::Term;
 
-// What a record says. A view's entries and the rows are walked where they are wanted (walk.rt).
+// What a record says. A view's entries and the rows are walked where they are wanted (`record_walk`).
 pub enum Head {
     // The view of a node, with how many entries.
     View {

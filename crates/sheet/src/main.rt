@@ -1,6 +1,6 @@
 // The sheet of a recording: records from standard input, each behind a 16-bit byte length, high byte first; then the lists of
-// the history. What it prints is put together by `sheet_text`, whose functions are proved to give it; the functions here, which
-// read and write, are proved to be safe and to end.
+// the history. What it prints is put together by `sheet_text` and `sheet_lists`, whose functions are proved to give it; the
+// functions here, which read and write, are proved to be safe and to end.
 ghost use mathlib.Core.Path.{_≡_};
 ghost use Prim.Native.Nat.{_≤_};
 ghost use lib.ListN.{length};

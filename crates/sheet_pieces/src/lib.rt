@@ -1,2 +1,2 @@
-// A recording split into pieces, put into lent bytes. Stands on storage_bytes.
+// A recording split into pieces, and what is left of a block moved to its front. Stands on storage_bytes.
 pub mod split;

@@ -1,4 +1,4 @@
--- Document 01, "The printed sheet": what a piece is answered.
+-- Document 01, "The printed sheet": what a piece is answered, and the lines and the history of pieces taken in turn.
 -- Assumes nothing.
 use Prim.Native.Nat.{ℕ, _+_, _/_, _≤_, _<_}
 use mathlib.Core.Path.{_≡_}

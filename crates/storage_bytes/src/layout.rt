@@ -1,5 +1,5 @@
-// Where each table of a history lies in its lent bytes, and how wide its rows are.
-// A table's functions take only its own region, so that they can touch no other.
+// Where each table of a history lies in its lent bytes, how wide its rows are, and where some of their fields lie.
+// A function that reads or writes a row takes only the table's own region, so that it can touch no other.
 ghost use Prim.Native.Nat.{_+_, _≤_};
 ghost use lib.ListN.{length};
 ghost use Rattle.storage_bytes.specs.Layout.{Part};

@@ -1,4 +1,4 @@
-// Numbers in bytes, high byte first, at an offset: 8, 16 and 32 bits, read and written.
+// Numbers in bytes, high byte first, at an offset: 8, 16 and 32 bits, read and written; runs of bytes written, moved and compared.
 ghost use mathlib.Core.Path.{_≡_};
 ghost use Prim.Native.Nat.{_+_, _≤_, _<_};
 ghost use lib.ListN.{length};

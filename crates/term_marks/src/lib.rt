@@ -1,2 +1,3 @@
-// The marks of the certificates that a late commit term lowers. Stands on storage, and on certificate_mark in its laws.
+// The marks of the certificates that a late commit term lowers. Stands on certificate_rows, and on certificate_mark in
+// its laws.
 pub mod marks;

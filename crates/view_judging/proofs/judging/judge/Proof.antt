@@ -22,7 +22,7 @@ judge-missing-requires c κs =
     let r = room-then _ _ _ _ _ (w .holds, w .table) (record { few = s .pre .2; long = s .pre .3 }) in (
       s .pre .0,
       subst (Stand (s .args .view .now) (s .args .count)) (sym (w .place))
-      (place-stands (prefixRow (s .args .prefixes .now)) (s .args .count) (s .args .view .now) (s .args .entries) firstEntry 1 0 (first-stands (s .args .view .now) (s .args .count) (s .args .entries) (s .pre .1))),
+          (place-stands (prefixRow (s .args .prefixes .now)) (s .args .count) (s .args .view .now) (s .args .entries) firstEntry 1 0 (first-stands (s .args .view .now) (s .args .count) (s .args .entries) (s .pre .1))),
       r .few,
       r .long,
     )
