@@ -13,7 +13,8 @@ use Rattle.records.specs.Heads.{Told, readingOf}
 use Rattle.record_scan.specs.Places.{RowWalk, rowsAt, firstRow}
 use Rattle.records.proofs.Readable.{rows-walk}
 use Rattle.invariants.specs.declared.commit_safety.Verdict.{Verdict}
-use Rattle.invariants.specs.Rules.{verdictOf}
+use Rattle.invariants.specs.Rules.{verdictFor, verdictOf}
+use Rattle.invariants.proofs.Pass.{verdict-back}
 
 -- what is asked of a record of c rows, and what the answer v to it says of any history x
 pub record Means (s : Bytes) (c : ℕ) (v : Verdict) : Type 0 where
@@ -23,9 +24,10 @@ pub record Means (s : Bytes) (c : ℕ) (v : Verdict) : Type 0 where
 
 -- "the first failing row of the first failing rule, 0 if none; node of that row. The history is not changed."
 pub rows-checked : (s : Bytes) (r : Head) (c : ℕ) (v : Verdict) → Told s r → r ≡ Head.Rows c
-    → verdictOf v ≡ verdict (rowsAt s firstRow c)
+    → v ≡ verdictFor (verdict (rowsAt s firstRow c))
     → Means s c v
 unfolding answer after
 rows-checked s r c v t e q =
     let d : read s ≡ readable (rows (rowsAt s firstRow c)) = t .reading ∙ ap (readingOf s) e in
-    record { asked = rows-walk s r c t e; answer = λ x. rw (d, q); unchanged = λ x. rw d }
+    let b : verdictOf v ≡ verdict (rowsAt s firstRow c) = ap verdictOf q ∙ verdict-back (rowsAt s firstRow c) in
+    record { asked = rows-walk s r c t e; answer = λ x. rw (d, b); unchanged = λ x. rw d }

@@ -8,20 +8,20 @@ use mathlib.Core.List.{List, [], _∷_}
 use mathlib.Core.Logic.{⊎-elim}
 use mathlib.Core.Option.{Option, none, some}
 use native.Mathlib.Omega.{arith}
-use lib.Dec.{ltb}
+use lib.Dec.{ltb, eqb}
 use borrow.Author.Tests.{ltb-true, ltb-false, lt-ltb, le-ltb, eq-eqb, ne-eqb}
 use Rattle.model.specs.Sizes.{Bytes}
 use Rattle.model.specs.Record as model
 use Rattle.model.specs.Rows as rows
 use Rattle.model.specs.Rows.{failing, verdict, or, rule1, rule2, rule3, rule4}
-use Rattle.model.proofs.Tests.{either}
+use Rattle.model.proofs.Tests.{either, cond-true, cond-false}
 use Rattle.units.specs.declared.NodeId.{NodeId}
 use Rattle.record_scan.specs.Places.{rowAt, afterRow, rowsAt}
 use Rattle.record_walk.specs.Values.{rowValue}
 use Rattle.record_walk.specs.declared.walk.Row.{Row}
 use Rattle.record_walk.proofs.Walks.{rows-next, rows-none}
 use Rattle.invariants.specs.declared.commit_safety.Verdict.{Verdict}
-use Rattle.invariants.specs.Rules.{rowOf, noRule, firstRule, verdictAt, leastFrom, verdictOf}
+use Rattle.invariants.specs.Rules.{rowOf, noRule, firstRule, verdictAt, leastFrom, verdictFor, verdictOf}
 
 -- ---- the first rule of a row, by the rules before it
 
@@ -49,6 +49,17 @@ module _ (r : model.Row) where
   pub first-none : rule1 r ≡ false → rule2 r ≡ false → rule3 r ≡ false → rule4 r ≡ false → noRule ≡ firstRule r
   unfolding firstRule
   first-none a b c d = rw (a, b, c, d)
+
+  pub first-least : 1 ≤ firstRule r
+  unfolding firstRule
+  first-least = least (rule1 r) (rule2 r) (rule3 r) (rule4 r)
+    where
+      least : (a b c d : Bool) → 1 ≤ cond {A = ℕ} a 1 (cond b 2 (cond c 3 (cond d 4 noRule)))
+      least true b c d = omega arith
+      least false true c d = omega arith
+      least false false true d = omega arith
+      least false false false true = omega arith
+      least false false false false = omega arith
 
 -- ---- the rules before rule k, as the model tries them
 
@@ -161,9 +172,23 @@ module _ (s : Bytes) (at n k m : ℕ) {t : rows.Verdict} (e : t ≡ leastFrom k 
 
 -- ---- the answer
 
-pub none-failed : {t : rows.Verdict} (k m : ℕ) → verdictAt k m ≡ t → k ≡ noRule → verdictOf Verdict.Holds ≡ t
-none-failed k m e q = sym (rw (eq-eqb k noRule q)) ∙ e
+pub none-failed : {t : rows.Verdict} (k m : ℕ) → verdictAt k m ≡ t → k ≡ noRule → Verdict.Holds ≡ verdictFor t
+none-failed k m e q = ap verdictFor (sym (cond-true (eqb k noRule) (record { rule = 0; node = 0 }) (record { rule = k; node = m }) (eq-eqb k noRule q)) ∙ e)
 
-pub one-failed : {t : rows.Verdict} (k : ℕ) (m : NodeId) → verdictAt k (m .0) ≡ t → (k ≡ noRule → ⊥)
-    → verdictOf (Verdict.Fails k m) ≡ t
-one-failed k m e q = sym (rw (ne-eqb k noRule q)) ∙ e
+pub one-failed : {t : rows.Verdict} (k : ℕ) (m : NodeId) → verdictAt k (m .0) ≡ t → 1 ≤ k → (k ≡ noRule → ⊥) → Verdict.Fails k m ≡ verdictFor t
+one-failed k m e l q =
+    let z : eqb k 0 ≡ false = ne-eqb k 0 (λ x. omega arith) in
+    sym (cond-false (eqb k 0) Verdict.Holds (Verdict.Fails k m) z)
+    ∙ ap verdictFor (sym (cond-false (eqb k noRule) (record { rule = 0; node = 0 }) (record { rule = k; node = m .0 }) (ne-eqb k noRule q)) ∙ e)
+
+-- the model's verdict comes back from the answer: where no rule fails its node is 0
+pub verdict-back : (rs : List model.Row) → verdictOf (verdictFor (verdict rs)) ≡ verdict rs
+unfolding verdict
+verdict-back rs = back (failing rule1 rs) (failing rule2 rs) (failing rule3 rs) (failing rule4 rs)
+  where
+    back : (a b c d : Option ℕ) → let v = or 1 a (or 2 b (or 3 c (or 4 d (record { rule = 0; node = 0 })))) in verdictOf (verdictFor v) ≡ v
+    back (some n) b c d = refl
+    back none (some n) c d = refl
+    back none none (some n) d = refl
+    back none none none (some n) = refl
+    back none none none none = refl

@@ -42,6 +42,10 @@ unfoldable pub leastFrom : ℕ → ℕ → List model.Row → rows.Verdict
 leastFrom k n [] = verdictAt k n
 leastFrom k n (r ∷ rs) = cond (ltb (firstRule r) k) (leastFrom (firstRule r) (r .node) rs) (leastFrom k n rs)
 
+-- the model's verdict as the code answers it: rule 0 is none
+abbrev pub verdictFor : rows.Verdict → Verdict
+verdictFor v = cond (eqb (v .rule) 0) Verdict.Holds (Verdict.Fails (v .rule) (record { 0 = v .node }))
+
 -- a verdict as the model numbers it: 0 and 0 where no row fails
 abbrev pub verdictOf : Verdict → rows.Verdict
 verdictOf Verdict.Holds = record { rule = 0; node = 0 }

@@ -3,7 +3,7 @@
 ghost use mathlib.Core.Path.{_≡_};
 ghost use Rattle.model.specs.Rows as model;
 ghost use Rattle.record_scan.specs.Places as places;
-ghost use Rattle.invariants.specs.Rules.{rowOf, firstRule, verdictOf};
+ghost use Rattle.invariants.specs.Rules.{rowOf, firstRule, verdictFor};
 use record_walk::walk::FIRST_ROW;
 use record_walk::walk::Row;
 use record_walk::walk::row_at;
@@ -65,7 +65,7 @@ fn first_rule(r: Row) -> u8
 // far and `node` the first that failed it. No rule comes before 1, so a row that fails it ends the walk.
 pub fn check_commit_safety(s: &[u8], count: usize) -> Verdict
     requires { ⌜ places.RowWalk (now s) places.firstRow count ⌝ }
-    ensures { λ r. ⌜ verdictOf r ≡ model.verdict (places.rowsAt (now (s .entry)) places.firstRow count) ⌝ }
+    ensures { λ r. ⌜ r ≡ verdictFor (model.verdict (places.rowsAt (now (s .entry)) places.firstRow count)) ⌝ }
 {
     let mut at = FIRST_ROW;
     let mut left = count;

@@ -1,9 +1,8 @@
 -- `leader_kinds::kinds::take_rows` meets its contract.
 -- Assumes nothing.
-use mathlib.Core.Path.{ap, _∙_}
+use mathlib.Core.Path.{_∙_}
 use borrow.Author.Needs.{needs}
 use Rattle.leader_kinds.proofs.Verdicts.{verdict-is}
-use Rattle.leader_kinds.specs.Kinds.{ofRows}
 use Rattle.leader_kinds.proofs.kinds.take_rows.Statement.{statement}
 use Rattle.leader_kinds.proofs.kinds.take_rows.Tie as tie
 
@@ -14,7 +13,7 @@ of-rows-requires : tie.Need-of-rows-requires
 of-rows-requires c κs = search needs
 
 returns : tie.Need-returns
-returns c = c .of-rows .ensures ∙ verdict-is (c .before .check-commit-safety .result) ∙ ap ofRows (c .before .check-commit-safety .ensures)
+returns c = c .of-rows .ensures ∙ verdict-is _ (c .before .check-commit-safety .result) (c .before .check-commit-safety .ensures)
 
 pub take-rows-spec : {M : Type 1} → statement M
 take-rows-spec = tie.close (tie.spec check-commit-safety-requires of-rows-requires returns)
