@@ -13,11 +13,10 @@ use Rattle.model.proofs.Tests.{cond-cases}
 use Rattle.storage_bytes.specs.Words.{wordAt}
 use Rattle.storage.specs.Tables.{CertificateRow}
 use Rattle.storage.specs.Writes.{FindingFits}
-use Rattle.storage.proofs.DecodeLaws.{FindingNamed}
+use Rattle.storage.proofs.DecodeLaws.{CertificateNamed, FindingNamed}
 use Rattle.storage.proofs.Meanings.{Stands}
 use Rattle.check_relevance.specs.Relevance.{relevantIn}
 use Rattle.certificate_judgement.specs.Judgement.{lacksThrough, lackingOf, lackingAt, lackingIn, lackingsIn}
-use Rattle.certificate_judgement.proofs.Fits.{Stored}
 use Rattle.certificate_judgement.proofs.CertificateMeaning.{relevant-within}
 
 -- ---- each finding fits its row
@@ -33,11 +32,11 @@ fitting g f =
     let c = f .0 .index in
     record { name = omega arith; node = omega arith; index = omega arith; term = f .1 }
 
-one-fits : (n : ℕ) (c : CertificateRow) (i : ℕ) → Stored n c → i ≤ 256 → Fitting (lackingOf c i)
-one-fits n c i s l = (record { low = omega arith; high = omega arith; node = s .named .leader; index = l }, s .term)
+one-fits : (n : ℕ) (c : CertificateRow) (i : ℕ) → CertificateNamed n c → i ≤ 256 → Fitting (lackingOf c i)
+one-fits n c i s l = (record { low = omega arith; high = omega arith; node = s .leader; index = l }, omega (arith, s .term))
 
 module _ (h : Bytes) (x : History) (s : Stands h x) where
-  pub lacking-fits : (c : CertificateRow) → Stored (wordAt h 0 2) c → (g : Finding) → List·Memᴰ g (lackingIn h c) → Fitting g
+  pub lacking-fits : (c : CertificateRow) → CertificateNamed (wordAt h 0 2) c → (g : Finding) → List·Memᴰ g (lackingIn h c) → Fitting g
   unfolding lackingIn lackingAt
   lacking-fits c w g =
       let r = relevantIn h c in
@@ -47,7 +46,7 @@ module _ (h : Bytes) (x : History) (s : Stands h x) where
       (λ _ m. subst Fitting (sym (List·Memᴰ·eq-of-singleton m)) (one-fits (wordAt h 0 2) c r w (relevant-within h x s c .1)))
       (λ _ m. absurd (List·Memᴰ·not-nil m)))
 
-  pub lackings-fit : (cs : List CertificateRow) → ((c : CertificateRow) → List·Memᴰ c cs → Stored (wordAt h 0 2) c)
+  pub lackings-fit : (cs : List CertificateRow) → ((c : CertificateRow) → List·Memᴰ c cs → CertificateNamed (wordAt h 0 2) c)
       → (g : Finding) → List·Memᴰ g (lackingsIn h cs) → Fitting g
   unfolding lackingsIn
   lackings-fit [] f g m = absurd (List·Memᴰ·not-nil m)

@@ -13,6 +13,7 @@ use Rattle.model.specs.Check.{relevant, lacking, moved}
 use Rattle.storage_bytes.specs.Words.{wordAt}
 use Rattle.storage.specs.Tables.{CertificateRow, certificateRow, certificatesPart}
 use Rattle.storage.specs.Decode.{certificateIn}
+use Rattle.storage.proofs.DecodeLaws.{CertificateNamed}
 use Rattle.storage.proofs.Meanings.{Stands, withElections, end-is}
 use Rattle.log_violation.proofs.ViolationLaws.{Holds, all-hold}
 use Rattle.storage.specs.Values.{committedEnd}
@@ -20,7 +21,6 @@ use Rattle.check_relevance.specs.Relevance.{relevantIn}
 use Rattle.certificate_judgement.specs.Judgement.{flagIn, lackingIn, JudgedAs}
 use Rattle.check_marks.specs.Marks.{markMoved}
 use Rattle.storage.proofs.WellFormed.{end-small}
-use Rattle.certificate_judgement.proofs.Fits.{Stored}
 use Rattle.certificate_judgement.proofs.CertificateMeaning.{positive, relevant-means, lacking-means}
 use Rattle.check_marks.proofs.MarkMeaning.{raised, mark-means}
 use Rattle.certificate_judgement.proofs.FindingMeaning.{fitting, lacking-fits}
@@ -37,14 +37,14 @@ either-set true b = refl
 either-set false b = refl
 
 module _ (h : Bytes) (x : History) (s : Stands h x) where
-  pub judge-means : (c : CertificateRow) → Stored (wordAt h 0 2) c → (t : Bytes) (b held b′ held′ : ℕ) (t′ : Bytes) (fs : List Finding)
+  pub judge-means : (c : CertificateRow) → CertificateNamed (wordAt h 0 2) c → (t : Bytes) (b held b′ held′ : ℕ) (t′ : Bytes) (fs : List Finding)
       → length t ≡ 1024 → Holds t held fs → JudgedAs h c t b held b′ held′ t′ → StepMeans x (certificateIn (x .prefixes) c) b fs b′ held′ t′
   unfolding flagIn
   judge-means c w t b held b′ held′ t′ fs l k j =
       record {
         flag = j .flag ∙ either-set (eqb (relevantIn h c) 0) b ∙ ap (λ (z : Bool). cond z 4 b) (positive (relevantIn h c))
             ∙ ap (λ (r : ℕ). cond (ltb 0 r) 4 b) (relevant-means h x s c);
-        findings = subst (λ (gs : List Finding). Holds t′ held′ (noted fs gs)) (lacking-means h x s c (w .named .log))
+        findings = subst (λ (gs : List Finding). Holds t′ held′ (noted fs gs)) (lacking-means h x s c (w .log))
             (subst₂ (λ (u : Bytes) (n : ℕ). Holds u n (noted fs (lackingIn h c))) (sym (j .table)) (sym (j .holds))
             (all-hold (lackingIn h c) t held fs l (λ g m. fitting g (lacking-fits h x s c w g m)) k));
       }

@@ -1,5 +1,5 @@
--- What the check means: of bytes that stand for a history whose terms fit 32 bits the answer is the model's, and the bytes after
--- it stand for the model's history after it.
+-- What the check means: of bytes that stand for a history the answer is the model's, and the bytes after it stand for the
+-- model's history after it.
 -- Assumes nothing.
 use Prim.Native.Nat.{ℕ, _<_, _≤_}
 use native.Mathlib.Omega.{arith}
@@ -23,6 +23,7 @@ use Rattle.storage_bytes.specs.Words.{wordAt}
 use Rattle.storage.specs.Tables.{CertificateRow, certificateRow, certificatesPart, findingRow, findingRows, findingsPart}
 use Rattle.storage.specs.Rules.{findingRight}
 use Rattle.storage_bytes.proofs.ListLaws.{tabulate-length}
+use Rattle.storage.proofs.DecodeLaws.{CertificateNamed}
 use Rattle.storage.proofs.Meanings.{Stands, withElections, withNoted, certificates-stored, findings-stored, findings-taken, findings-right, noted-right, end-is}
 use Rattle.storage.proofs.Answered.{Means, accepts, refuses}
 use Rattle.log_violation.specs.Violation.{findingsKept}
@@ -33,14 +34,14 @@ use Rattle.certificate_judgement.specs.Judgement.{lackingsIn, flagsIn}
 use Rattle.check_marks.specs.Marks.{marksMoved}
 use Rattle.completeness.specs.Check.{checkReply, checkHeld, checkTable, checkWritten, checkAnswer, checkBytes, CheckedAs}
 use Rattle.storage.proofs.WellFormed.{formed, end-small}
-use Rattle.certificate_judgement.proofs.Fits.{TermsFit, Stored, stored}
+use Rattle.certificate_judgement.proofs.Fits.{stored}
 use Rattle.certificate_judgement.proofs.CertificateMeaning.{lackings-mean, flags-mean}
 use Rattle.check_marks.proofs.MarkMeaning.{raised, marks-mean}
 use Rattle.certificate_judgement.proofs.FindingMeaning.{Fitting, fitting, lackings-fit}
 
-module _ (h : Bytes) (x : History) (s : Stands h x) (f : TermsFit x) where
-  rows : (c : CertificateRow) → List·Memᴰ c (certificatesOf h) → Stored (wordAt h 0 2) c
-  rows = stored h x s f
+module _ (h : Bytes) (x : History) (s : Stands h x) where
+  rows : (c : CertificateRow) → List·Memᴰ c (certificatesOf h) → CertificateNamed (wordAt h 0 2) c
+  rows = stored h (s .right)
 
   notes-fit : (g : Finding) → List·Memᴰ g (lackingsIn h (certificatesOf h)) → Fitting g
   notes-fit = lackings-fit h x s (certificatesOf h) rows
@@ -49,7 +50,7 @@ module _ (h : Bytes) (x : History) (s : Stands h x) (f : TermsFit x) where
   unfolding checkFindings
   found =
       ap (noted (x .findings))
-      (lackings-mean h x s (certificatesOf h) (λ c m. rows c m .named .log) ∙ ap (lackings (x .committed) (x .terms)) (certificates-stored h x s))
+      (lackings-mean h x s (certificatesOf h) (λ c m. rows c m .log) ∙ ap (lackings (x .committed) (x .terms)) (certificates-stored h x s))
 
   -- the copy of the findings holds the model's, or there are too many
   holds : Holds (checkTable h) (checkHeld h) (checkFindings x)
@@ -127,9 +128,9 @@ module _ (h : Bytes) (x : History) (s : Stands h x) (f : TermsFit x) where
     refused-means : Means h x check (checkReply (checkAnswer h)) (checkBytes h)
     refused-means = refuses h x check _ (checkBytes h) findingsFull s model-refuses (ap checkReply refused) unchanged
 
--- the check of bytes that stand for a history is the model's check of it. A term is copied into an LG-05, and must fit there
-pub check-means : (h : Bytes) (x : History) (answer : Checked) (after : Bytes) → Stands h x → TermsFit x → CheckedAs h answer after
+-- the check of bytes that stand for a history is the model's check of it
+pub check-means : (h : Bytes) (x : History) (answer : Checked) (after : Bytes) → Stands h x → CheckedAs h answer after
     → Means h x check (checkReply answer) after
-check-means h x answer after s f c =
+check-means h x answer after s c =
     subst₂ (λ (a : Checked) (u : Bytes). Means h x check (checkReply a) u) (sym (c .is)) (sym (c .bytes))
-    (⊎-elim (λ a. accepted-means h x s f (a .0) (a .1)) (λ a. refused-means h x s f (a .0) (a .1)) (holds h x s f))
+    (⊎-elim (λ a. accepted-means h x s (a .0) (a .1)) (λ a. refused-means h x s (a .0) (a .1)) (holds h x s))

@@ -198,7 +198,7 @@ module _ (h : Bytes) (x : History) (s : Stands h x) where
           }
 
       new-named : CertificateNamed (wordAt h 0 2) new
-      new-named = record { log = stored; mark = omega arith; leader = omega arith; present = flag-small p }
+      new-named = record { log = stored; mark = omega arith; leader = omega arith; term = omega arith; present = flag-small p }
 
       certificate-is : certificateIn (x .prefixes) new ≡ certificate x l t p n
       unfolding certificate

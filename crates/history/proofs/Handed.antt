@@ -10,7 +10,6 @@ use Rattle.model.specs.Answer.{answer, isAccepted}
 use Rattle.model.proofs.Tests.{either}
 use Rattle.storage.specs.Rules.{wellFormed}
 use Rattle.storage.specs.Decode.{decode}
-use Rattle.certificate_judgement.proofs.Fits.{Octets, octets-fit}
 use Rattle.answers.specs.declared.answer.Answer.{Answer}
 use Rattle.answers.specs.declared.numbers.Reply.{Reply}
 use Rattle.answers.specs.Numbers.{refusalIn, replyOf, modelReply}
@@ -47,9 +46,9 @@ number-refused (model.refused r) f = refl
 
 -- ---- the promise
 
-module _ (h s : Bytes) (a : Answer) (h′ : Bytes) (o : Octets h) (p : Submitted h s a h′) where
+module _ (h s : Bytes) (a : Answer) (h′ : Bytes) (p : Submitted h s a h′) where
   means : wellFormed h ≡ true → Means h (decode h) s a h′
-  means w = submit-means h (decode h) s a h′ (stand h w) (octets-fit h (decode h) (stand h w) o) p
+  means w = submit-means h (decode h) s a h′ (stand h w) p
 
   replies : wellFormed h ≡ true → replyOf a ≡ modelReply (answer (decode h) s)
   replies w = reply-alike a (answer (decode h) s) (means w .answers)

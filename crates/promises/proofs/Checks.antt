@@ -15,13 +15,14 @@ use Rattle.model.specs.Ledger.{Ledger, fed}
 use Rattle.model.specs.Run.{told, Event, eventUnless, eventRead, eventsFrom}
 use Rattle.model.proofs.Completeness as model
 use Rattle.model.proofs.Completeness.{Known}
+use Rattle.storage.proofs.Meanings.{Stands}
 use Rattle.submission.specs.Replies.{submitBytes}
 use Rattle.promises.specs.Run.{bytesFrom, accepts, ledgerFrom, KnownAtChecks}
-use Rattle.promises.proofs.Machine.{StandsFor, submitting, accepts-is}
+use Rattle.promises.proofs.Machine.{submitting, accepts-is}
 
 -- ---- an accepted record, by its number and by the model
 
-pub accepts-alike : (h : Bytes) (x : History) → StandsFor h x → (s : Bytes) → accepts h s ≡ isAccepted (answer x s)
+pub accepts-alike : (h : Bytes) (x : History) → Stands h x → (s : Bytes) → accepts h s ≡ isAccepted (answer x s)
 accepts-alike h x r s = accepts-is h s ∙ ap isAccepted (submitting .alike h x r s)
 
 -- ---- an event is of a record that was accepted
@@ -60,7 +61,7 @@ record Place (h : Bytes) (g : Ledger) (ss : List Bytes) (e : Event) : Type 0 whe
   pub accepted : accepts (bytesFrom h before) one ≡ true
   pub ledger : ledgerFrom h g before ≡ e .ledger
 
-place : (ss : List Bytes) (h : Bytes) (x : History) (g : Ledger) → StandsFor h x → (e : Event) → List·Memᴰ e (eventsFrom x g ss) → Place h g ss e
+place : (ss : List Bytes) (h : Bytes) (x : History) (g : Ledger) → Stands h x → (e : Event) → List·Memᴰ e (eventsFrom x g ss) → Place h g ss e
 unfolding eventsFrom bytesFrom ledgerFrom told
 place [] h x g r e m = absurd (List·Memᴰ·not-nil m)
 place (s ∷ ss) h x g r e m =

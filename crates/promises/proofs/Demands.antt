@@ -17,6 +17,7 @@ use Rattle.model.proofs.Bridge as bridge
 use Rattle.storage.specs.Rules.{wellFormed}
 use Rattle.storage.specs.Decode.{decode}
 use Rattle.storage.specs.Fresh.{freshHistory}
+use Rattle.storage.proofs.Meanings.{Stands}
 use Rattle.index_lists.specs.Picked.{nth}
 use Rattle.answers.specs.declared.numbers.Reply.{Reply}
 use Rattle.history.specs.declared.exports.FindingReply.{FindingReply}
@@ -25,17 +26,17 @@ use Rattle.history.specs.Exports.{aFinding, noFinding, findingOut, aLeader, noL
 use Rattle.history.proofs.Handed.{reply-alike, number-refused}
 use Rattle.promises.specs.Run.{bytesOf, ledgerOf}
 use Rattle.promises.specs.Demands.{NeverBroken, Demand1, PrintsNone, Demand2Matching, Demand2Committed, Demand3}
-use Rattle.promises.proofs.Machine.{StandsFor, said, submitting, means, accepts-is, states-are, ledgers-are}
+use Rattle.promises.proofs.Machine.{said, submitting, means, accepts-is, states-are, ledgers-are}
 use Rattle.promises.proofs.Checks.{known-alike}
 
 -- ---- demand 1
 
 -- the bytes after every list stand for the model's history
-stands : (ss : List Bytes) → StandsFor (bytesOf ss) (historyOf ss)
-stands ss = subst (λ (h : Bytes). StandsFor h (historyOf ss)) (states-are ss freshHistory) (bridge.stands-always submitting ss .0)
+stands : (ss : List Bytes) → Stands (bytesOf ss) (historyOf ss)
+stands ss = subst (λ (h : Bytes). Stands h (historyOf ss)) (states-are ss freshHistory) (bridge.stands-always submitting ss .0)
 
 pub never-broken : NeverBroken
-never-broken ss = (stands ss .0 .right, stands ss .0 .decodes)
+never-broken ss = (stands ss .right, stands ss .decodes)
 
 pub demand1 : Demand1
 demand1 ss s =

@@ -1,4 +1,3 @@
-pub mod Fits
 pub mod Machine
 pub mod Checks
 pub mod Demands

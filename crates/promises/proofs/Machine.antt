@@ -1,4 +1,4 @@
--- `gamiwhoru_submit` on bytes as a machine of the model's bridge: its states are bytes, which stand for histories whose terms fit.
+-- `gamiwhoru_submit` on bytes as a machine of the model's bridge: its states are bytes, which stand for histories.
 -- Assumes nothing.
 use mathlib.Core.Path.{_≡_, refl, sym, _∙_, ap}
 use mathlib.Core.Bool.{Bool}
@@ -17,22 +17,16 @@ use Rattle.bit_fields.specs.declared.bits.Fault.{Fault}
 use Rattle.storage.specs.Decode.{decode}
 use Rattle.storage.specs.Fresh.{freshHistory}
 use Rattle.storage.proofs.Meanings.{Stands, fresh-stands}
-use Rattle.certificate_judgement.proofs.Fits.{TermsFit}
 use Rattle.answers.specs.declared.answer.Answer.{Answer}
 use Rattle.answers.specs.Numbers.{replyOf}
 use Rattle.submission.specs.Replies.{submitAnswer, submitBytes}
 use Rattle.submission.proofs.Meaning.{modelled, Means, submit-means}
 use Rattle.promises.specs.Run.{bytesFrom, accepts, ledgerFrom}
-use Rattle.promises.proofs.Fits.{fresh-fit, after-fit}
 
 -- ---- the machine
 
--- the bytes stand for the history, and its terms fit
-abbrev pub StandsFor : Bytes → History → Type 0
-StandsFor h x = Stands h x × TermsFit x
-
-pub means : (h : Bytes) (x : History) → StandsFor h x → (s : Bytes) → Means h x s (submitAnswer h s) (submitBytes h s)
-means h x r s = submit-means h x s (submitAnswer h s) (submitBytes h s) (r .0) (r .1) (record { answer = refl; bytes = refl })
+pub means : (h : Bytes) (x : History) → Stands h x → (s : Bytes) → Means h x s (submitAnswer h s) (submitBytes h s)
+means h x r s = submit-means h x s (submitAnswer h s) (submitBytes h s) r (record { answer = refl; bytes = refl })
 
 -- the model's answer. Bytes that stand for a history are never answered 12, so what stands for 12 does not matter.
 abbrev orElse : Option model.Answer → model.Answer
@@ -49,14 +43,14 @@ submitting =
       start = freshHistory;
       answers = λ h s. said (submitAnswer h s);
       next = submitBytes;
-      Stands = StandsFor;
-      starts = (fresh-stands, fresh-fit);
+      Stands = Stands;
+      starts = fresh-stands;
       alike = λ h x r s. ap orElse (means h x r s .answers);
-      keeps = λ h x r s. (means h x r s .stands, after-fit s x (r .1));
+      keeps = λ h x r s. means h x r s .stands;
       findings = λ h. findingList (decode h);
       leaders = λ h. leaderList (decode h);
-      findingsAlike = λ h x r. ap findingList (r .0 .decodes);
-      leadersAlike = λ h x r. ap leaderList (r .0 .decodes);
+      findingsAlike = λ h x r. ap findingList (r .decodes);
+      leadersAlike = λ h x r. ap leaderList (r .decodes);
     }
 
 -- ---- its runs are those of Run.antt

@@ -92,6 +92,7 @@ pub record CertificateNamed (n : ℕ) (x : CertificateRow) : Type 0 where
   pub log : x .log ≤ n
   pub mark : x .mark ≤ 256
   pub leader : x .leader ≤ 63
+  pub term : x .term ≤ 4294967295
   pub present : x .present ≤ 1
 
 pub certificate-named : (n : ℕ) (x : CertificateRow) → certificateRight n x ≡ true → CertificateNamed n x
@@ -100,12 +101,19 @@ certificate-named n x e =
     let a = both (leb (x .log) n) _ e in
     let b = both (leb (x .mark) 256) _ (a .1) in
     let c = both (leb (x .leader) 63) _ (b .1) in
-    record { log = leb-true _ _ (a .0); mark = leb-true _ _ (b .0); leader = leb-true _ _ (c .0); present = leb-true _ _ (c .1) }
+    let d = both (leb (x .term) 4294967295) _ (c .1) in
+    record {
+      log = leb-true _ _ (a .0);
+      mark = leb-true _ _ (b .0);
+      leader = leb-true _ _ (c .0);
+      term = leb-true _ _ (d .0);
+      present = leb-true _ _ (d .1);
+    }
 
 pub certificate-test : (n : ℕ) (x : CertificateRow) → CertificateNamed n x → certificateRight n x ≡ true
 unfolding certificateRight
 certificate-test n x f =
-    pass _ (le-leb _ _ (f .log)) ∙ pass _ (le-leb _ _ (f .mark)) ∙ pass _ (le-leb _ _ (f .leader)) ∙ le-leb _ _ (f .present)
+    pass _ (le-leb _ _ (f .log)) ∙ pass _ (le-leb _ _ (f .mark)) ∙ pass _ (le-leb _ _ (f .leader)) ∙ pass _ (le-leb _ _ (f .term)) ∙ le-leb _ _ (f .present)
 
 pub record FindingNamed (x : Finding) : Type 0 where
   pub low : 3 ≤ x .name
@@ -212,7 +220,7 @@ module _ (t : Tables) (k : Kept t) where
         certificates = every-weaker (certificateRight (length (t .rows))) _ (t .certificates)
             (λ y q.
             let f = certificate-named _ y q in
-            certificate-test _ y (record { log = omega arith; mark = f .mark; leader = f .leader; present = f .present })) (k .certificates);
+            certificate-test _ y (record { log = omega arith; mark = f .mark; leader = f .leader; term = f .term; present = f .present })) (k .certificates);
         numbered = k .numbered;
         findings = k .findings;
         rows = right-snoc [] (t .rows) x ∙ pass _ (k .rows) ∙ e;

@@ -329,7 +329,7 @@ module _ (h : Bytes) (x : History) (s : Stands h x) where
       let cs = tablesOf h .certificates in
       let n = length (tablesOf h .rows) in
       let count = certificates-count h in
-      let named : CertificateNamed n c = record { log = omega (arith, g .log); mark = g .mark; leader = g .leader; present = g .present } in
+      let named : CertificateNamed n c = record { log = omega (arith, g .log); mark = g .mark; leader = g .leader; term = g .term; present = g .present } in
       let more : length (take k cs ++ (c ∷ drop k cs)) ≡ length cs + 1
       = length-append (take k cs) (c ∷ drop k cs)
       ∙ (let a = length-append (take k cs) (drop k cs) in

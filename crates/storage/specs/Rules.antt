@@ -5,10 +5,11 @@
 --   none stored twice: `isAmong`
 --   each prefix named exists: `named`
 --   a term's certificates numbered 0, 1, .. unbroken: `numbered`
---   every field in range: `isNode`, `isIndex`, and the tests of a row that use them
+--   every field in range: `isNode`, `isIndex`, `isTerm`, and the tests of a row that use them
 -- "One remembered prefix per index and term" cannot be broken by any bytes: the prefix remembered for a pair is the first
 -- stored one of that length and last term, so there is no table of them, and never two for a pair.
--- Nor can a term be out of range: every number of four bytes is one.
+-- Nor can a term in bytes be out of range, as every number of four bytes is one, so the code does not test it. `Bytes` here are
+-- lists of any numbers: for those the rule says it of a certificate's term (`isTerm`), which a check copies into a finding.
 -- Assumes nothing.
 use Prim.Native.Nat.{ℕ, _+_}
 use mathlib.Core.Bool.{Bool, true, false, cond, not, _&&_, _||_}
@@ -30,6 +31,9 @@ isNode n = leb n 63
 abbrev pub isIndex : ℕ → Bool
 isIndex i = leb i indexLimit
 
+abbrev pub isTerm : ℕ → Bool
+isTerm t = leb t 4294967295
+
 -- ---- each prefix named exists: p is 0 or the number of one of n stored ones
 
 abbrev pub named : ℕ → ℕ → Bool
@@ -41,7 +45,7 @@ unfoldable pub nodeRight : ℕ → NodeRow → Bool
 nodeRight n r = named n (r .front) && (isIndex (r .last) && isIndex (r .unseen))
 
 unfoldable pub certificateRight : ℕ → CertificateRow → Bool
-certificateRight n c = named n (c .log) && (isIndex (c .mark) && (isNode (c .leader) && leb (c .present) 1))
+certificateRight n c = named n (c .log) && (isIndex (c .mark) && (isNode (c .leader) && (isTerm (c .term) && leb (c .present) 1)))
 
 -- a finding's name is 3, 4 or 5
 unfoldable pub findingRight : Finding → Bool

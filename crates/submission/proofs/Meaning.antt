@@ -36,7 +36,6 @@ use Rattle.election.specs.Certify.{answerIn}
 use Rattle.election.proofs.Meaning as elections
 use Rattle.completeness.specs.declared.leader_completeness.Checked.{Checked}
 use Rattle.completeness.specs.Check.{checkReply, checkAnswer, checkBytes}
-use Rattle.certificate_judgement.proofs.Fits.{TermsFit}
 use Rattle.completeness.proofs.Meaning as checks
 use Rattle.answers.specs.declared.answer.Answer.{Answer}
 use Rattle.log_kinds.specs.Kinds.{ofView, ofCommit, ofTerms}
@@ -114,33 +113,33 @@ module _ (h : Bytes) (x : History) (st : Stands h x) where
         keeps = λ _. refl;
       }
 
-  told-means : TermsFit x → (s : Bytes) (d : Head) → Told s d → Means h x s (replyTo h s d) (bytesTo h s d)
-  told-means f s (Head.View n c) t =
+  told-means : (s : Bytes) (d : Head) → Told s d → Means h x s (replyTo h s d) (bytesTo h s d)
+  told-means s (Head.View n c) t =
       took h x s _ _ _ _ (t .reading) (view-said (observed 512 h s c (n .0)))
       (views.view-mean h x s c (n .0) st (view-walk s _ n c t refl) (t .within .0))
-  told-means f s (Head.Commit n i) t =
+  told-means s (Head.Commit n i) t =
       took h x s _ _ _ _ (t .reading) (commit-said (commitAnswer h (n .0) (i .0)))
       (commits.commit-mean h x (n .0) (i .0) st (t .within .0) (t .within .1))
-  told-means f s (Head.Terms b n k) t =
+  told-means s (Head.Terms b n k) t =
       took h x s _ _ _ _ (t .reading) (terms-said (termsAnswer (b .0) (n .0)))
       (commit-terms.terms-mean h x (b .0) (n .0) (k .0) st (t .within .1) (t .within .2))
-  told-means f s (Head.Election l k p n) t =
+  told-means s (Head.Election l k p n) t =
       took h x s _ _ _ _ (t .reading) (election-said (answerIn h (l .0) (k .0) n))
       (elections.election-recorded h x st (l .0) (k .0) p n (t .within .0) (t .within .1) _ _ (record { answer = refl; bytes = refl }))
-  told-means f s Head.Check t =
+  told-means s Head.Check t =
       took h x s _ _ _ _ (t .reading) (check-said (checkAnswer h))
-      (checks.check-means h x (checkAnswer h) (checkBytes h) st f (record { is = refl; bytes = refl }))
-  told-means f s (Head.Rows c) t =
+      (checks.check-means h x (checkAnswer h) (checkBytes h) st (record { is = refl; bytes = refl }))
+  told-means s (Head.Rows c) t =
       took h x s _ _ _ _ (t .reading) refl (kinds.accepts h x (rows (rowsAt s firstRow c)) _ h refl refl st)
-  told-means f s (Head.Unreadable w) t = unread s w (t .reading)
+  told-means s (Head.Unreadable w) t = unread s w (t .reading)
 
--- of bytes that stand for a history whose terms fit 32 bits, what `submit` promises is what the model says
-pub submit-means : (h : Bytes) (x : History) (s : Bytes) (r : Answer) (h′ : Bytes) → Stands h x → TermsFit x → Submitted h s r h′ → Means h x s r h′
+-- of bytes that stand for a history, what `submit` promises is what the model says
+pub submit-means : (h : Bytes) (x : History) (s : Bytes) (r : Answer) (h′ : Bytes) → Stands h x → Submitted h s r h′ → Means h x s r h′
 unfolding submitAnswer submitBytes
-submit-means h x s r h′ st f p =
+submit-means h x s r h′ st p =
     let w = st .right in
     subst₂ (Means h x s) (sym (p .answer ∙ cond-true (wellFormed h) _ Answer.StorageBroken w)) (sym (p .bytes ∙ cond-true (wellFormed h) _ h w))
-    (told-means h x st f s (headOf (read s)) (told-always s))
+    (told-means h x st s (headOf (read s)) (told-always s))
 
 -- of bytes that break the storage rules, it is 12 and every byte as it was
 pub submit-broken : (h s : Bytes) (r : Answer) (h′ : Bytes) → wellFormed h ≡ false → Submitted h s r h′ → (r ≡ Answer.StorageBroken) × (h′ ≡ h)

@@ -104,7 +104,7 @@ module _ (h : Bytes) (x : History) (s : Stands h x) where
       let cs = tablesOf h .certificates in
       let c = markedRow (certificateOf h k) m in
       let g = formed h (s .right) .certificate k l in
-      let named : CertificateNamed n c = record { log = omega (arith, g .log, rows-count h); mark = f; leader = g .leader; present = g .present } in
+      let named : CertificateNamed n c = record { log = omega (arith, g .log, rows-count h); mark = f; leader = g .leader; term = g .term; present = g .present } in
       let count = certificates-count h in
       let e = tables-marked h k m (long h x s) (let y = lim .certificates in omega arith) (omega arith) in
       let keeps : Kept (withCertificates (tablesOf h) (set cs k c)) =

@@ -1,5 +1,8 @@
--- `certificate_rules::certificates::certificate_right` meets its contract: each test of the code is one of the definition's.
+-- `certificate_rules::certificates::certificate_right` meets its contract: each test of the code is one of the definition's, and the term
+-- is in range by its type.
 -- Assumes nothing.
+use Prim.Native.Nat.{_≤_}
+use native.Mathlib.Omega.{arith}
 use borrow.Author.Tests.{le-leb, lt-leb}
 use Rattle.storage.specs.Rules.{certificateRight}
 use Rattle.certificate_rules.proofs.certificates.certificate_right.Statement.{statement}
@@ -21,10 +24,12 @@ returns-3 c =
 returns-4 : tie.Need-returns-4
 unfolding certificateRight
 returns-4 c =
+    let term : c .before .before .before .before .before .before .before .args .c .term .0 ≤ 4294967295 = omega arith in
     rw (
       le-leb _ _ (c .before .before .before .before .before .if1 .left),
       le-leb _ _ (c .before .before .before .if2 .left),
       le-leb _ _ (c .before .if3 .left),
+      le-leb _ _ term,
     )
 
 pub certificate-right-spec : {M : Type 1} → statement M

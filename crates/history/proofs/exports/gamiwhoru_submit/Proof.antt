@@ -1,6 +1,5 @@
 -- `history::exports::gamiwhoru_submit` meets its contract.
 -- Assumes nothing.
-use native.Mathlib.Omega.{arith}
 use borrow.Author.Needs.{needs}
 use Rattle.history.proofs.Handed.{handed}
 use Rattle.history.proofs.exports.gamiwhoru_submit.Statement.{statement}
@@ -16,9 +15,7 @@ same-length : tie.Need-same-length
 same-length c = search needs
 
 returns : tie.Need-returns
-returns c =
-    let known = c .before .before .before .before .before .before .slice-known in
-    handed _ _ _ _ (λ i. omega (arith, known .given i)) (c .before .before .before .submit .ensures) _ (c .reply-of .ensures)
+returns c = handed _ _ _ _ (c .before .before .before .submit .ensures) _ (c .reply-of .ensures)
 
 pub gamiwhoru-submit-spec : {M : Type 1} → statement M
 gamiwhoru-submit-spec = tie.close (tie.spec submit-requires reply-of-requires same-length returns)
