@@ -15,7 +15,6 @@ use prefix_lookup::lookup::slice_through;
 use prefix_rows::prefixes::through;
 use storage::head::committed_number;
 use storage::head::owner_number;
-use storage::head::prefix_count;
 use storage::head::set_committed;
 use storage_bytes::layout::NODES_LENGTH;
 use storage_bytes::layout::NODES_START;
@@ -112,14 +111,13 @@ pub fn agree_through(
     ensures { λ r. ⌜ r ≡ agreeIn (now (history .entry)) (a .0) (b .0) (index .0) ⌝ }
 {
     let prefixes = part(history, PREFIXES_START, PREFIXES_LENGTH);
-    let count = prefix_count(history);
-    let Slice::Prefix(p) = slice_through(prefixes, count, a, index) else {
+    let Slice::Prefix(p) = slice_through(prefixes, a, index) else {
         return false;
     };
-    let Slice::Prefix(q) = slice_through(prefixes, count, b, index) else {
+    let Slice::Prefix(q) = slice_through(prefixes, b, index) else {
         return false;
     };
-    same_prefix(prefixes, count, p, q)
+    same_prefix(prefixes, p, q)
 }
 
 // The prefix becomes the committed one, and the node its owner; the node's unseen mark is cleared.

@@ -1,7 +1,7 @@
 // Comparison of stored prefixes (the equality of types/prefix.rs). Equal numbers are the same stored prefix, which is the Rust's
 // shortcut; of unequal ones term and content at each index decide.
 ghost use mathlib.Core.Path.{_≡_};
-ghost use Prim.Native.Nat.{_≤_};
+ghost use Prim.Native.Nat.{ℕ, _≤_};
 ghost use Rattle.storage.specs.Tables.{prefixRow};
 ghost use Rattle.prefix_lookup.specs.Table.{Table};
 ghost use Rattle.log_comparison.specs.Comparison.{sameFrom};
@@ -14,8 +14,8 @@ use units::LogPrefixWitness;
 
 // Whether two stored prefixes are the same. From the last entries back, left at the first byte that differs; they are the same
 // where that comes to one prefix that both extend.
-pub fn same_prefix(prefixes: &[u8], count: usize, a: LogPrefixWitness, b: LogPrefixWitness) -> bool
-    requires { ⌜ Table (now prefixes) count × (a .0 ≤ count) × (b .0 ≤ count) ⌝ }
+pub fn same_prefix(prefixes: &[u8], a: LogPrefixWitness, b: LogPrefixWitness) -> bool
+    requires { ⌜ ((n : ℕ) × Table (now prefixes) n × (a .0 ≤ n) × (b .0 ≤ n)) ⌝ }
     ensures { λ r. ⌜ r ≡ sameFrom (prefixRow (now (prefixes .entry))) (a .0) (a .0) (b .0) ⌝ }
 {
     let mut p = a.0;

@@ -1,7 +1,7 @@
 // Stored prefixes are found by what they extend or by index and term, and cut at an index (types/prefix.rs); so is a node's front.
 ghost use mathlib.Core.Path.{_≡_};
 ghost use mathlib.Core.Bool.{true};
-ghost use Prim.Native.Nat.{_≤_, _<_};
+ghost use Prim.Native.Nat.{ℕ, _≤_, _<_};
 ghost use lib.ListN.{length};
 ghost use Rattle.storage.specs.Tables.{prefixRow};
 ghost use Rattle.storage.specs.Rules.{sameRow, wellFormed};
@@ -13,7 +13,6 @@ use prefix_rows::prefixes::size_at;
 use prefix_rows::prefixes::term_at;
 use prefix_rows::prefixes::through;
 use record_walk::walk::ShownEntry;
-use storage::head::prefix_count;
 use storage_bytes::layout::NODES_LENGTH;
 use storage_bytes::layout::NODES_START;
 use storage_bytes::layout::PREFIX_CONTENT;
@@ -101,8 +100,8 @@ pub fn first_of(prefixes: &[u8], count: usize, index: LogIndex, term: Term) -> S
 }
 
 // The prefix through the index: nothing beyond its end, the empty prefix at zero.
-pub fn slice_through(prefixes: &[u8], count: usize, p: LogPrefixWitness, index: LogIndex) -> Slice
-    requires { ⌜ Table (now prefixes) count × (p .0 ≤ count) ⌝ }
+pub fn slice_through(prefixes: &[u8], p: LogPrefixWitness, index: LogIndex) -> Slice
+    requires { ⌜ ((n : ℕ) × Table (now prefixes) n × (p .0 ≤ n)) ⌝ }
     ensures { λ r. ⌜ r ≡ sliceOf (prefixRow (now (prefixes .entry))) (p .0) (index .0) ⌝ }
 {
     if through(prefixes, p).0 < index.0 {
@@ -121,12 +120,6 @@ pub fn front_through(history: &[u8], node: NodeId, index: LogIndex) -> Slice
     ensures { λ r. ⌜ r ≡ frontThrough (now (history .entry)) (node .0) (index .0) ⌝ }
 {
     let x = node_at(part(history, NODES_START, NODES_LENGTH), node.0 as usize);
-    let count = prefix_count(history);
     let front = x.front;
-    slice_through(
-        part(history, PREFIXES_START, PREFIXES_LENGTH),
-        count,
-        front,
-        index,
-    )
+    slice_through(part(history, PREFIXES_START, PREFIXES_LENGTH), front, index)
 }

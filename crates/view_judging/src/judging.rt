@@ -64,7 +64,7 @@ fn is_other(prefixes: &[u8], count: usize, index: LogIndex, term: Term, p: LogPr
     let Stored::Prefix(remembered) = first_of(prefixes, count, index, term) else {
         return false;
     };
-    !same_prefix(prefixes, count, remembered, p)
+    !same_prefix(prefixes, remembered, p)
 }
 
 // A prefix is remembered for the index and term: another one than any that is not stored.

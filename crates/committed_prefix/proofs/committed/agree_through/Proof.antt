@@ -3,10 +3,10 @@
 use Rattle.committed_prefix.proofs.PrefixTurns.{agree-short, agree-short-2, agree-same, slice-kept}
 use Rattle.storage.proofs.WellFormed.{formed}
 use Rattle.prefix_lookup.proofs.TableLaws.{table-lent}
-use Prim.Native.Nat.{ℕ, _≤_}
 use borrow.Author.Needs.{needs}
 use native.Mathlib.Omega.{arith}
-use mathlib.Core.Path.{sym, subst}
+use mathlib.Core.Path.{refl}
+use Rattle.storage_bytes.specs.Words.{wordAt}
 use Rattle.committed_prefix.proofs.committed.agree_through.Statement.{statement}
 use Rattle.committed_prefix.proofs.committed.agree_through.Tie as tie
 
@@ -15,16 +15,11 @@ part-requires c κs =
     let l = formed _ (c .before .pre .0) .long in
     omega arith
 
-prefix-count-requires : tie.Need-prefix-count-requires
-prefix-count-requires c κs =
-    let l = formed _ (c .before .before .pre .0) .long in
-    omega arith
-
 slice-through-requires : tie.Need-slice-through-requires
 slice-through-requires c κs =
-    let s = c .before .before .before in
-    let m = c .prefix-count .ensures .is in
-    (table-lent _ _ _ (formed _ (s .pre .0)) (c .before .part .ensures .is) m, subst (λ (k : ℕ). s .args .a .0 ≤ k) (sym m) (s .pre .1))
+    let s = c .before .before in
+    let h = s .args .history .now in
+    (wordAt h 0 2, table-lent h _ _ (formed h (s .pre .0)) (c .part .ensures .is) refl, s .pre .1)
 
 enum-known-p : tie.Need-enum-known-p
 enum-known-p c = search needs
@@ -34,14 +29,14 @@ enum-told c = search needs
 
 returns : tie.Need-returns
 returns c =
-    let s = c .before .before .before .before .before .before .args in
-    agree-short (s .history .now) (s .a .0) (s .b .0) (s .index .0) _ (c .before .before .before .before .part .ensures .is) _ (c .before .before .slice-through .ensures) (c .enum-told .given .1)
+    let s = c .before .before .before .before .before .args in
+    agree-short (s .history .now) (s .a .0) (s .b .0) (s .index .0) _ (c .before .before .before .part .ensures .is) _ (c .before .before .slice-through .ensures) (c .enum-told .given .1)
 
 slice-through-requires-2 : tie.Need-slice-through-requires-2
 slice-through-requires-2 c κs =
-    let s = c .before .before .before .before .before .before .before in
-    let m = c .before .before .before .before .prefix-count .ensures .is in
-    (table-lent _ _ _ (formed _ (s .pre .0)) (c .before .before .before .before .before .part .ensures .is) m, subst (λ (k : ℕ). s .args .b .0 ≤ k) (sym m) (s .pre .2))
+    let s = c .before .before .before .before .before .before in
+    let h = s .args .history .now in
+    (wordAt h 0 2, table-lent h _ _ (formed h (s .pre .0)) (c .before .before .before .before .part .ensures .is) refl, s .pre .2)
 
 enum-known-q : tie.Need-enum-known-q
 enum-known-q c = search needs
@@ -51,29 +46,35 @@ enum-told-2 c = search needs
 
 returns-2 : tie.Need-returns-2
 returns-2 c =
-    let s = c .before .before .before .before .before .before .before .before .before .before .args in
-    agree-short-2 (s .history .now) (s .a .0) (s .b .0) (s .index .0) _ (c .before .before .before .before .before .before .before .before .part .ensures .is) _ (c .before .before .before .before .before .before .slice-through .ensures) _ (c .before .before .before .before .p .given .1) _ (c .before .before .slice-through2 .ensures) (c .enum-told2 .given .1)
+    let s = c .before .before .before .before .before .before .before .before .before .args in
+    agree-short-2 (s .history .now) (s .a .0) (s .b .0) (s .index .0) _ (c .before .before .before .before .before .before .before .part .ensures .is) _ (c .before .before .before .before .before .before .slice-through .ensures) _ (c .before .before .before .before .p .given .1) _
+    (c .before .before .slice-through2 .ensures) (c .enum-told2 .given .1)
 
 same-prefix-requires : tie.Need-same-prefix-requires
 same-prefix-requires c κs =
-    let s = c .before .before .before .before .before .before .before .before .before .before .before in
-    let f = formed _ (s .pre .0) in
-    let m = c .before .before .before .before .before .before .before .before .prefix-count .ensures .is in
-    let a = slice-kept (s .args .history .now) (s .args .a .0) (s .args .b .0) (s .args .index .0) _ (c .before .before .before .before .before .before .before .before .before .part .ensures .is) _ (c .before .before .before .before .before .before .before .slice-through .ensures) _ f (s .pre .1) (c .before .before .before .before .before .p .given .1) in
-    let b = slice-kept (s .args .history .now) (s .args .b .0) (s .args .a .0) (s .args .index .0) _ (c .before .before .before .before .before .before .before .before .before .part .ensures .is) _ (c .before .before .before .slice-through2 .ensures) _ f (s .pre .2) (c .before .q .given .1) in
-    (table-lent _ _ _ f (c .before .before .before .before .before .before .before .before .before .part .ensures .is) m, omega arith, omega arith)
+    let s = c .before .before .before .before .before .before .before .before .before .before in
+    let h = s .args .history .now in
+    let a = s .args .a .0 in
+    let b = s .args .b .0 in
+    let f = formed h (s .pre .0) in
+    let lent = c .before .before .before .before .before .before .before .before .part .ensures .is in (
+      wordAt h 0 2,
+      table-lent h _ _ f lent refl,
+      slice-kept h a b (s .args .index .0) _ lent _ (c .before .before .before .before .before .before .before .slice-through .ensures) _ f (s .pre .1) (c .before .before .before .before .before .p .given .1),
+      slice-kept h b a (s .args .index .0) _ lent _ (c .before .before .before .slice-through2 .ensures) _ f (s .pre .2) (c .before .q .given .1),
+    )
 
 returns-3 : tie.Need-returns-3
 returns-3 c =
-    let s = c .before .before .before .before .before .before .before .before .before .before .before .before .args in
-    agree-same (s .history .now) (s .a .0) (s .b .0) (s .index .0) _ (c .before .before .before .before .before .before .before .before .before .before .part .ensures .is) _ (c .before .before .before .before .before .before .before .before .slice-through .ensures) _ (c .before .before .before .before .before .before .p .given .1) _ (c .before .before .before .before .slice-through2 .ensures) _ (c .before .before .q .given .1) _ (c .same-prefix .ensures)
+    let s = c .before .before .before .before .before .before .before .before .before .before .before .args in
+    agree-same (s .history .now) (s .a .0) (s .b .0) (s .index .0) _ (c .before .before .before .before .before .before .before .before .before .part .ensures .is) _ (c .before .before .before .before .before .before .before .before .slice-through .ensures) _ (c .before .before .before .before .before .before .p .given .1) _
+    (c .before .before .before .before .slice-through2 .ensures) _ (c .before .before .q .given .1) _ (c .same-prefix .ensures)
 
 pub agree-through-spec : {M : Type 1} → statement M
 agree-through-spec =
     tie.close
     (tie.spec
     part-requires
-    prefix-count-requires
     slice-through-requires
     enum-known-p
     enum-told

@@ -13,6 +13,7 @@ use Rattle.storage_bytes.specs.Words.{bytesAt, sameBytes}
 use Rattle.storage.specs.Tables.{prefixRow}
 use Rattle.storage_bytes.proofs.ByteTurns.{same-next, same-stop, same-none}
 use Rattle.log_comparison.specs.Comparison.{sameEntry, sameFrom}
+use Rattle.prefix_lookup.specs.Table.{Table}
 use Rattle.prefix_lookup.proofs.TableLaws.{table-parent, table-size}
 use Rattle.prefix_lookup.proofs.Loops.{place-before, parent-within, parent-below, content-within}
 use Rattle.log_comparison.proofs.Turns.{Compared, compare-equal, compare-first-empty, compare-second-empty, compare-differs, compare-next, entry-term, entry-size, entry-content}
@@ -20,24 +21,24 @@ use Rattle.log_comparison.proofs.comparison.same_prefix.Statement.{stat
 use Rattle.log_comparison.proofs.comparison.same_prefix.Tie as tie
 
 abbrev Inv-loop : tie.InvT-loop
-Inv-loop prefixes count p q i j n x y k₀ k =
+Inv-loop prefixes p q i j n x y k₀ k =
     (k ≤ n) × (x + n ≤ length prefixes) × (y + n ≤ length prefixes)
     × (sameEntry (prefixRow prefixes i) (prefixRow prefixes j) ≡ sameBytes (bytesAt prefixes (x + k) (n - k)) (bytesAt prefixes (y + k) (n - k)))
 
 abbrev μ-loop : tie.MeasureT-loop
-μ-loop prefixes count p q i j n x y k₀ k = n - k
+μ-loop prefixes p q i j n x y k₀ k = n - k
 
 abbrev Inv-entries : tie.InvT-entries
-Inv-entries prefixes count p₀ q₀ p q =
-    (p ≤ count) × (q ≤ count) × Compared (prefixRow prefixes) (sameFrom (prefixRow prefixes) p₀ p₀ q₀) p q
+Inv-entries prefixes p₀ q₀ p q =
+    (n : ℕ) × Table prefixes n × (p ≤ n) × (q ≤ n) × Compared (prefixRow prefixes) (sameFrom (prefixRow prefixes) p₀ p₀ q₀) p q
 
 abbrev μ-entries : tie.MeasureT-entries
-μ-entries prefixes count p₀ q₀ p q = p
+μ-entries prefixes p₀ q₀ p q = p
 
 entries-holds : tie.Need-entries-holds Inv-loop μ-loop Inv-entries μ-entries
 entries-holds c =
     let s = c .before in
-    (s .pre .1, s .pre .2, record { fuel = s .args .a .0; enough = le-refl (s .args .a .0); is = refl })
+    (s .pre .0, s .pre .1, s .pre .2, s .pre .3, record { fuel = s .args .a .0; enough = le-refl (s .args .a .0); is = refl })
 
 sub-i : tie.Need-sub-i Inv-loop μ-loop Inv-entries μ-entries
 sub-i c = search needs
@@ -77,10 +78,10 @@ loop-holds c =
     let s = l .before .before in
     let short : c .before .before .size-at .result ≤ 32 =
     subst (λ (m : ℕ). m ≤ 32) (sym (c .before .before .size-at .ensures .is))
-    (table-size (s .args .prefixes .now) (s .args .count) (l .entries .p - 1) (s .pre .0) (place-before (l .entries .inv .0) (e2 .before .if1 .left))) in (
+    (table-size (s .args .prefixes .now) (l .entries .inv .0) (l .entries .p - 1) (l .entries .inv .1) (place-before (l .entries .inv .2) (e2 .before .if1 .left))) in (
       search needs,
-      content-within (s .args .prefixes .now) (s .pre .0 .long) (s .pre .0 .fits) (place-before (l .entries .inv .0) (e2 .before .if1 .left)) short,
-      content-within (s .args .prefixes .now) (s .pre .0 .long) (s .pre .0 .fits) (place-before (l .entries .inv .1) (e2 .if2 .left)) short,
+      content-within (s .args .prefixes .now) (l .entries .inv .1 .long) (l .entries .inv .1 .fits) (place-before (l .entries .inv .2) (e2 .before .if1 .left)) short,
+      content-within (s .args .prefixes .now) (l .entries .inv .1 .long) (l .entries .inv .1 .fits) (place-before (l .entries .inv .3) (e2 .if2 .left)) short,
       entry-content (s .args .prefixes .now) _ _ _ _ _ _ (e3 .before .before .before .before .term-at .ensures) (e3 .before .before .before .term-at2 .ensures) (e3 .if3 .left)
           (c .before .before .size-at .ensures .is) (c .before .size-at2 .ensures .is) (c .if4 .left) short,
     )
@@ -124,7 +125,7 @@ entries-less c =
     let e2 = c .before .before .before .before .before .before .before .before .before .before .before .before in
     let l = e2 .before .before .before in
     let s = l .before .before in
-    let pa = table-parent (s .args .prefixes .now) (s .args .count) (l .entries .p - 1) (s .pre .0) (place-before (l .entries .inv .0) (e2 .before .if1 .left)) in
+    let pa = table-parent (s .args .prefixes .now) (l .entries .inv .0) (l .entries .p - 1) (l .entries .inv .1) (place-before (l .entries .inv .2) (e2 .before .if1 .left)) in
     parent-below _ (c .before .parent-at .ensures .is) pa (e2 .before .if1 .left)
 
 entries-again : tie.Need-entries-again Inv-loop μ-loop Inv-entries μ-entries
@@ -136,13 +137,15 @@ entries-again c =
     let l = e2 .before .before .before in
     let s = l .before .before in
     let t = s .args .prefixes .now in
-    let pa = table-parent t (s .args .count) (l .entries .p - 1) (s .pre .0) (place-before (l .entries .inv .0) (e2 .before .if1 .left)) in
-    let qa = table-parent t (s .args .count) (l .entries .q - 1) (s .pre .0) (place-before (l .entries .inv .1) (e2 .if2 .left)) in
+    let pa = table-parent t (l .entries .inv .0) (l .entries .p - 1) (l .entries .inv .1) (place-before (l .entries .inv .2) (e2 .before .if1 .left)) in
+    let qa = table-parent t (l .entries .inv .0) (l .entries .q - 1) (l .entries .inv .1) (place-before (l .entries .inv .3) (e2 .if2 .left)) in
     let ea = c .before .parent-at .ensures .is in
     let eb = c .parent-at2 .ensures .is in (
-      parent-within _ ea pa (l .entries .inv .0),
-      parent-within _ eb qa (l .entries .inv .1),
-      compare-next (prefixRow t) _ _ (l .entries .inv .2) (e2 .before .before .entries-test .taken) (e2 .before .if1 .left) (e2 .if2 .left)
+      l .entries .inv .0,
+      l .entries .inv .1,
+      parent-within _ ea pa (l .entries .inv .2),
+      parent-within _ eb qa (l .entries .inv .3),
+      compare-next (prefixRow t) _ _ (l .entries .inv .4) (e2 .before .before .entries-test .taken) (e2 .before .if1 .left) (e2 .if2 .left)
           (same-none t t _ _ _ (i .loop .k) (i .loop .inv .3) (c .before .before .loop-test .left)) _ _ ea eb (parent-below _ ea pa (e2 .before .if1 .left)),
     )
 
@@ -154,7 +157,7 @@ returns c =
     let t = s .prefixes .now in
     let p = l .entries .p in
     let q = l .entries .q in
-    let v = l .entries .inv .2 in
+    let v = l .entries .inv .4 in
     ⊎-elim (λ w. eq-eqb p q (w .left) ∙ sym (compare-equal (prefixRow t) p q v (w .left)))
     (⊎-elim (λ w. ne-eqb p q (w .0 .taken) ∙ sym (compare-first-empty (prefixRow t) p q v (w .0 .taken) (w .1 .taken)))
     (⊎-elim (λ w. ne-eqb p q (w .0 .taken) ∙ sym (compare-second-empty (prefixRow t) p q v (w .0 .taken) (w .1 .left) (w .2 .taken)))

@@ -4,10 +4,10 @@ use Rattle.prefix_lookup.proofs.FrontLaws.{front-within, through-is}
 use Rattle.storage.proofs.WellFormed.{formed}
 use Rattle.prefix_lookup.proofs.TableLaws.{table-lent}
 use Rattle.table_rows.specs.Values.{nodeValue}
-use Prim.Native.Nat.{ℕ, _≤_}
+use Rattle.storage_bytes.specs.Words.{wordAt}
 use borrow.Author.Needs.{needs}
 use native.Mathlib.Omega.{arith}
-use mathlib.Core.Path.{sym, subst}
+use mathlib.Core.Path.{refl}
 use Rattle.prefix_lookup.proofs.lookup.front_through.Statement.{statement}
 use Rattle.prefix_lookup.proofs.lookup.front_through.Tie as tie
 
@@ -22,27 +22,28 @@ cast-node-at c = search needs
 node-at-requires : tie.Need-node-at-requires
 node-at-requires c κs = search needs
 
-prefix-count-requires : tie.Need-prefix-count-requires
-prefix-count-requires c κs =
-    let l = formed _ (c .before .before .before .before .pre .0) .long in
-    omega arith
-
 part-requires-2 : tie.Need-part-requires-2
 part-requires-2 c κs =
-    let l = formed _ (c .before .before .before .before .before .before .pre .0) .long in
+    let l = formed _ (c .before .before .before .before .before .pre .0) .long in
     omega arith
 
 slice-through-requires : tie.Need-slice-through-requires
 slice-through-requires c κs =
     let s = c .before .before .before .before .before .before in
-    let f = formed _ (s .before .pre .0) in
-    let m = c .before .before .prefix-count .ensures .is in
-    (table-lent _ _ _ f (c .part2 .ensures .is) m, subst (λ (k : ℕ). c .before .before .before .node-at .result .front .0 ≤ k) (sym m) (front-within (s .before .args .history .now) (s .before .args .node .0) _ (c .before .before .before .before .before .part .ensures .is) (nodeValue (c .before .before .before .node-at .result)) (c .before .before .before .node-at .ensures) f (s .before .pre .1)))
+    let h = s .args .history .now in
+    let f = formed h (s .pre .0) in
+    let x = c .before .before .node-at in (
+      wordAt h 0 2,
+      table-lent h _ _ f (c .part2 .ensures .is) refl,
+      front-within h (s .args .node .0) _ (c .before .before .before .before .part .ensures .is) (nodeValue (x .result)) (x .ensures) f (s .pre .1),
+    )
 
 returns : tie.Need-returns
 returns c =
-    let s = c .before .before .before .before .before .before .before .before .args in
-    through-is (s .history .now) (s .node .0) _ (c .before .before .before .before .before .before .part .ensures .is) (nodeValue (c .before .before .before .before .node-at .result)) (c .before .before .before .before .node-at .ensures) _ (c .before .part2 .ensures .is) (s .index .0) _ (c .slice-through .ensures)
+    let s = c .before .before .before .before .before .before .before .args in
+    let x = c .before .before .before .node-at in
+    through-is (s .history .now) (s .node .0) _ (c .before .before .before .before .before .part .ensures .is) (nodeValue (x .result)) (x .ensures) _ (c .before .part2 .ensures .is) (s .index .0) _
+    (c .slice-through .ensures)
 
 pub front-through-spec : {M : Type 1} → statement M
 front-through-spec =
@@ -51,7 +52,6 @@ front-through-spec =
     part-requires
     cast-node-at
     node-at-requires
-    prefix-count-requires
     part-requires-2
     slice-through-requires
     returns)

@@ -28,7 +28,7 @@ same-prefix-requires : tie.Need-same-prefix-requires
 same-prefix-requires c κs =
     let s = c .before .before .before .before .before in
     let x = stored-number _ _ (c .before .before .before .first-of .ensures) _ (c .before .remembered .given .1) in
-    (s .pre .0, subst (λ (k : ℕ). k ≤ s .args .count) (sym (x .0)) (first-within _ _ _ _), s .pre .2)
+    (s .args .count, s .pre .0, subst (λ (k : ℕ). k ≤ s .args .count) (sym (x .0)) (first-within _ _ _ _), s .pre .2)
 
 returns-2 : tie.Need-returns-2
 returns-2 c =
