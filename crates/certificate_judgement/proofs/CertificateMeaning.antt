@@ -13,7 +13,7 @@ use lib.ListN.{length, take, length-take}
 use lib.Seq.{length-take-le}
 use borrow.Author.Tests.{ne-eqb, lt-ltb, ltb-true, ltb-false}
 use Rattle.model.specs.Sizes.{Bytes}
-use Rattle.model.specs.Entry.{Prefix, prefixes, same, begins}
+use Rattle.model.specs.Entry.{Prefix, same, begins}
 use Rattle.model.specs.History.{History}
 use Rattle.model.specs.Check.{lastBelow, relevant, lacks, lacking, lackings, someRelevant}
 use Rattle.model.proofs.Tests.{either, no-begins}
@@ -21,13 +21,11 @@ use Rattle.storage_bytes.specs.Words.{wordAt}
 use Rattle.storage.specs.Tables.{CertificateRow, termRow, termsPart}
 use Rattle.storage.specs.Decode.{prefixAt, certificateIn}
 use Rattle.storage.proofs.Meanings.{Stands, committed-stored, terms-stored, end-is}
-use Rattle.prefix_lookup.specs.Prefix.{storedOf}
-use Rattle.prefix_lookup.proofs.StoredLaws.{stored-none, stored-read}
 use Rattle.committed_prefix.specs.Prefix.{agreeIn}
 use Rattle.committed_prefix.proofs.PrefixLaws.{agree-at, agree-beyond}
 use Rattle.storage.specs.Values.{committedEnd}
 use Rattle.check_relevance.specs.Relevance.{lastRelevant, recordedEnd, relevantIn}
-use Rattle.certificate_judgement.specs.Judgement.{lacksKept, lacksThrough, lackingOf, lackingAt, lackingIn, flagIn, lackingsIn, flagsIn}
+use Rattle.certificate_judgement.specs.Judgement.{lacksThrough, lackingOf, lackingAt, lackingIn, flagIn, lackingsIn, flagsIn}
 use Rattle.check_relevance.proofs.RelevanceLaws.{last-below, at-most}
 use Rattle.storage.proofs.WellFormed.{formed}
 
@@ -42,11 +40,6 @@ lacks-log false q p = refl
 begins-through : (q p : Prefix) (i : ℕ) → i ≤ length p → begins q (take i p) ≡ same (take i q) (take i p)
 unfolding begins
 begins-through q p i h = ap (λ (n : ℕ). same (take n q) (take i p)) (length-take-le i p h)
-
--- every prefix begins with the empty one
-begins-empty : (q : Prefix) → begins q [] ≡ true
-unfolding begins prefixes
-begins-empty q = refl
 
 -- a shorter one does not begin with them
 begins-shorter : (q p : Prefix) (i : ℕ) → i ≤ length p → length q < i → begins q (take i p) ≡ false
@@ -109,22 +102,10 @@ module _ (h : Bytes) (x : History) (s : Stands h x) where
         ∙ sym (begins-through (prefixAt (x .prefixes) (c .log)) (x .committed) i within))
         (either (ltb (length (prefixAt (x .prefixes) (c .log))) i))
 
-    -- where none is kept the committed prefix is empty, and every log begins with it
-    kept-means : (n : ℕ) → wordAt h 4 2 ≡ n
-        → lacksKept h (c .log) i (storedOf n) ≡ not (begins (prefixAt (x .prefixes) (c .log)) (take i (x .committed)))
-    kept-means zero e =
-        let none-kept : x .committed ≡ [] = sym (committed-stored h x s) ∙ ap (prefixAt (x .prefixes)) e in
-        let first : i ≡ 0 = (let l = ap length none-kept in omega arith) in
-        ap (lacksKept h (c .log) i) (sym (stored-none 0 refl))
-        ∙ sym (ap not ((λ j. begins (prefixAt (x .prefixes) (c .log)) (take (first j) (none-kept j))) ∙ begins-empty (prefixAt (x .prefixes) (c .log))))
-    kept-means (suc n) e =
-        ap (lacksKept h (c .log) i) (sym (stored-read (suc n) (suc n) refl (λ z. omega arith)))
-        ∙ ap not (ap (λ (m : ℕ). agreeIn h (c .log) m i) (sym e) ∙ compared)
-
     pub lacks-means : lacksThrough h c i ≡ lacks (certificateIn (x .prefixes) c .log) (take i (x .committed))
     unfolding lacksThrough
     lacks-means =
-        ap (λ (b : Bool). cond (eqb (c .present) 0) true b) (kept-means (wordAt h 4 2) refl)
+        ap (λ (b : Bool). cond (eqb (c .present) 0) true (not b)) compared
         ∙ sym (lacks-log (eqb (c .present) 0) (prefixAt (x .prefixes) (c .log)) (take i (x .committed)))
 
   -- ---- what is noted of one, and of all

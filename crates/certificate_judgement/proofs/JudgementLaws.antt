@@ -19,11 +19,8 @@ use Rattle.log_violation.specs.Violation.{noteHeld, noteBytes, heldAll, bytesAl
 use Rattle.log_violation.proofs.ViolationLaws.{all-length, Room, held-then, bytes-then, room-then}
 use Rattle.storage.proofs.WellFormed.{Formed}
 use Rattle.check_relevance.specs.Relevance.{relevantIn}
-use Rattle.units.specs.declared.LogPrefixWitness.{LogPrefixWitness}
-use Rattle.prefix_lookup.specs.Prefix.{storedOf}
-use Rattle.prefix_lookup.specs.declared.lookup.Stored.{Stored}
 use Rattle.committed_prefix.specs.Prefix.{agreeIn}
-use Rattle.certificate_judgement.specs.Judgement.{lacksKept, lacksThrough, lackingOf, lackingAt, lackingIn, flagIn, NotedAs, JudgedAs, lackingsIn, flagsIn, JudgedAll}
+use Rattle.certificate_judgement.specs.Judgement.{lacksThrough, lackingOf, lackingAt, lackingIn, flagIn, NotedAs, JudgedAs, lackingsIn, flagsIn, JudgedAll}
 
 -- a certificate as it is read, and its log, which is stored
 pub row-here : (h p : Bytes) (k : ℕ) (c : CertificateRow) → p ≡ certificatesPart h → c ≡ certificateRow p k → c ≡ certificateRow (certificatesPart h) k
@@ -40,16 +37,11 @@ module _ (h : Bytes) (c : CertificateRow) (i : ℕ) where
   unfolding lacksThrough
   lacks-absent e = sym (cond-true (eqb (c .present) 0) true _ (eq-eqb (c .present) 0 e))
 
-  module _ (there : c .present ≡ 0 → ⊥) (k : Stored) (ek : k ≡ storedOf (wordAt h 4 2)) where
-    kept-is : lacksKept h (c .log) i k ≡ lacksThrough h c i
-    unfolding lacksThrough
-    kept-is = ap (lacksKept h (c .log) i) ek ∙ sym (cond-false (eqb (c .present) 0) true _ (ne-eqb (c .present) 0 there))
-
-    pub lacks-nothing : k ≡ Stored.Nothing → false ≡ lacksThrough h c i
-    lacks-nothing g = sym (ap (lacksKept h (c .log) i) g) ∙ kept-is
-
-    pub lacks-there : (p : LogPrefixWitness) → k ≡ Stored.Prefix p → (b : Bool) → b ≡ agreeIn h (c .log) (p .0) i → not b ≡ lacksThrough h c i
-    lacks-there p g b e = ap not e ∙ sym (ap (lacksKept h (c .log) i) g) ∙ kept-is
+  pub lacks-there : (c .present ≡ 0 → ⊥) → (p : ℕ) → p ≡ wordAt h 4 2 → (b : Bool) → b ≡ agreeIn h (c .log) p i → not b ≡ lacksThrough h c i
+  unfolding lacksThrough
+  lacks-there there p ep b e =
+      ap not (e ∙ ap (λ (n : ℕ). agreeIn h (c .log) n i) ep)
+      ∙ sym (cond-false (eqb (c .present) 0) true _ (ne-eqb (c .present) 0 there))
 
 -- ---- one certificate
 

@@ -2,7 +2,7 @@
 -- Assumes nothing.
 use Prim.Native.Nat.{ℕ, _≤_}
 use mathlib.Core.Path.{_≡_}
-use mathlib.Core.Bool.{Bool, true, false, cond, not}
+use mathlib.Core.Bool.{Bool, true, cond, not}
 use mathlib.Core.List.{List, [], _∷_, _++_}
 use lib.Dec.{eqb}
 use lib.ListN.{length}
@@ -12,23 +12,16 @@ use Rattle.storage_bytes.specs.Words.{wordAt}
 use Rattle.storage.specs.Tables.{CertificateRow}
 use Rattle.storage.specs.Values.{certificatesOf}
 use Rattle.storage.specs.Rules.{wellFormed}
-use Rattle.prefix_lookup.specs.Prefix.{storedOf}
-use Rattle.prefix_lookup.specs.declared.lookup.Stored.{Stored}
 use Rattle.committed_prefix.specs.Prefix.{agreeIn}
 use Rattle.log_violation.specs.Violation.{heldAll, bytesAll}
 use Rattle.check_relevance.specs.Relevance.{relevantIn}
 
 -- ---- one certificate
 
--- a log that is shorter than the committed prefix through index i, or different; where none is kept nothing is lacking
-abbrev pub lacksKept : Bytes → ℕ → ℕ → Stored → Bool
-lacksKept h log i (Stored.Prefix p) = not (agreeIn h log (p .0) i)
-lacksKept h log i Stored.Nothing = false
-
--- "a log that is absent, shorter or different"
+-- "a log that is absent, shorter or different" through index i of the committed prefix
 unfoldable pub lacksThrough : Bytes → CertificateRow → ℕ → Bool
-unfolding storedOf agreeIn wordAt
-lacksThrough h c i = cond (eqb (c .present) 0) true (lacksKept h (c .log) i (storedOf (wordAt h 4 2)))
+unfolding agreeIn wordAt
+lacksThrough h c i = cond (eqb (c .present) 0) true (not (agreeIn h (c .log) (wordAt h 4 2) i))
 
 -- LG-05 (leader, index, term)
 abbrev pub lackingOf : CertificateRow → ℕ → Finding
@@ -48,9 +41,10 @@ unfoldable pub flagIn : Bytes → CertificateRow → ℕ → ℕ
 unfolding relevantIn
 flagIn h c b = cond (eqb (relevantIn h c) 0) b 4
 
--- what noting asks: a well-formed history, a log that is stored, a table of findings
-pub record Noting (h : Bytes) (c : CertificateRow) (t : Bytes) (held : ℕ) : Type 0 where
+-- what noting asks: a well-formed history, the number of its committed prefix, a log that is stored, a table of findings
+pub record Noting (h : Bytes) (p : ℕ) (c : CertificateRow) (t : Bytes) (held : ℕ) : Type 0 where
   pub right : wellFormed h ≡ true
+  pub committed : p ≡ wordAt h 4 2
   pub stored : c .log ≤ wordAt h 0 2
   pub long : length t ≡ 1024
   pub few : held ≤ 129
@@ -76,8 +70,9 @@ unfolding flagIn
 flagsIn h b [] = b
 flagsIn h b (c ∷ cs) = flagsIn h (flagIn h c b) cs
 
-pub record Judging (h t : Bytes) (held : ℕ) : Type 0 where
+pub record Judging (h : Bytes) (p : ℕ) (t : Bytes) (held : ℕ) : Type 0 where
   pub right : wellFormed h ≡ true
+  pub committed : p ≡ wordAt h 4 2
   pub long : length t ≡ 1024
   pub few : held ≤ 129
 

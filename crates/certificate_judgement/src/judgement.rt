@@ -13,9 +13,7 @@ use certificate_rows::certificates::certificate_at;
 use check_relevance::relevance::Relevant;
 use check_relevance::relevance::relevant_index;
 use committed_prefix::committed::agree_through;
-use committed_prefix::committed::committed_prefix;
 use log_violation::violation::note;
-use prefix_lookup::lookup::Stored;
 use storage::head::certificate_count;
 use storage_bytes::layout::CERTIFICATES_LENGTH;
 use storage_bytes::layout::CERTIFICATES_START;
@@ -23,6 +21,7 @@ use storage_bytes::layout::part;
 use table_rows::findings::Found;
 use table_rows::findings::LG_05;
 use units::LogIndex;
+use units::LogPrefixWitness;
 
 // How far the judging has come: the sum of the flags, 4 where an index was relevant, and how many findings are held.
 pub struct Judged {
@@ -30,18 +29,19 @@ pub struct Judged {
     pub held: usize,
 }
 
-// The certificate's log is absent, or shorter than the committed prefix through the index, or different. Where none is kept, nothing
-// is lacking but an absent log.
-fn lacks_through(history: &[u8], c: Certificate, index: LogIndex) -> bool
-    requires { ⌜ (wellFormed (now history) ≡ true) × (c .log .0 ≤ wordAt (now history) 0 2) ⌝ }
+// The certificate's log is absent, or shorter than the committed prefix through the index, or different.
+fn lacks_through(
+    history: &[u8],
+    committed: LogPrefixWitness,
+    c: Certificate,
+    index: LogIndex,
+) -> bool
+    requires { ⌜ (wellFormed (now history) ≡ true) × (committed .0 ≡ wordAt (now history) 4 2) × (c .log .0 ≤ wordAt (now history) 0 2) ⌝ }
     ensures { λ r. ⌜ r ≡ lacksThrough (now (history .entry)) (certificateValue c) (index .0) ⌝ }
 {
     if c.present == 0 {
         return true;
     }
-    let Stored::Prefix(committed) = committed_prefix(history) else {
-        return false;
-    };
     let log = c.log;
     !agree_through(history, log, committed, index)
 }
@@ -49,15 +49,16 @@ fn lacks_through(history: &[u8], c: Certificate, index: LogIndex) -> bool
 // LG-05 is noted where the log lacks the committed prefix through the index.
 fn note_lacking(
     history: &[u8],
+    committed: LogPrefixWitness,
     c: Certificate,
     index: LogIndex,
     findings: &mut [u8],
     held: usize,
 ) -> usize
-    requires { ⌜ Noting (now history) (certificateValue c) (now findings) held ⌝ }
+    requires { ⌜ Noting (now history) (committed .0) (certificateValue c) (now findings) held ⌝ }
     ensures { λ r. ⌜ NotedAs (now (history .entry)) (certificateValue c) (index .0) (now (findings .entry)) held r (now (findings .exit)) ⌝ }
 {
-    if !lacks_through(history, c, index) {
+    if !lacks_through(history, committed, c, index) {
         return held;
     }
     let node = c.leader;
@@ -71,27 +72,41 @@ fn note_lacking(
     note(&mut findings[..], held, lg05)
 }
 
-// One certificate, up to the committed end.
+// One certificate, by the committed prefix and its end.
 pub fn judge(
     history: &[u8],
+    committed: LogPrefixWitness,
     end: LogIndex,
     c: Certificate,
     findings: &mut [u8],
     earlier: Judged,
 ) -> Judged
-    requires { ⌜ Noting (now history) (certificateValue c) (now findings) (earlier .held) × (end .0 ≡ committedEnd (now history)) ⌝ }
+    requires { ⌜ Noting (now history) (committed .0) (certificateValue c) (now findings) (earlier .held) × (end .0 ≡ committedEnd (now history)) ⌝ }
     ensures { λ r. ⌜ JudgedAs (now (history .entry)) (certificateValue c) (now (findings .entry)) (earlier .flags) (earlier .held) (r .flags) (r .held) (now (findings .exit)) ⌝ }
 {
     let Relevant::Index(index) = relevant_index(history, end, c) else {
         return earlier;
     };
-    let held = note_lacking(history, c, index, &mut findings[..], earlier.held);
+    let held = note_lacking(
+        history,
+        committed,
+        c,
+        index,
+        &mut findings[..],
+        earlier.held,
+    );
     Judged { flags: 4, held }
 }
 
 // Every certificate, by term, then arrival, as they are stored.
-pub fn judge_all(history: &[u8], end: LogIndex, findings: &mut [u8], held: usize) -> Judged
-    requires { ⌜ Judging (now history) (now findings) held × (end .0 ≡ committedEnd (now history)) ⌝ }
+pub fn judge_all(
+    history: &[u8],
+    committed: LogPrefixWitness,
+    end: LogIndex,
+    findings: &mut [u8],
+    held: usize,
+) -> Judged
+    requires { ⌜ Judging (now history) (committed .0) (now findings) held × (end .0 ≡ committedEnd (now history)) ⌝ }
     ensures { λ r. ⌜ JudgedAll (now (history .entry)) (now (findings .entry)) held (r .flags) (r .held) (now (findings .exit)) ⌝ }
 {
     let m = certificate_count(history);
@@ -100,7 +115,7 @@ pub fn judge_all(history: &[u8], end: LogIndex, findings: &mut [u8], held: usize
     let mut k = 0;
     while k < m {
         let c = certificate_at(certificates, k);
-        earlier = judge(history, end, c, &mut findings[..], earlier);
+        earlier = judge(history, committed, end, c, &mut findings[..], earlier);
         k += 1;
     }
     earlier

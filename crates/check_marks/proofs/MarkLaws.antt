@@ -37,13 +37,6 @@ module _ (h : Bytes) (k end m : ℕ) (e : m ≡ certificateOf h k .mark) where
 
 -- ---- all of them
 
--- an end of zero passes no mark
-pub none-passed : (end : ℕ) → end ≡ 0 → (n : ℕ) (h : Bytes) (k : ℕ) → h ≡ marksMoved h end k n
-unfolding marksMoved
-none-passed end z zero h k = refl
-none-passed end z (suc n) h k =
-    none-passed end z n h (k + 1) ∙ ap (λ (u : Bytes). marksMoved u end (k + 1) n) (mark-stays h k end (certificateOf h k .mark) refl (omega arith))
-
 -- what is left of the certificates from the k-th on gives the rest
 pub record Moving (h₀ : Bytes) (end m : ℕ) (h : Bytes) (k : ℕ) : Type 0 where
   pub rest : marksMoved h₀ end 0 (wordAt h₀ 6 1) ≡ marksMoved h end k (m - k)

@@ -31,14 +31,11 @@ pub fn move_mark(history: &mut [u8], k: usize, end: LogIndex)
     store_mark(&mut history[..], k, moved.mark);
 }
 
-// The marks of all certificates. Where nothing is committed, none is passed.
+// The marks of all certificates.
 pub fn move_marks(history: &mut [u8], end: LogIndex)
     requires { ⌜ (wordAt (now history) 6 1 ≤ 64) × (length (now history) ≡ 24137) ⌝ }
     ensures { λ r. ⌜ now (history .exit) ≡ marksMoved (now (history .entry)) (end .0) 0 (wordAt (now (history .entry)) 6 1) ⌝ }
 {
-    if end.0 == 0 {
-        return;
-    }
     let m = certificate_count(&history[..]);
     let mut k = 0;
     while k < m {

@@ -1,2 +1,3 @@
 pub mod CheckLaws
+pub mod NothingCommitted
 pub mod Meaning

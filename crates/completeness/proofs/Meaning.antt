@@ -21,10 +21,11 @@ use Rattle.model.proofs.Tests.{cond-true, cond-false}
 use Rattle.storage_bytes.specs.Lists.{every}
 use Rattle.storage_bytes.specs.Words.{wordAt}
 use Rattle.storage.specs.Tables.{CertificateRow, certificateRow, certificatesPart, findingRow, findingRows, findingsPart}
+use Rattle.storage.specs.Decode.{prefixAt}
 use Rattle.storage.specs.Rules.{findingRight}
 use Rattle.storage_bytes.proofs.ListLaws.{tabulate-length}
 use Rattle.storage.proofs.DecodeLaws.{CertificateNamed}
-use Rattle.storage.proofs.Meanings.{Stands, withElections, withNoted, certificates-stored, findings-stored, findings-taken, findings-right, noted-right, end-is}
+use Rattle.storage.proofs.Meanings.{Stands, withElections, withNoted, certificates-stored, findings-stored, committed-stored, findings-taken, findings-right, noted-right, end-is}
 use Rattle.storage.proofs.Answered.{Means, accepts, refuses}
 use Rattle.log_violation.specs.Violation.{findingsKept}
 use Rattle.log_violation.proofs.ViolationLaws.{Holds, all-hold, all-length, findings-long}
@@ -32,12 +33,14 @@ use Rattle.completeness.specs.declared.leader_completeness.Checked.{Chec
 use Rattle.storage.specs.Values.{certificatesOf, committedEnd}
 use Rattle.certificate_judgement.specs.Judgement.{lackingsIn, flagsIn}
 use Rattle.check_marks.specs.Marks.{marksMoved}
-use Rattle.completeness.specs.Check.{checkReply, checkHeld, checkTable, checkWritten, checkAnswer, checkBytes, CheckedAs}
+use Rattle.completeness.specs.Check.{checkReply, checkHeld, checkTable, checkWritten, judgedAnswer, judgedBytes, CheckedAs}
 use Rattle.storage.proofs.WellFormed.{formed, end-small}
 use Rattle.certificate_judgement.proofs.Fits.{stored}
 use Rattle.certificate_judgement.proofs.CertificateMeaning.{lackings-mean, flags-mean}
 use Rattle.check_marks.proofs.MarkMeaning.{raised, marks-mean}
 use Rattle.certificate_judgement.proofs.FindingMeaning.{Fitting, fitting, lackings-fit}
+use Rattle.completeness.proofs.CheckLaws.{check-cases}
+use Rattle.completeness.proofs.NothingCommitted.{nothing-refused, nothing-flagged, nothing-changed}
 
 module _ (h : Bytes) (x : History) (s : Stands h x) where
   rows : (c : CertificateRow) → List·Memᴰ c (certificatesOf h) → CertificateNamed (wordAt h 0 2) c
@@ -89,24 +92,24 @@ module _ (h : Bytes) (x : History) (s : Stands h x) where
     unfolding checkRefusal
     model-accepts = cond-false (ltb 128 (length (checkFindings x))) (some findingsFull) none (le-ltb 128 (length (checkFindings x)) (let z = count in omega arith))
 
-    accepted : checkAnswer h ≡ Checked.Accepted (checkValue x)
-    unfolding checkAnswer
+    accepted : judgedAnswer h ≡ Checked.Accepted (checkValue x)
+    unfolding judgedAnswer
     accepted = cond-false (ltb 128 (checkHeld h)) Checked.FindingsFull _ (le-ltb 128 _ few) ∙ ap Checked.Accepted flag
 
     table-kept : length (checkTable h) ≡ 1024
     unfolding checkTable
     table-kept = all-length (lackingsIn h (certificatesOf h)) (findingsPart h) (wordAt h 7 1) ∙ findings-long h (s .right)
 
-    written : Stands (checkBytes h) (checkEffect x)
-    unfolding checkBytes checkWritten findingsKept checkEffect
+    written : Stands (judgedBytes h) (checkEffect x)
+    unfolding judgedBytes checkWritten findingsKept checkEffect
     written =
         subst (λ (u : Bytes). Stands u (checkEffect x)) (sym (cond-false (ltb 128 (checkHeld h)) h _ (le-ltb 128 _ few)))
         (subst (λ (fs : List Finding). Stands (checkWritten h (checkTable h) (checkHeld h) (committedEnd h)) (withNoted (withElections x (map (moved (x .committed)) (x .certificates))) fs)) e
         (findings-taken (marksMoved h (committedEnd h) 0 (wordAt h 6 1)) (withElections x (map (moved (x .committed)) (x .certificates))) marks
         (checkTable h) (checkHeld h) table-kept few (ap (every findingRight) e ∙ found-right)))
 
-    accepted-means : Means h x check (checkReply (checkAnswer h)) (checkBytes h)
-    accepted-means = accepts h x check _ (checkBytes h) model-accepts (ap checkReply accepted) written
+    accepted-means : Means h x check (checkReply (judgedAnswer h)) (judgedBytes h)
+    accepted-means = accepts h x check _ (judgedBytes h) model-accepts (ap checkReply accepted) written
 
   -- too many: refused
   module _ (many : checkHeld h ≡ 129) (more : 128 < length (checkFindings x)) where
@@ -117,20 +120,32 @@ module _ (h : Bytes) (x : History) (s : Stands h x) where
     unfolding checkRefusal
     model-refuses = cond-true (ltb 128 (length (checkFindings x))) (some findingsFull) none (lt-ltb 128 _ more)
 
-    refused : checkAnswer h ≡ Checked.FindingsFull
-    unfolding checkAnswer
+    refused : judgedAnswer h ≡ Checked.FindingsFull
+    unfolding judgedAnswer
     refused = cond-true (ltb 128 (checkHeld h)) Checked.FindingsFull _ over
 
-    unchanged : checkBytes h ≡ h
-    unfolding checkBytes
+    unchanged : judgedBytes h ≡ h
+    unfolding judgedBytes
     unchanged = cond-true (ltb 128 (checkHeld h)) h _ over
 
-    refused-means : Means h x check (checkReply (checkAnswer h)) (checkBytes h)
-    refused-means = refuses h x check _ (checkBytes h) findingsFull s model-refuses (ap checkReply refused) unchanged
+    refused-means : Means h x check (checkReply (judgedAnswer h)) (judgedBytes h)
+    refused-means = refuses h x check _ (judgedBytes h) findingsFull s model-refuses (ap checkReply refused) unchanged
+
+-- nothing is committed: accepted, and nothing changes
+nothing-means : (h : Bytes) (x : History) → Stands h x → wordAt h 4 2 ≡ 0 → Means h x check (checkReply (Checked.Accepted 0)) h
+nothing-means h x s e =
+    let none-kept : x .committed ≡ [] = sym (committed-stored h x s) ∙ ap (prefixAt (x .prefixes)) e in
+    let count : wordAt h 7 1 ≡ length (x .findings) =
+    sym (tabulate-length (findingRow (findingsPart h)) 0 (wordAt h 7 1)) ∙ ap length (findings-stored h x s) in
+    let held = formed h (s .right) .findings in
+    accepts h x check _ h (nothing-refused x none-kept (omega arith))
+    (ap (λ (v : ℕ). checkReply (Checked.Accepted v)) (sym (nothing-flagged x none-kept)))
+    (subst (Stands h) (sym (nothing-changed x none-kept)) s)
 
 -- the check of bytes that stand for a history is the model's check of it
 pub check-means : (h : Bytes) (x : History) (answer : Checked) (after : Bytes) → Stands h x → CheckedAs h answer after
     → Means h x check (checkReply answer) after
 check-means h x answer after s c =
     subst₂ (λ (a : Checked) (u : Bytes). Means h x check (checkReply a) u) (sym (c .is)) (sym (c .bytes))
-    (⊎-elim (λ a. accepted-means h x s (a .0) (a .1)) (λ a. refused-means h x s (a .0) (a .1)) (holds h x s))
+    (check-cases h (λ (a : Checked) (u : Bytes). Means h x check (checkReply a) u) (nothing-means h x s)
+    (⊎-elim (λ a. accepted-means h x s (a .0) (a .1)) (λ a. refused-means h x s (a .0) (a .1)) (holds h x s)))

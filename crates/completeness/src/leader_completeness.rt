@@ -5,10 +5,15 @@ ghost use Rattle.storage.specs.Rules.{wellFormed};
 ghost use Rattle.completeness.specs.Check.{CheckedAs};
 use certificate_judgement::judgement::judge_all;
 use check_marks::marks::move_marks;
+use committed_prefix::committed::committed_prefix;
 use log_violation::violation::copy_findings;
 use log_violation::violation::keep_findings;
-use prefix_rows::prefixes::committed_end;
+use prefix_lookup::lookup::Stored;
+use prefix_rows::prefixes::through;
 use storage_bytes::layout::FINDINGS_LENGTH;
+use storage_bytes::layout::PREFIXES_LENGTH;
+use storage_bytes::layout::PREFIXES_START;
+use storage_bytes::layout::part;
 use units::FINDING_LIMIT;
 
 pub enum Checked {
@@ -23,10 +28,16 @@ pub fn record_leader_completeness(history: &mut [u8]) -> Checked
     requires { ⌜ wellFormed (now history) ≡ true ⌝ }
     ensures { λ r. ⌜ CheckedAs (now (history .entry)) r (now (history .exit)) ⌝ }
 {
-    let end = committed_end(&history[..]);
+    let Stored::Prefix(committed) = committed_prefix(&history[..]) else {
+        return Checked::Accepted(0); // nothing is committed, so no mark is passed
+    };
+    let end = through(
+        part(&history[..], PREFIXES_START, PREFIXES_LENGTH),
+        committed,
+    );
     let mut findings = [0u8; FINDINGS_LENGTH];
     let held = copy_findings(&history[..], &mut findings);
-    let judged = judge_all(&history[..], end, &mut findings, held);
+    let judged = judge_all(&history[..], committed, end, &mut findings, held);
     if FINDING_LIMIT < judged.held {
         return Checked::FindingsFull;
     }

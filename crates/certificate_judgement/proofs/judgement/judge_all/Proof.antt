@@ -11,10 +11,10 @@ use Rattle.certificate_judgement.proofs.judgement.judge_all.Statement.{
 use Rattle.certificate_judgement.proofs.judgement.judge_all.Tie as tie
 
 abbrev Inv-loop : tie.InvT-loop
-Inv-loop history end findings₀ held m certificates earlier₀ k₀ findings earlier k = Walking history findings₀ held m findings (earlier .flags) (earlier .held) k
+Inv-loop history committed end findings₀ held m certificates earlier₀ k₀ findings earlier k = Walking history findings₀ held m findings (earlier .flags) (earlier .held) k
 
 abbrev μ-loop : tie.MeasureT-loop
-μ-loop history end findings₀ held m certificates earlier₀ k₀ findings earlier k = m - k
+μ-loop history committed end findings₀ held m certificates earlier₀ k₀ findings earlier k = m - k
 
 certificate-count-requires : tie.Need-certificate-count-requires Inv-loop μ-loop
 certificate-count-requires c κs = let l = formed _ (c .before .before .pre .0 .right) .long in omega arith
@@ -41,6 +41,7 @@ judge-requires c κs =
     let l = c .before .before .loop-test .taken in (
       record {
         right = s .pre .0 .right;
+        committed = s .pre .0 .committed;
         stored = row-stored (s .args .history .now) _ _ (formed _ (s .pre .0 .right)) (omega arith) _ (c .before .before .before .before .part .ensures .is) (c .before .certificate-at .ensures);
         long = c .before .before .before .loop .inv .room .long;
         few = c .before .before .before .loop .inv .room .few;

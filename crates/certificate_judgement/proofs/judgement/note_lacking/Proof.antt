@@ -10,7 +10,7 @@ use Rattle.certificate_judgement.proofs.judgement.note_lacking.Statemen
 use Rattle.certificate_judgement.proofs.judgement.note_lacking.Tie as tie
 
 lacks-through-requires : tie.Need-lacks-through-requires
-lacks-through-requires c κs = (c .before .before .pre .right, c .before .before .pre .stored)
+lacks-through-requires c κs = (c .before .before .pre .right, c .before .before .pre .committed, c .before .before .pre .stored)
 
 returns : tie.Need-returns
 returns c =

@@ -1,6 +1,6 @@
 -- `check_marks::marks::move_marks` meets its contract. The invariant: moving the marks that are left gives the rest.
 -- Assumes nothing.
-use Rattle.check_marks.proofs.MarkLaws.{none-passed, Moving, moving-starts, moving-next, moving-ends}
+use Rattle.check_marks.proofs.MarkLaws.{Moving, moving-starts, moving-next, moving-ends}
 use borrow.Author.Count.{falls}
 use Prim.Native.Nat.{_-_}
 use mathlib.Core.Path.{sym, _∙_}
@@ -15,24 +15,19 @@ Inv-loop history₀ end m k₀ history k = Moving history₀ (end .0) m history 
 abbrev μ-loop : tie.MeasureT-loop
 μ-loop history₀ end m k₀ history k = m - k
 
-returns : tie.Need-returns Inv-loop μ-loop
-returns c =
-    let s = c .before .before .before .args in
-    none-passed (s .end .0) (c .if1 .taken) _ (s .history .now) 0
-
 certificate-count-requires : tie.Need-certificate-count-requires Inv-loop μ-loop
 certificate-count-requires c κs = search needs
 
 loop-holds : tie.Need-loop-holds Inv-loop μ-loop
 loop-holds c =
-    let s = c .before .before .before .before .before in
+    let s = c .before .before .before in
     moving-starts (s .args .history .now) (s .args .end .0) _ (c .certificate-count .ensures .is) (s .pre .1)
 
 move-mark-requires : tie.Need-move-mark-requires Inv-loop μ-loop
 move-mark-requires c κs =
     let n = c .before .before .before .certificate-count .ensures .is in
     let l = c .before .loop-test .taken in
-    let a = c .before .before .before .before .before .before .before .before .pre .0 in
+    let a = c .before .before .before .before .before .before .pre .0 in
     (omega arith, c .before .before .loop .inv .long)
 
 add-k : tie.Need-add-k Inv-loop μ-loop
@@ -44,16 +39,16 @@ loop-less c = falls _ _ (c .before .before .before .before .loop-test .taken)
 loop-again : tie.Need-loop-again Inv-loop μ-loop
 loop-again c =
     let l = c .before .before .before .before .before in
-    let s = l .before .before .before .before .before .before .args in
+    let s = l .before .before .before .before .args in
     moving-next (s .history .now) (s .end .0) _ (l .loop .history) (l .loop .k) (l .loop .inv) (c .before .before .before .before .loop-test .taken) _ (c .before .before .move-mark .ensures)
 
 same-length : tie.Need-same-length Inv-loop μ-loop
-same-length c = c .before .loop .inv .long ∙ sym (c .before .before .before .before .before .before .before .pre .1)
+same-length c = c .before .loop .inv .long ∙ sym (c .before .before .before .before .before .pre .1)
 
-returns-2 : tie.Need-returns-2 Inv-loop μ-loop
-returns-2 c =
+returns : tie.Need-returns Inv-loop μ-loop
+returns c =
     let l = c .before in
-    let s = l .before .before .before .before .before .before .args in
+    let s = l .before .before .before .before .args in
     moving-ends (s .history .now) (s .end .0) _ (l .loop .history) (l .loop .k) (l .loop .inv) (c .loop-test .left)
 
 pub move-marks-spec : {M : Type 1} → statement M
@@ -62,7 +57,6 @@ move-marks-spec =
     (tie.spec
     Inv-loop
     μ-loop
-    returns
     certificate-count-requires
     loop-holds
     move-mark-requires
@@ -70,4 +64,4 @@ move-marks-spec =
     loop-less
     loop-again
     same-length
-    returns-2)
+    returns)
