@@ -1,7 +1,7 @@
 -- What observing a view means: on bytes that stand for a history the answer is the model's, accepted bytes stand for the model's
 -- effect, and refused ones are as they were.
 -- Assumes nothing.
-use Prim.Native.Nat.{ℕ, zero, suc, _+_, _-_, _<_, _≤_}
+use Prim.Native.Nat.{ℕ, zero, suc, _+_, _-_, _<_, _≤_, min}
 use native.Mathlib.Omega.{arith}
 use mathlib.Core.Path.{_≡_, refl, sym, _∙_, ap, subst}
 use mathlib.Core.Bool.{Bool, true, false, cond}
@@ -63,11 +63,11 @@ pub record ViewMeans (limit : ℕ) (h : Bytes) (x : History) (s : Bytes) (m node
       → Stands (observedBytes limit h s m node) (viewEffect x node (entriesAt s firstEntry m))
   pub refused : (r : Refusal) → viewRefusal limit x node (entriesAt s firstEntry m) ≡ some r → observedBytes limit h s m node ≡ h
 
--- For every well-formed history and every readable view.
+-- For every well-formed history and every readable view. A limit past what the table holds counts as that.
 abbrev pub ViewsMean : Type 0
 ViewsMean =
     (limit : ℕ) (h : Bytes) (x : History) (s : Bytes) (m node : ℕ)
-    → Stands h x → Walk s firstEntry m → node < 64 → limit ≤ 512 → ViewMeans limit h x s m node
+    → Stands h x → Walk s firstEntry m → node < 64 → ViewMeans (min limit 512) h x s m node
 
 -- ---- no refusal
 
@@ -328,11 +328,13 @@ module _ (limit : ℕ) (h : Bytes) (x : History) (s : Bytes) (m node : ℕ) (st 
     accepted-bytes = subst (λ (u : Bytes). Stands u (viewEffect x node E)) (sym (ok .bytes)) (subst (Stands _) same-history third)
 
 pub views-mean : ViewsMean
-views-mean limit h x s m node st w hn hl =
+views-mean limit h x s m node st w hn =
+    let most = min limit 512 in
+    let hl : most ≤ 512 = omega arith in
     record {
-      answers = answer-is limit h x s m node st w hn hl;
-      accepted = λ e. accepted-bytes limit h x s m node st w hn hl (fine limit h x s m node st w hn hl e);
-      refused = refused-bytes limit h x s m node st w hn hl;
+      answers = answer-is most h x s m node st w hn hl;
+      accepted = λ e. accepted-bytes most h x s m node st w hn hl (fine most h x s m node st w hn hl e);
+      refused = refused-bytes most h x s m node st w hn hl;
     }
 
 -- ---- at document 01's limit, as the other kinds are stated
@@ -352,5 +354,5 @@ by-answer h x node E h′ Observed.FindingsFull st e a k = refuses h x (view nod
 pub view-mean : (h : Bytes) (x : History) (s : Bytes) (m node : ℕ) → Stands h x → Walk s firstEntry m → node < 64
     → Means h x (view node (entriesAt s firstEntry m)) (viewReply (observed 512 h s m node)) (observedBytes 512 h s m node)
 view-mean h x s m node st w l =
-    let v = views-mean 512 h x s m node st w l (omega arith) in
+    let v = views-mean 512 h x s m node st w l in
     by-answer h x node (entriesAt s firstEntry m) _ (observed 512 h s m node) st (v .answers) (v .accepted) (v .refused)

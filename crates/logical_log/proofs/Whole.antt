@@ -108,45 +108,47 @@ module _ (limit : ℕ) (h s : Bytes) (m node missing held count : ℕ) (r : Plac
   abbrev As : Observed → Bytes → Type 0
   As r u = (r ≡ observed limit h s m node) × (u ≡ observedBytes limit h s m node)
 
-  pub observed-six : limit < count + missing → As Observed.PrefixesFull h
-  unfolding observed observedBytes
-  observed-six l =
-      let b : ltb limit (wordAt h 0 2 + missingIn h s m) ≡ true = lt-ltb limit _ (subst (λ (x : ℕ). limit < x) total l) in
-      (sym (cond-true (ltb limit (wordAt h 0 2 + missingIn h s m)) Observed.PrefixesFull _ b), sym (cond-true (ltb limit (wordAt h 0 2 + missingIn h s m)) h _ b))
-
-  module _ (l : count + missing ≤ limit) where
-    no-six : ltb limit (wordAt h 0 2 + missingIn h s m) ≡ false
-    no-six = le-ltb limit _ (subst (λ (x : ℕ). x ≤ limit) total l)
-
-    pub observed-seven : 128 < held → As Observed.FindingsFull h
+  -- told the limit as it was read
+  module _ (most : ℕ) (em : most ≡ limit) where
+    pub observed-six : most < count + missing → As Observed.PrefixesFull h
     unfolding observed observedBytes
-    observed-seven g =
-        let b : ltb 128 (heldIn h s m node) ≡ true = lt-ltb 128 _ (subst (λ (x : ℕ). 128 < x) (j .holds) g) in (
-          sym (cond-false (ltb limit (wordAt h 0 2 + missingIn h s m)) Observed.PrefixesFull _ no-six ∙ cond-true (ltb 128 (heldIn h s m node)) Observed.FindingsFull _ b),
-          sym (cond-false (ltb limit (wordAt h 0 2 + missingIn h s m)) h _ no-six ∙ cond-true (ltb 128 (heldIn h s m node)) h _ b),
-        )
+    observed-six l =
+        let b : ltb limit (wordAt h 0 2 + missingIn h s m) ≡ true = lt-ltb limit _ (subst₂ (λ (x y : ℕ). x < y) em total l) in
+        (sym (cond-true (ltb limit (wordAt h 0 2 + missingIn h s m)) Observed.PrefixesFull _ b), sym (cond-true (ltb limit (wordAt h 0 2 + missingIn h s m)) h _ b))
 
-    pub observed-ok : held ≤ 128 → (u : Bytes) → u ≡ restWritten h count s r node t held → As Observed.Accepted u
-    unfolding observed observedBytes
-    observed-ok g u w =
-        let b : ltb 128 (heldIn h s m node) ≡ false = le-ltb 128 _ (subst (λ (x : ℕ). x ≤ 128) (j .holds) g) in (
-          sym (cond-false (ltb limit (wordAt h 0 2 + missingIn h s m)) Observed.PrefixesFull _ no-six ∙ cond-false (ltb 128 (heldIn h s m node)) Observed.FindingsFull _ b),
-          w ∙ (λ i. restWritten h (e i) s (j .place i) node (j .table i) (j .holds i)) ∙ rest-written h s m node _ _ rest
-              ∙ sym (cond-false (ltb limit (wordAt h 0 2 + missingIn h s m)) h _ no-six ∙ cond-false (ltb 128 (heldIn h s m node)) h _ b),
-        )
+    module _ (l : count + missing ≤ most) where
+      no-six : ltb limit (wordAt h 0 2 + missingIn h s m) ≡ false
+      no-six = le-ltb limit _ (subst₂ (λ (x y : ℕ). x ≤ y) total em l)
 
-    -- there is room for what is missing
-    pub observed-room : limit ≤ 512 → Storing h count s r
-    observed-room g =
-        record {
-          right = o .right;
-          count = e;
-          stands = subst₂ (Stand s) (sym e) (sym (j .place)) (place-in-stands h s m (o .walk));
-          next = ap (λ (x : Place). x .index .0) (j .place) ∙ rest .next ∙ sym (ap (λ (x : Place). nextIndex h (x .prefix .0)) (j .place));
-          room = subst (λ (x : ℕ). x ≤ 512)
-              (sym ((λ i. writtenCount h (e i) (j .place i .prefix .0) (j .place i .index .0) (frontAt s (j .place i))) ∙ missing-count h s m))
-              (let a = total in omega arith);
-        }
+      pub observed-seven : 128 < held → As Observed.FindingsFull h
+      unfolding observed observedBytes
+      observed-seven g =
+          let b : ltb 128 (heldIn h s m node) ≡ true = lt-ltb 128 _ (subst (λ (x : ℕ). 128 < x) (j .holds) g) in (
+            sym (cond-false (ltb limit (wordAt h 0 2 + missingIn h s m)) Observed.PrefixesFull _ no-six ∙ cond-true (ltb 128 (heldIn h s m node)) Observed.FindingsFull _ b),
+            sym (cond-false (ltb limit (wordAt h 0 2 + missingIn h s m)) h _ no-six ∙ cond-true (ltb 128 (heldIn h s m node)) h _ b),
+          )
+
+      pub observed-ok : held ≤ 128 → (u : Bytes) → u ≡ restWritten h count s r node t held → As Observed.Accepted u
+      unfolding observed observedBytes
+      observed-ok g u w =
+          let b : ltb 128 (heldIn h s m node) ≡ false = le-ltb 128 _ (subst (λ (x : ℕ). x ≤ 128) (j .holds) g) in (
+            sym (cond-false (ltb limit (wordAt h 0 2 + missingIn h s m)) Observed.PrefixesFull _ no-six ∙ cond-false (ltb 128 (heldIn h s m node)) Observed.FindingsFull _ b),
+            w ∙ (λ i. restWritten h (e i) s (j .place i) node (j .table i) (j .holds i)) ∙ rest-written h s m node _ _ rest
+                ∙ sym (cond-false (ltb limit (wordAt h 0 2 + missingIn h s m)) h _ no-six ∙ cond-false (ltb 128 (heldIn h s m node)) h _ b),
+          )
+
+      -- there is room for what is missing
+      pub observed-room : limit ≤ 512 → Storing h count s r
+      observed-room g =
+          record {
+            right = o .right;
+            count = e;
+            stands = subst₂ (Stand s) (sym e) (sym (j .place)) (place-in-stands h s m (o .walk));
+            next = ap (λ (x : Place). x .index .0) (j .place) ∙ rest .next ∙ sym (ap (λ (x : Place). nextIndex h (x .prefix .0)) (j .place));
+            room = subst (λ (x : ℕ). x ≤ 512)
+                (sym ((λ i. writtenCount h (e i) (j .place i .prefix .0) (j .place i .index .0) (frontAt s (j .place i))) ∙ missing-count h s m))
+                (let a = total in let b = em in omega arith);
+          }
 
 -- ---- lengths
 

@@ -1,5 +1,6 @@
 -- `logical_log::observation::observe_prefixes` meets its contract.
 -- Assumes nothing.
+use Prim.Native.Nat.{min}
 use mathlib.Core.Path.{ap, _∙_}
 use native.Mathlib.Omega.{arith}
 use lib.ListN.{length}
@@ -18,55 +19,63 @@ judge-view-requires c κs = search needs
 prefix-count-requires : tie.Need-prefix-count-requires
 prefix-count-requires c κs =
     let s = c .before .before .before .before .before .before .before in
-    let l = formed (s .args .history .now) (s .pre .0 .right) .long in
+    let l = formed (s .args .history .now) (s .pre .right) .long in
     omega arith
 
 add-total : tie.Need-add-total
 add-total c =
     let s = c .before .before .before .before .before .before .before .before .before in
-    let x = total-small (s .args .limit) (s .args .history .now) (s .args .view .now) (s .args .entries) (s .args .node .0) _ _ _ _ _ (s .pre .0) (c .before .before .before .before .judge-view .ensures) (c .before .prefix-count .ensures .is) in
+    let x = total-small (min (s .args .limit) 512) (s .args .history .now) (s .args .view .now) (s .args .entries) (s .args .node .0) _ _ _ _ _ (s .pre) (c .before .before .before .before .judge-view .ensures) (c .before .prefix-count .ensures .is) in
     omega arith
+
+most-stored-requires : tie.Need-most-stored-requires
+most-stored-requires c κs = search needs
 
 same-length : tie.Need-same-length
 same-length c = search needs
 
 returns : tie.Need-returns
 returns c =
-    let s = c .before .before .before .before .before .before .before .before .before .before in
-    observed-six (s .args .limit) (s .args .history .now) (s .args .view .now) (s .args .entries) (s .args .node .0) _ _ _ _ _ (s .pre .0) (c .before .before .before .before .before .judge-view .ensures) (c .before .before .prefix-count .ensures .is) (c .if1 .taken)
+    let m = c .before in
+    let p = m .before .before in
+    let s = p .before .before .before .before .before .before .before .before in
+    observed-six (min (s .args .limit) 512) (s .args .history .now) (s .args .view .now) (s .args .entries) (s .args .node .0) _ _ _ _ _ (s .pre) (p .before .before .before .judge-view .ensures) (p .prefix-count .ensures .is) _ (m .most-stored .ensures) (c .if1 .taken)
 
 same-length-2 : tie.Need-same-length-2
 same-length-2 c = search needs
 
 returns-2 : tie.Need-returns-2
 returns-2 c =
-    let s = c .before .before .before .before .before .before .before .before .before .before .before in
-    observed-seven (s .args .limit) (s .args .history .now) (s .args .view .now) (s .args .entries) (s .args .node .0) _ _ _ _ _ (s .pre .0) (c .before .before .before .before .before .before .judge-view .ensures) (c .before .before .before .prefix-count .ensures .is) (c .before .if1 .left) (c .if2 .taken)
+    let m = c .before .before in
+    let p = m .before .before in
+    let s = p .before .before .before .before .before .before .before .before in
+    observed-seven (min (s .args .limit) 512) (s .args .history .now) (s .args .view .now) (s .args .entries) (s .args .node .0) _ _ _ _ _ (s .pre) (p .before .before .before .judge-view .ensures) (p .prefix-count .ensures .is) _ (m .most-stored .ensures) (c .before .if1 .left) (c .if2 .taken)
 
 slice-aggregate-write-view : tie.Need-slice-aggregate-write-view
 slice-aggregate-write-view c = search needs
 
 write-view-requires : tie.Need-write-view-requires
 write-view-requires c κs =
-    let s = c .before .before .before .before .before .before .before .before .before .before .before .before .before .before in
-    let j = c .before .before .before .before .before .before .before .before .before .judge-view .ensures in (
-      observed-room (s .args .limit) (s .args .history .now) (s .args .view .now) (s .args .entries) (s .args .node .0) _ _ _ _ _ (s .pre .0) j (c .before .before .before .before .before .before .prefix-count .ensures .is) (c .before .before .before .before .if1 .left) (s .pre .1),
-      s .pre .0 .isNode,
-      ap length (j .table) ∙ table-length _ _ _ _ (s .pre .0 .right),
+    let m = c .before .before .before .before .before in
+    let p = m .before .before in
+    let s = p .before .before .before .before .before .before .before .before in
+    let j = p .before .before .before .judge-view .ensures in (
+      observed-room (min (s .args .limit) 512) (s .args .history .now) (s .args .view .now) (s .args .entries) (s .args .node .0) _ _ _ _ _ (s .pre) j (p .prefix-count .ensures .is) _ (m .most-stored .ensures) (c .before .before .before .before .if1 .left) (omega arith),
+      s .pre .isNode,
+      ap length (j .table) ∙ table-length _ _ _ _ (s .pre .right),
     )
 
 returns-3 : tie.Need-returns-3
 returns-3 c =
     let e2 = c .before .before .before .before .before .before in
-    let s = e2 .before .before .before .before .before .before .before .before .before .before .before in
-    observed-ok (s .args .limit) (s .args .history .now) (s .args .view .now) (s .args .entries) (s .args .node .0) _ _ _ _ _ (s .pre .0) (e2 .before .before .before .before .before .before .judge-view .ensures) (e2 .before .before .before .prefix-count .ensures .is) (e2 .before .if1 .left) (e2 .if2 .left)
+    let m = e2 .before .before in
+    let p = m .before .before in
+    let s = p .before .before .before .before .before .before .before .before in
+    observed-ok (min (s .args .limit) 512) (s .args .history .now) (s .args .view .now) (s .args .entries) (s .args .node .0) _ _ _ _ _ (s .pre) (p .before .before .before .judge-view .ensures) (p .prefix-count .ensures .is) _ (m .most-stored .ensures) (e2 .before .if1 .left) (e2 .if2 .left)
     _ (c .before .before .write-view .ensures)
 
 same-length-3 : tie.Need-same-length-3
-same-length-3 c =
-    let e2 = c .before .before .before .before .before .before in
-    let s = e2 .before .before .before .before .before .before .before .before .before .before .before in
-    ap length (c .before .before .write-view .ensures) ∙ written-length _ _ _ _ _ _ _
+same-length-3 c = ap length (c .before .before .write-view .ensures) ∙ written-length _ _ _ _ _ _ _
 
 pub observe-prefixes-spec : {M : Type 1} → statement M
 observe-prefixes-spec =
@@ -76,6 +85,7 @@ observe-prefixes-spec =
     judge-view-requires
     prefix-count-requires
     add-total
+    most-stored-requires
     same-length
     returns
     same-length-2
