@@ -23,7 +23,10 @@ use table_rows::findings::LG_05;
 use units::LogIndex;
 use units::LogPrefixWitness;
 
-// How far the judging has come: the sum of the flags, 4 where an index was relevant, and how many findings are held.
+// The flag of a relevant index.
+const RELEVANT_INDEX: usize = 4;
+
+// How far the judging has come: the sum of the flags, and how many findings are held.
 pub struct Judged {
     pub flags: usize,
     pub held: usize,
@@ -95,7 +98,10 @@ pub fn judge(
         &mut findings[..],
         earlier.held,
     );
-    Judged { flags: 4, held }
+    Judged {
+        flags: RELEVANT_INDEX,
+        held,
+    }
 }
 
 // Every certificate, by term, then arrival, as they are stored.

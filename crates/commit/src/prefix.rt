@@ -22,11 +22,21 @@ use units::LogIndex;
 use units::LogPrefixWitness;
 use units::NodeId;
 
-// The flags of agreement with the committed prefix of the owner.
+// The flag of agreement with the committed prefix.
+const AGREEMENT: usize = 1;
+
+// The flag of agreement where its owner is another node.
+const OTHER_OWNER: usize = 2;
+
+// The sum of the flags of agreement.
 fn flags(owner: NodeId, node: NodeId) -> usize
     ensures { λ r. ⌜ r ≡ flagsOf (owner .0) (node .0) ⌝ }
 {
-    if owner.0 == node.0 { 1 } else { 3 }
+    if owner.0 == node.0 {
+        AGREEMENT
+    } else {
+        AGREEMENT + OTHER_OWNER
+    }
 }
 
 // The prefix seen is compared with the committed one; a longer one replaces it.
