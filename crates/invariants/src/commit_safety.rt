@@ -20,7 +20,8 @@ pub enum Verdict {
 // In the place of a rule where none fails: it comes after all four.
 const NO_RULE: u8 = 5;
 
-// Rule 2: there was a committed configuration, and there is none now or one of a lower index.
+// Rule 2 (`check_committed_configuration_index_monotonicity`): there was a committed configuration, and there is none now or one
+// of a lower index.
 fn configuration_regressed(r: Row) -> bool
     ensures { λ b. ⌜ b ≡ model.rule2 (rowOf r) ⌝ }
 {
@@ -29,7 +30,7 @@ fn configuration_regressed(r: Row) -> bool
     floor.present && (!actual.present || actual.index.0 < floor.index.0)
 }
 
-// Rule 3: the committed configuration has another identity at the same index.
+// Rule 3 (`check_committed_configuration_identity`): the committed configuration has another identity at the same index.
 fn configuration_changed(r: Row) -> bool
     ensures { λ b. ⌜ b ≡ model.rule3 (rowOf r) ⌝ }
 {
@@ -41,8 +42,8 @@ fn configuration_changed(r: Row) -> bool
         && floor.identity != actual.identity
 }
 
-// The first rule that the row fails, 1 to 4, or NO_RULE. Rule 1: the commit index is below its floor. Rule 4: it is above the
-// last index.
+// The first rule that the row fails, 1 to 4, or NO_RULE. Rule 1 (`check_commit_index_monotonicity`): the commit index is below its
+// floor. Rule 4 (`check_commit_index_within_local_log_bounds`): it is above the last index.
 fn first_rule(r: Row) -> u8
     ensures { λ k. ⌜ k ≡ firstRule (rowOf r) ⌝ }
 {

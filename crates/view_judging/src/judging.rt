@@ -1,5 +1,5 @@
-// A view judged along its front (observation.rs), with nothing written: first as far as its prefixes are stored, then the rest,
-// where none is.
+// A view judged along its front (`observe_entries` of observation.rs), with nothing written: first as far as its prefixes are
+// stored, then the rest, where none is.
 ghost use mathlib.Core.Path.{_≡_};
 ghost use Prim.Native.Nat.{_≤_};
 ghost use lib.ListN.{length};
@@ -78,7 +78,7 @@ fn is_remembered(prefixes: &[u8], count: usize, index: LogIndex, term: Term) -> 
     true
 }
 
-// LG-03 is noted where another prefix is remembered.
+// LG-03 is noted where another prefix is remembered (`reconcile_prefix`).
 fn note_other(
     findings: &mut [u8],
     n: usize,
