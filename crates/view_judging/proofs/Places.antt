@@ -135,16 +135,22 @@ module _ (row : ℕ → PrefixRow) (count : ℕ) (s : Bytes) where
         small = (let x = walk-entered s at (suc n) (w .walk) (omega arith) .within in omega arith);
       }
 
-  pub place-stands : (n at i p : ℕ) → Stand s count (placeAt at n i p) → Stand s count (placeFrom row count s at n i p)
+  -- what holds where the walk begins and is kept past each entry whose prefix is stored holds at its place
+  pub place-keeps : (P : Place → Type 0)
+      → ((n at i p : ℕ) → P (placeAt at (suc n) i p) → indexAt s at ≡ i → (next row count s at i p ≡ 0 → ⊥) → P (placeAt (nextAt s at) n (i + 1) (next row count s at i p)))
+      → (n at i p : ℕ) → P (placeAt at n i p) → P (placeFrom row count s at n i p)
   unfolding placeFrom
-  place-stands zero at i p w = w
-  place-stands (suc n) at i p w = go (turn row count s at i p) (place-stands n (nextAt s at) (i + 1) (next row count s at i p))
+  place-keeps P k zero at i p w = w
+  place-keeps P k (suc n) at i p w = go (turn row count s at i p) (place-keeps P k n (nextAt s at) (i + 1) (next row count s at i p))
     where
-      go : Turn row count s at i p → (Stand s count (placeAt (nextAt s at) n (i + 1) (next row count s at i p)) → Stand s count (placeFrom row count s (nextAt s at) n (i + 1) (next row count s at i p)))
-          → Stand s count (placeFrom row count s at (suc n) i p)
-      go (gap g) ih = subst (Stand s count) (sym (place-stays row count s at i p n (ends-gap row count s at i p g))) w
-      go (lost g z) ih = subst (Stand s count) (sym (place-stays row count s at i p n (ends-lost row count s at i p g z))) w
-      go (more g z) ih = subst (Stand s count) (sym (place-goes row count s at i p n (goes-on row count s at i p g z))) (ih (stand-next n at i p w g))
+      go : Turn row count s at i p → (P (placeAt (nextAt s at) n (i + 1) (next row count s at i p)) → P (placeFrom row count s (nextAt s at) n (i + 1) (next row count s at i p)))
+          → P (placeFrom row count s at (suc n) i p)
+      go (gap g) ih = subst P (sym (place-stays row count s at i p n (ends-gap row count s at i p g))) w
+      go (lost g z) ih = subst P (sym (place-stays row count s at i p n (ends-lost row count s at i p g z))) w
+      go (more g z) ih = subst P (sym (place-goes row count s at i p n (goes-on row count s at i p g z))) (ih (k n at i p w g z))
+
+  pub place-stands : (n at i p : ℕ) → Stand s count (placeAt at n i p) → Stand s count (placeFrom row count s at n i p)
+  place-stands = place-keeps (Stand s count) (λ n at i p w g z. stand-next n at i p w g)
 
   -- at a place the front is at its end, or goes on with an entry whose prefix is not stored
   abbrev pub Ended : Place → Type 0

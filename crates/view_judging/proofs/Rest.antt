@@ -23,9 +23,9 @@ use Rattle.prefix_lookup.proofs.PrefixLaws.{found}
 use Rattle.prefix_lookup.proofs.TableLaws.{rows-length, rows-at}
 use Rattle.log_prefix.specs.Extension.{nextIndex, extensionIn, writtenBytes, writtenCount, writtenNumber}
 use Rattle.log_prefix.proofs.Written.{number-found, count-found, bytes-found, written-cons}
-use Rattle.view_judging.specs.Judging.{nextNumber, placeAt, frontAt, lastAt, Stand, placeFrom, placeIn}
+use Rattle.view_judging.specs.Judging.{nextNumber, placeAt, frontAt, lastAt, Stand, placeIn}
 use Rattle.view_judging.specs.declared.judging.Place.{Place}
-use Rattle.view_judging.proofs.Places.{Turn, gap, lost, more, turn, next, ends-gap, ends-lost, goes-on, place-stays, place-goes, front-suc, content-short, stand-next, first-stands}
+use Rattle.view_judging.proofs.Places.{next, place-keeps, front-suc, content-short, stand-next, first-stands}
 
 -- a place of a view of m entries such that what is before it writes nothing
 pub record Rest (h s : Bytes) (m : ℕ) (r : Place) : Type 0 where
@@ -88,24 +88,13 @@ module _ (h : Bytes) (f : Formed h) (s : Bytes) (m : ℕ) where
         next = index-next p i (number-at at i p) e (st .number) (content-short s at n (st .walk)) (w .next) refl z;
       }
 
-  rest-at : (n at i p : ℕ) → Stand s count (placeAt at n i p) → Rest h s m (placeAt at n i p) → Rest h s m (placeFrom row count s at n i p)
-  unfolding placeFrom
-  rest-at zero at i p st w = w
-  rest-at (suc n) at i p st w = go (turn row count s at i p) (rest-at n (nextAt s at) (i + 1) (number-at at i p))
-    where
-      go : Turn row count s at i p
-          → (Stand s count (placeAt (nextAt s at) n (i + 1) (number-at at i p)) → Rest h s m (placeAt (nextAt s at) n (i + 1) (number-at at i p))
-          → Rest h s m (placeFrom row count s (nextAt s at) n (i + 1) (number-at at i p)))
-          → Rest h s m (placeFrom row count s at (suc n) i p)
-      go (gap g) ih = subst (Rest h s m) (sym (place-stays row count s at i p n (ends-gap row count s at i p g))) w
-      go (lost g z) ih = subst (Rest h s m) (sym (place-stays row count s at i p n (ends-lost row count s at i p g z))) w
-      go (more g z) ih =
-          subst (Rest h s m) (sym (place-goes row count s at i p n (goes-on row count s at i p g z))) (ih (stand-next row count s n at i p st g) (rest-next n at i p st w g z))
-
   -- the walk's own place is one
   pub rest-of : Walk s firstEntry m → Rest h s m (placeIn h s m)
   unfolding placeIn
-  rest-of w = rest-at m firstEntry 1 0 (first-stands s count m w) (record { bytes = refl; counts = refl; number = refl; last = refl; next = first })
+  rest-of w =
+      place-keeps row count s (λ (r : Place). Stand s count r × Rest h s m r)
+      (λ n at i p k g z. (stand-next row count s n at i p (k .0) g, rest-next n at i p (k .0) (k .1) g z)) m firstEntry 1 0
+      (first-stands s count m w, record { bytes = refl; counts = refl; number = refl; last = refl; next = first }) .1
     where
       first : 1 ≡ nextIndex h 0
       first = (unfold numberIndex in refl)
