@@ -9,17 +9,16 @@ ghost use Rattle.storage.specs.Values.{committedEnd};
 ghost use Rattle.certificate_rows.specs.Values.{certificateValue};
 ghost use Rattle.certificate_judgement.specs.Judgement.{lacksThrough, Noting, NotedAs, Judging, JudgedAs, JudgedAll};
 use certificate_rows::certificates::Certificate;
+use certificate_rows::certificates::LOG_ABSENT;
 use certificate_rows::certificates::certificate_at;
-use check_relevance::relevance::Relevant;
 use check_relevance::relevance::relevant_index;
 use committed_prefix::committed::agree_through;
 use log_violation::violation::note;
 use storage::head::certificate_count;
-use storage_bytes::layout::CERTIFICATES_LENGTH;
-use storage_bytes::layout::CERTIFICATES_START;
-use storage_bytes::layout::part;
+use storage_bytes::layout::certificate_table;
 use table_rows::findings::Found;
 use table_rows::findings::LG_05;
+use table_rows::terms::FoundIndex;
 use units::LogIndex;
 use units::LogPrefixWitness;
 
@@ -42,7 +41,7 @@ fn lacks_through(
     requires { ⌜ (wellFormed (now history) ≡ true) × (committed .0 ≡ wordAt (now history) 4 2) × (c .log .0 ≤ wordAt (now history) 0 2) ⌝ }
     ensures { λ r. ⌜ r ≡ lacksThrough (now (history .entry)) (certificateValue c) (index .0) ⌝ }
 {
-    if c.present == 0 {
+    if c.present == LOG_ABSENT {
         return true;
     }
     let log = c.log;
@@ -87,7 +86,7 @@ pub fn judge(
     requires { ⌜ Noting (now history) (committed .0) (certificateValue c) (now findings) (earlier .held) × (end .0 ≡ committedEnd (now history)) ⌝ }
     ensures { λ r. ⌜ JudgedAs (now (history .entry)) (certificateValue c) (now (findings .entry)) (earlier .flags) (earlier .held) (r .flags) (r .held) (now (findings .exit)) ⌝ }
 {
-    let Relevant::Index(index) = relevant_index(history, end, c) else {
+    let FoundIndex::At(index) = relevant_index(history, end, c) else {
         return earlier;
     };
     let held = note_lacking(
@@ -116,13 +115,11 @@ pub fn judge_all(
     ensures { λ r. ⌜ JudgedAll (now (history .entry)) (now (findings .entry)) held (r .flags) (r .held) (now (findings .exit)) ⌝ }
 {
     let m = certificate_count(history);
-    let certificates = part(history, CERTIFICATES_START, CERTIFICATES_LENGTH);
+    let certificates = certificate_table(history);
     let mut earlier = Judged { flags: 0, held };
-    let mut k = 0;
-    while k < m {
+    for k in 0..m {
         let c = certificate_at(certificates, k);
         earlier = judge(history, committed, end, c, &mut findings[..], earlier);
-        k += 1;
     }
     earlier
 }

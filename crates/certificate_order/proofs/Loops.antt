@@ -5,8 +5,8 @@ use Prim.Native.Nat.{ℕ, zero, suc, _+_, _-_, _≤_, _<_}
 use native.Mathlib.Omega.{arith}
 use mathlib.Core.Path.{_≡_, refl, ap, sym, _∙_, subst}
 use mathlib.Core.Bool.{Bool, true, false, _||_}
-use lib.Dec.{leb, eqb}
-use borrow.Author.Tests.{le-leb, lt-leb, eq-eqb, ne-eqb}
+use lib.Dec.{leb, ltb, eqb}
+use borrow.Author.Tests.{ltb-true, ltb-false, eqb-true, eqb-false, le-leb, lt-leb, eq-eqb, ne-eqb}
 use Rattle.model.proofs.Tests.{cond-cases, cond-true, cond-false}
 use Rattle.storage.specs.Tables.{CertificateRow}
 use Rattle.certificate_order.specs.Order.{placeFrom, heldBefore, takenFrom}
@@ -38,16 +38,16 @@ module _ (row : ℕ → CertificateRow) (t : ℕ) where
     before h = omega arith
 
     module _ (h : 0 < p) (x : ℕ) (e : x ≡ row (p - 1) .term) where
-      pub place-stop : x ≤ t → p ≡ placeFrom row t n
+      pub place-stop : ltb t x ≡ false → p ≡ placeFrom row t n
       place-stop l =
           sym
-          (inv ∙ ap (placeFrom row t) (before h) ∙ place-here (p - 1) (subst (λ (y : ℕ). y ≤ t) e l) ∙ sym (before h))
+          (inv ∙ ap (placeFrom row t) (before h) ∙ place-here (p - 1) (subst (λ (y : ℕ). y ≤ t) e (ltb-false t x l)) ∙ sym (before h))
 
-      pub place-next : t < x → placeFrom row t n ≡ placeFrom row t (p - 1)
-      place-next l = inv ∙ ap (placeFrom row t) (before h) ∙ place-back (p - 1) (subst (λ (y : ℕ). t < y) e l)
+      pub place-next : ltb t x ≡ true → placeFrom row t n ≡ placeFrom row t (p - 1)
+      place-next l = inv ∙ ap (placeFrom row t) (before h) ∙ place-back (p - 1) (subst (λ (y : ℕ). t < y) e (ltb-true t x l))
 
-    pub place-none : p ≤ 0 → 0 ≡ placeFrom row t n
-    place-none h = sym (inv ∙ ap (placeFrom row t) (let e : p ≡ 0 = omega arith in e) ∙ place-zero)
+    pub place-none : p ≤ 0 → p ≡ placeFrom row t n
+    place-none h = let e : p ≡ 0 = omega arith in e ∙ sym (inv ∙ ap (placeFrom row t) e ∙ place-zero)
 
   -- ---- how many are held
 
@@ -78,15 +78,15 @@ module _ (row : ℕ → CertificateRow) (t : ℕ) where
     left h = omega arith
 
     module _ (h : m < p) (x : ℕ) (e : x ≡ row (p - 1 - m) .term) where
-      pub held-next : x ≡ t → heldBefore row t p ≡ m + 1 + heldBefore row t (p - (m + 1))
+      pub held-next : eqb x t ≡ true → heldBefore row t p ≡ m + 1 + heldBefore row t (p - (m + 1))
       held-next l =
-          let a : heldBefore row t (p - m) ≡ suc (heldBefore row t (p - 1 - m)) = ap (heldBefore row t) (left h) ∙ held-more (p - 1 - m) (sym e ∙ l) in
+          let a : heldBefore row t (p - m) ≡ suc (heldBefore row t (p - 1 - m)) = ap (heldBefore row t) (left h) ∙ held-more (p - 1 - m) (sym e ∙ eqb-true x t l) in
           let b : heldBefore row t (p - 1 - m) ≡ heldBefore row t (p - (m + 1)) = ap (heldBefore row t) (omega arith) in
           omega (arith, inv)
 
-      pub held-stop : (x ≡ t → ⊥) → m ≡ heldBefore row t p
+      pub held-stop : eqb x t ≡ false → m ≡ heldBefore row t p
       held-stop l =
-          let a : heldBefore row t (p - m) ≡ 0 = ap (heldBefore row t) (left h) ∙ held-end (p - 1 - m) (λ z. l (e ∙ z)) in
+          let a : heldBefore row t (p - m) ≡ 0 = ap (heldBefore row t) (left h) ∙ held-end (p - 1 - m) (λ z. eqb-false x t l (e ∙ z)) in
           omega (arith, inv)
 
     pub held-none : p ≤ m → m ≡ heldBefore row t p

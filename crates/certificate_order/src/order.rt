@@ -15,13 +15,10 @@ pub fn place_of(certificates: &[u8], n: usize, term: Term) -> usize
     ensures { λ r. ⌜ r ≡ placeFrom (certificateRow (now (certificates .entry))) (term .0) n ⌝ }
 {
     let mut place = n;
-    while 0 < place {
-        if term_at(certificates, place - 1).0 <= term.0 {
-            return place;
-        }
+    while 0 < place && term.0 < term_at(certificates, place - 1).0 {
         place -= 1;
     }
-    0
+    place
 }
 
 // How many right before the place are of the term.
@@ -30,10 +27,7 @@ pub fn held_of(certificates: &[u8], place: usize, term: Term) -> usize
     ensures { λ r. ⌜ r ≡ heldBefore (certificateRow (now (certificates .entry))) (term .0) place ⌝ }
 {
     let mut held = 0;
-    while held < place {
-        if term_at(certificates, place - 1 - held).0 != term.0 {
-            return held;
-        }
+    while held < place && term_at(certificates, place - 1 - held).0 == term.0 {
         held += 1;
     }
     held
@@ -44,12 +38,10 @@ pub fn is_taken(certificates: &[u8], place: usize, held: usize, number: usize) -
     requires { ⌜ (held ≤ place) × (place ≤ 64) × (length (now certificates) ≡ 704) ⌝ }
     ensures { λ r. ⌜ r ≡ takenBefore (certificateRow (now (certificates .entry))) number place held ⌝ }
 {
-    let mut k = place - held;
-    while k < place {
+    for k in place - held..place {
         if number_at(certificates, k) == number {
             return true;
         }
-        k += 1;
     }
     false
 }

@@ -25,6 +25,12 @@ use units::LogPrefixWitness;
 use units::NodeId;
 use units::Term;
 
+// A certificate without a log.
+pub const LOG_ABSENT: usize = 0;
+
+// A certificate with its log.
+pub const LOG_PRESENT: usize = 1;
+
 pub struct Certificate {
     pub term: Term,
     pub log: LogPrefixWitness,
@@ -32,7 +38,7 @@ pub struct Certificate {
     pub leader: NodeId,
     // Its number within its term.
     pub number: usize,
-    // 0 where it has no log, else 1.
+    // LOG_ABSENT or LOG_PRESENT.
     pub present: usize,
 }
 

@@ -41,12 +41,10 @@ module _ (h : Bytes) (k end m : ℕ) (e : m ≡ certificateOf h k .mark) where
 pub record Moving (h₀ : Bytes) (end m : ℕ) (h : Bytes) (k : ℕ) : Type 0 where
   pub rest : marksMoved h₀ end 0 (wordAt h₀ 6 1) ≡ marksMoved h end k (m - k)
   pub long : length h ≡ 24137
-  pub within : k ≤ m
 
 module _ (h₀ : Bytes) (end m : ℕ) where
   pub moving-starts : m ≡ wordAt h₀ 6 1 → length h₀ ≡ 24137 → Moving h₀ end m h₀ 0
-  moving-starts e l =
-      record { rest = ap (marksMoved h₀ end 0) (let z : wordAt h₀ 6 1 ≡ m - 0 = omega arith in z); long = l; within = omega arith }
+  moving-starts e l = record { rest = ap (marksMoved h₀ end 0) (let z : wordAt h₀ 6 1 ≡ m - 0 = omega arith in z); long = l }
 
   module _ (h : Bytes) (k : ℕ) (w : Moving h₀ end m h k) where
     pub moving-next : k < m → (u : Bytes) → u ≡ markMoved h k end → Moving h₀ end m u (k + 1)
@@ -56,7 +54,6 @@ module _ (h₀ : Bytes) (end m : ℕ) where
           rest = w .rest ∙ ap (marksMoved h end k) (let z : m - k ≡ suc (m - (k + 1)) = omega arith in z)
               ∙ ap (λ (x : Bytes). marksMoved x end (k + 1) (m - (k + 1))) (sym e);
           long = ap length e ∙ moved-length h k end ∙ w .long;
-          within = omega arith;
         }
 
     pub moving-ends : m ≤ k → h ≡ marksMoved h₀ end 0 (wordAt h₀ 6 1)

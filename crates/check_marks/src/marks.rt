@@ -8,11 +8,9 @@ ghost use Rattle.check_marks.specs.Marks.{markMoved, marksMoved};
 use certificate_mark::mark::with_mark;
 use certificate_rows::certificates::certificate_at;
 use storage::head::certificate_count;
-use storage_bytes::layout::CERTIFICATES_LENGTH;
-use storage_bytes::layout::CERTIFICATES_START;
-use storage_bytes::layout::part;
+use storage_bytes::layout::certificate_table;
 use term_marks::marks::checked_mark;
-use term_marks::marks::set_mark as store_mark;
+use term_marks::marks::store_mark;
 use units::LogIndex;
 
 // The mark of certificate k.
@@ -23,10 +21,7 @@ pub fn move_mark(history: &mut [u8], k: usize, end: LogIndex)
     if end.0 <= checked_mark(&history[..], k).0 {
         return;
     }
-    let c = certificate_at(
-        part(&history[..], CERTIFICATES_START, CERTIFICATES_LENGTH),
-        k,
-    );
+    let c = certificate_at(certificate_table(&history[..]), k);
     let moved = with_mark(c, end);
     store_mark(&mut history[..], k, moved.mark);
 }
@@ -37,9 +32,7 @@ pub fn move_marks(history: &mut [u8], end: LogIndex)
     ensures { λ r. ⌜ now (history .exit) ≡ marksMoved (now (history .entry)) (end .0) 0 (wordAt (now (history .entry)) 6 1) ⌝ }
 {
     let m = certificate_count(&history[..]);
-    let mut k = 0;
-    while k < m {
+    for k in 0..m {
         move_mark(&mut history[..], k, end);
-        k += 1;
     }
 }

@@ -1,2 +1,1 @@
 pub mod RelevanceLaws
-pub mod RelevantLaws

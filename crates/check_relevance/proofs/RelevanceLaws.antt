@@ -19,7 +19,7 @@ use Rattle.storage_bytes.specs.Words.{wordAt}
 use Rattle.storage.specs.Tables.{CertificateRow, termRow, termsPart}
 use Rattle.storage.specs.Values.{committedEnd}
 use Rattle.storage_bytes.proofs.ListLaws.{tabulate-length, tabulate-snoc}
-use Rattle.check_relevance.specs.Relevance.{lastRelevant, recordedThrough, recordedEnd, relevantIn}
+use Rattle.check_relevance.specs.Relevance.{lastRelevant, recordedEnd, relevantIn}
 
 -- ---- the turns of the loop
 
@@ -142,22 +142,15 @@ module _ (mark end t : ℕ) where
 
 -- ---- what is read
 
-module _ (h : Bytes) where
-  module _ (end n : ℕ) (e : n ≡ wordAt h 2 2) where
-    pub recorded-shorter : end < n → end ≡ recordedThrough h end
-    recorded-shorter l = (let z : end ≡ min end n = omega arith in z) ∙ ap (min end) e
+module _ (h : Bytes) (c : CertificateRow) (end : ℕ) (ee : end ≡ committedEnd h) where
+  pub relevant-read : (ts : Bytes) → ts ≡ termsPart h → (n : ℕ) → n ≡ wordAt h 2 2 → (last : ℕ) → last ≡ min end n
+      → lastRelevant (termRow ts) (c .mark) (c .term) last ≡ relevantIn h c
+  unfolding relevantIn recordedEnd
+  relevant-read ts et n en last el = λ i. lastRelevant (termRow (et i)) (c .mark) (c .term) ((el ∙ (λ j. min (ee j) (en j))) i)
 
-    pub recorded-longer : n ≤ end → n ≡ recordedThrough h end
-    recorded-longer l = (let z : n ≡ min end n = omega arith in z) ∙ ap (min end) e
-
-  module _ (c : CertificateRow) (end : ℕ) (ee : end ≡ committedEnd h) where
-    pub relevant-read : (ts : Bytes) (e : ℕ) → ts ≡ termsPart h → e ≡ recordedThrough h end → lastRelevant (termRow ts) (c .mark) (c .term) e ≡ relevantIn h c
-    unfolding relevantIn recordedEnd
-    relevant-read ts e a b = (λ i. lastRelevant (termRow (a i)) (c .mark) (c .term) ((b ∙ ap (recordedThrough h) ee) i))
-
-    -- the mark is not passed: no index is after it
-    pub relevant-not-passed : end ≤ c .mark → 0 ≡ relevantIn h c
-    unfolding relevantIn recordedEnd
-    relevant-not-passed l =
-        let z : committedEnd h ≤ c .mark = subst (λ (y : ℕ). y ≤ c .mark) ee l in
-        sym (at-none (termRow (termsPart h)) (c .mark) (c .term) (recordedThrough h (committedEnd h)) (omega arith))
+  -- the mark is not passed: no index is after it
+  pub relevant-not-passed : end ≤ c .mark → 0 ≡ relevantIn h c
+  unfolding relevantIn recordedEnd
+  relevant-not-passed l =
+      let z : committedEnd h ≤ c .mark = subst (λ (y : ℕ). y ≤ c .mark) ee l in
+      sym (at-none (termRow (termsPart h)) (c .mark) (c .term) (min (committedEnd h) (wordAt h 2 2)) (omega arith))

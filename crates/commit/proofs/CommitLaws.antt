@@ -25,14 +25,15 @@ use Rattle.storage.proofs.Meanings.{Stands, withNoted, findings-right, noted-ri
 use Rattle.prefix_lookup.specs.declared.lookup.Slice.{Slice}
 use Rattle.log_violation.specs.Violation.{findingsKept}
 use Rattle.prefix_lookup.specs.Prefix.{witness, storedOf, frontThrough}
-use Rattle.committed_prefix.specs.Prefix.{longerIn, endIn, agreeIn, unseenSet, keepBytes, difference, heldWith, tableWith, noteAnswer, noteLeaves}
-use Rattle.commit.specs.Prefix.{flagsOf, commitAnswer, commitBytes, Inserted, Observed}
+use Rattle.committed_prefix.specs.Prefix.{longerIn, endIn, agreeIn, unseenSet, keepBytes}
+use Rattle.commit.specs.Prefix.{flagsOf, difference, heldWith, tableWith, noteAnswer, noteLeaves, commitAnswer, commitBytes, Inserted, Observed}
 use Rattle.prefix_lookup.proofs.StoredLaws.{stored-none, stored-read}
 use Rattle.prefix_lookup.proofs.Fronts.{Part, front-cut}
-use Rattle.committed_prefix.specs.declared.committed.CommitAnswer.{CommitAnswer}
+use Rattle.commit.specs.declared.prefix.CommitAnswer.{CommitAnswer}
 use Rattle.storage.proofs.WellFormed.{formed}
-use Rattle.commit.proofs.PrefixTurns.{insert-differs, insert-longer, insert-shorter, observe-unseen, observe-zero, observe-first, observe-later}
-use Rattle.committed_prefix.proofs.PrefixLaws.{changed, at, committed-is, owner-is, findings-held, empty-is, longer-means, end-means, agree-means, end-limit, unseen-written, noted-written, difference-holds, table-length, keep-written}
+use Rattle.commit.proofs.PrefixTurns.{insert-differs, keep-is, insert-longer, insert-shorter, observe-unseen, observe-zero, observe-first, observe-later}
+use Rattle.committed_prefix.proofs.PrefixLaws.{changed, at, committed-is, owner-is, findings-held, empty-is, longer-means, end-means, agree-means, end-limit, unseen-written, noted-written, keep-written}
+use Rattle.commit.proofs.Difference.{difference-holds, table-length}
 
 -- ---- of the model alone
 
@@ -311,11 +312,11 @@ module _ (h : Bytes) (x : History) (n i : ℕ) (s : Stands h x) (here : n < 64) 
             ⊎-elim
             (λ l.
             later (CommitAnswer.Accepted v) (keepBytes h n (b .part))
-            (insert-longer h n c (b .part) (endIn h c (b .part)) refl (agreeIn h c (b .part) (endIn h c (b .part))) refl e (wordAt h 8 1) v refl refl (longerIn h c (b .part)) refl l (keepBytes h n (b .part)) refl)
+            (insert-longer h n c (b .part) (endIn h c (b .part)) refl (agreeIn h c (b .part) (endIn h c (b .part))) refl e (wordAt h 8 1) v refl refl (unseenSet h n 0) refl l (keepBytes h n (b .part)) (keep-is h n (b .part)))
             (inl (v, refl, longer-seen x n i h s here limit (b .part) (b .within) cleared shown some-seen c lc (committed-is h x s) some-kept e l)))
             (λ l.
             later (CommitAnswer.Accepted v) (unseenSet h n 0)
-            (insert-shorter h n c (b .part) (endIn h c (b .part)) refl (agreeIn h c (b .part) (endIn h c (b .part))) refl e (wordAt h 8 1) v refl refl (longerIn h c (b .part)) refl l (unseenSet h n 0) refl)
+            (insert-shorter h n c (b .part) (endIn h c (b .part)) refl (agreeIn h c (b .part) (endIn h c (b .part))) refl e (wordAt h 8 1) v refl refl (unseenSet h n 0) refl l)
             (inl (v, refl, shorter-seen x n i h s here limit (b .part) (b .within) cleared shown some-seen c lc (committed-is h x s) some-kept e l)))
             (either (longerIn h c (b .part)))
 

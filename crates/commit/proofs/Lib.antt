@@ -1,3 +1,4 @@
 pub mod PrefixTurns
 pub mod CommitLaws
+pub mod Difference
 pub mod Meaning

@@ -3,30 +3,24 @@
 use Prim.Native.Nat.{ℕ}
 use mathlib.Core.Path.{_≡_, refl, sym, _∙_, ap}
 use mathlib.Core.Bool.{Bool, true, false}
-use lib.Dec.{ltb, eqb}
+use lib.Dec.{eqb}
 use lib.ListN.{length}
 use borrow.Author.Tests.{eq-eqb, ne-eqb}
 use Rattle.model.specs.Sizes.{Bytes}
 use Rattle.model.proofs.Tests.{cond-cases, cond-true, cond-false}
 use Rattle.storage_bytes.specs.Words.{wordAt}
-use Rattle.log_violation.specs.Violation.{findingsKept}
+use Rattle.storage.specs.Writes.{committedSet}
 use Rattle.prefix_lookup.specs.Prefix.{storedOf, frontThrough}
 use Rattle.prefix_lookup.specs.declared.lookup.Slice.{Slice}
-use Rattle.log_violation.proofs.ViolationLaws.{kept-length}
-use Rattle.committed_prefix.specs.Prefix.{longerIn, endIn, agreeIn, unseenSet, keepBytes, heldWith, tableWith, noteAnswer, noteLeaves, Noted}
-use Rattle.commit.specs.Prefix.{flagsOf, insertAnswer, insertLeaves, keptAnswer, keptLeaves, seenAnswer, seenLeaves, commitAnswer, commitBytes, Inserted, Observed}
+use Rattle.committed_prefix.specs.Prefix.{longerIn, endIn, agreeIn, unseenSet, keepBytes}
+use Rattle.commit.specs.Prefix.{flagsOf, noteAnswer, noteLeaves, Noted, insertAnswer, insertLeaves, keptAnswer, keptLeaves, seenAnswer, seenLeaves, commitAnswer, commitBytes, Inserted, Observed}
 use Rattle.prefix_lookup.specs.declared.lookup.Stored.{Stored}
 use Rattle.units.specs.declared.LogPrefixWitness.{LogPrefixWitness}
-use Rattle.committed_prefix.specs.declared.committed.CommitAnswer.{CommitAnswer}
+use Rattle.commit.specs.declared.prefix.CommitAnswer.{CommitAnswer}
 use Rattle.committed_prefix.proofs.PrefixTurns.{unseen-length, keep-length}
+use Rattle.commit.proofs.Difference.{note-leaves-length}
 
 -- ---- lengths
-
-pub note-leaves-length : (h : Bytes) (n i : ℕ) → length (noteLeaves h n i) ≡ length h
-unfolding noteLeaves
-note-leaves-length h n i =
-    cond-cases (λ (u : Bytes). length u ≡ length h) (ltb 128 (heldWith h n i)) h _ (λ _. refl)
-    (λ _. unseen-length (findingsKept h (tableWith h n i) (heldWith h n i)) n 0 ∙ kept-length h (tableWith h n i) (heldWith h n i))
 
 pub insert-leaves-length : (h : Bytes) (n c p : ℕ) → length (insertLeaves h n c p) ≡ length h
 unfolding insertLeaves
@@ -36,6 +30,10 @@ insert-leaves-length h n c p =
     (λ _. note-leaves-length h n (endIn h c p))
 
 -- ---- held against the committed prefix
+
+pub keep-is : (h : Bytes) (n p : ℕ) → keepBytes h n p ≡ committedSet (unseenSet h n 0) p n
+unfolding keepBytes
+keep-is h n p = refl
 
 module _ (h : Bytes) (n c p i : ℕ) (ei : i ≡ endIn h c p) (b : Bool) (eb : b ≡ agreeIn h c p i) where
   agree-is : agreeIn h c p (endIn h c p) ≡ b
@@ -49,27 +47,29 @@ module _ (h : Bytes) (n c p i : ℕ) (ei : i ≡ endIn h c p) (b : Bool) (eb : b
         leaves = w .leaves ∙ ap (noteLeaves h n) ei ∙ sym (cond-false (agreeIn h c p (endIn h c p)) _ _ (agree-is ∙ f));
       }
 
-  module _ (f : b ≡ true) (o v : ℕ) (eo : o ≡ wordAt h 8 1) (ev : v ≡ flagsOf o n) (l : Bool) (el : l ≡ longerIn h c p) where
+  module _ (f : b ≡ true) (o v : ℕ) (eo : o ≡ wordAt h 8 1) (ev : v ≡ flagsOf o n) (u : Bytes) (eu : u ≡ unseenSet h n 0) where
     flags-are : CommitAnswer.Accepted v ≡ insertAnswer h n c p
     unfolding insertAnswer
     flags-are =
         ap CommitAnswer.Accepted (ev ∙ ap (λ (y : ℕ). flagsOf y n) eo)
         ∙ sym (cond-true (agreeIn h c p (endIn h c p)) _ _ (agree-is ∙ f))
 
-    pub insert-longer : l ≡ true → (h′ : Bytes) → h′ ≡ keepBytes h n p → Inserted h n c p (CommitAnswer.Accepted v) h′
+    pub insert-longer : longerIn h c p ≡ true → (h′ : Bytes) → h′ ≡ committedSet u p n → Inserted h n c p (CommitAnswer.Accepted v) h′
     unfolding insertLeaves
     insert-longer g h′ w =
         record {
           answers = flags-are;
-          leaves = w ∙ sym (cond-true (agreeIn h c p (endIn h c p)) _ _ (agree-is ∙ f) ∙ cond-true (longerIn h c p) _ _ (sym el ∙ g));
+          leaves =
+              w ∙ ap (λ (y : Bytes). committedSet y p n) eu ∙ sym (keep-is h n p)
+              ∙ sym (cond-true (agreeIn h c p (endIn h c p)) _ _ (agree-is ∙ f) ∙ cond-true (longerIn h c p) _ _ g);
         }
 
-    pub insert-shorter : l ≡ false → (h′ : Bytes) → h′ ≡ unseenSet h n 0 → Inserted h n c p (CommitAnswer.Accepted v) h′
+    pub insert-shorter : longerIn h c p ≡ false → Inserted h n c p (CommitAnswer.Accepted v) u
     unfolding insertLeaves
-    insert-shorter g h′ w =
+    insert-shorter g =
         record {
           answers = flags-are;
-          leaves = w ∙ sym (cond-true (agreeIn h c p (endIn h c p)) _ _ (agree-is ∙ f) ∙ cond-false (longerIn h c p) _ _ (sym el ∙ g));
+          leaves = eu ∙ sym (cond-true (agreeIn h c p (endIn h c p)) _ _ (agree-is ∙ f) ∙ cond-false (longerIn h c p) _ _ g);
         }
 
 -- ---- observed

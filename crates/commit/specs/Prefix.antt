@@ -3,16 +3,19 @@
 use Prim.Native.Nat.{ℕ}
 use mathlib.Core.Path.{_≡_}
 use mathlib.Core.Bool.{cond}
-use lib.Dec.{eqb}
+use lib.Dec.{ltb, eqb}
 use Rattle.model.specs.Sizes.{Bytes}
+use Rattle.model.specs.History.{Finding}
 use Rattle.model.specs.Refusal.{findingsFull}
 use Rattle.model.specs.Answer.{Answer, accepted, refused}
 use Rattle.storage_bytes.specs.Words.{wordAt}
+use Rattle.storage.specs.Tables.{findingsPart}
 use Rattle.prefix_lookup.specs.Prefix.{storedOf, frontThrough}
 use Rattle.prefix_lookup.specs.declared.lookup.Slice.{Slice}
 use Rattle.prefix_lookup.specs.declared.lookup.Stored.{Stored}
-use Rattle.committed_prefix.specs.declared.committed.CommitAnswer.{CommitAnswer}
-use Rattle.committed_prefix.specs.Prefix.{longerIn, endIn, agreeIn, unseenSet, keepBytes, noteAnswer, noteLeaves}
+use Rattle.commit.specs.declared.prefix.CommitAnswer.{CommitAnswer}
+use Rattle.committed_prefix.specs.Prefix.{longerIn, endIn, agreeIn, unseenSet, keepBytes}
+use Rattle.log_violation.specs.Violation.{noteHeld, noteBytes, findingsKept}
 
 -- ---- judged: nothing is written
 
@@ -21,6 +24,29 @@ abbrev pub flagsOf : ℕ → ℕ → ℕ
 flagsOf owner n = cond (eqb owner n) 1 3
 
 -- ---- written
+
+-- LG-04 (node, shorter end)
+abbrev pub difference : ℕ → ℕ → Finding
+difference n i = record { name = 4; node = n; index = i; term = 0 }
+
+-- how many findings are held with it, and their table
+unfoldable pub heldWith : Bytes → ℕ → ℕ → ℕ
+unfolding noteHeld
+heldWith h n i = noteHeld (findingsPart h) (wordAt h 7 1) (difference n i)
+
+unfoldable pub tableWith : Bytes → ℕ → ℕ → Bytes
+unfolding noteBytes
+tableWith h n i = noteBytes (findingsPart h) (wordAt h 7 1) (difference n i)
+
+-- a difference is noted, unless there are too many: then every byte is left
+unfoldable pub noteAnswer : Bytes → ℕ → ℕ → CommitAnswer
+unfolding heldWith
+noteAnswer h n i = cond (ltb 128 (heldWith h n i)) CommitAnswer.FindingsFull (CommitAnswer.Accepted 0)
+
+unfoldable pub noteLeaves : Bytes → ℕ → ℕ → Bytes
+unfolding heldWith tableWith findingsKept unseenSet
+noteLeaves h n i =
+    cond (ltb 128 (heldWith h n i)) h (unseenSet (findingsKept h (tableWith h n i) (heldWith h n i)) n 0)
 
 -- the prefix p held against the committed one, c
 unfoldable pub insertAnswer : Bytes → ℕ → ℕ → ℕ → CommitAnswer
@@ -61,6 +87,10 @@ unfolding frontThrough storedOf unseenSet keepBytes insertLeaves wordAt
 commitBytes h n i = seenLeaves h n i (frontThrough h n i)
 
 -- ---- what each function does
+
+pub record Noted (h : Bytes) (n i : ℕ) (r : CommitAnswer) (h′ : Bytes) : Type 0 where
+  pub answers : r ≡ noteAnswer h n i
+  pub leaves : h′ ≡ noteLeaves h n i
 
 pub record Inserted (h : Bytes) (n c p : ℕ) (r : CommitAnswer) (h′ : Bytes) : Type 0 where
   pub answers : r ≡ insertAnswer h n c p

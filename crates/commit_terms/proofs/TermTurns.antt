@@ -20,6 +20,10 @@ use Rattle.storage.proofs.FreshLaws.{zeros-length}
 use Rattle.storage.proofs.WriteLaws.{region-back}
 use Rattle.storage.proofs.RowLaws.{word-before, word-after}
 use Rattle.storage.proofs.RuleLaws.{pass, stop}
+use Rattle.units.specs.declared.LogIndex.{LogIndex}
+use Rattle.table_rows.specs.Found.{foundIndex}
+use Rattle.table_rows.specs.declared.terms.FoundIndex.{FoundIndex}
+use Rattle.table_rows.proofs.FoundLaws.{index-found, index-none, index-told, nothing-told}
 use Rattle.term_marks.specs.Marks.{lowerBack}
 use Rattle.commit_terms.specs.Terms.{lengthenedTo, termIn, isReplaced, firstReplaced, replaceBytes, replaceAll, changedFrom, recordBytes, termsAnswer, termsBytes}
 use Rattle.commit_terms.specs.declared.terms.TermsAnswer.{TermsAnswer}
@@ -102,89 +106,87 @@ module _ (h : Bytes) (k t : ℕ) (q : Bytes) (eq : q ≡ termsPart h) (x : ℕ) 
   unfolding replaceBytes
   replace-so f u w = w ∙ sym (cond-true (isReplaced t (termIn h k)) _ h (test-is ∙ f))
 
--- ---- the search; i is the index that is looked at next
+-- ---- the search; k is the place that is looked at next
 
--- one more index of those left
-left-more : (new i : ℕ) → i ≤ new → new + 1 - i ≡ suc (new + 1 - (i + 1))
-left-more new i h = omega arith
+-- one more place of those left
+left-more : (new k : ℕ) → k < new → new - k ≡ suc (new - (k + 1))
+left-more new k h = omega arith
 
-next-place : (i : ℕ) → 1 ≤ i → i - 1 + 1 ≡ i + 1 - 1
-next-place i h = omega arith
-
-pub record Searching (row : ℕ → ℕ) (t start new i : ℕ) : Type 0 where
-  pub is : firstReplaced row t (start - 1) (new + 1 - start) ≡ firstReplaced row t (i - 1) (new + 1 - i)
-  pub low : 1 ≤ i
+-- the place of the index after k
+place-after : (k : ℕ) → k + 1 - 1 ≡ k
+place-after k = omega arith
 
 module _ (row : ℕ → ℕ) (t old new : ℕ) where
-  abbrev Found : ℕ → Type 0
-  Found i = i ≡ firstReplaced row t old (new - old)
+  abbrev pub Searching : ℕ → Type 0
+  Searching k = firstReplaced row t old (new - old) ≡ firstReplaced row t k (new - k)
 
-  abbrev Looking : ℕ → Type 0
-  Looking = Searching row t (old + 1) new
+  abbrev Found : FoundIndex → Type 0
+  Found r = r ≡ foundIndex (firstReplaced row t old (new - old))
 
-  pub searching-starts : Looking (old + 1)
-  searching-starts = record { is = refl; low = omega arith }
-
-  -- it starts with the index after old
-  from-old : firstReplaced row t old (new - old) ≡ firstReplaced row t (old + 1 - 1) (new + 1 - (old + 1))
-  from-old =
-      λ j. firstReplaced row t (let e : old ≡ old + 1 - 1 = omega arith in e j) (let e : new - old ≡ new + 1 - (old + 1) = omega arith in e j)
-
-  module _ (i : ℕ) (w : Looking i) where
-    pub searching-none : new < i → Found 0
+  module _ (k : ℕ) (w : Searching k) where
+    pub searching-none : new ≤ k → Found FoundIndex.Nothing
     unfolding firstReplaced
-    searching-none l = sym (from-old ∙ w .is ∙ ap (firstReplaced row t (i - 1)) (let e : new + 1 - i ≡ 0 = omega arith in e))
+    searching-none l = index-none _ (sym (w ∙ ap (firstReplaced row t k) (let e : new - k ≡ 0 = omega arith in e)))
 
-    module _ (l : i ≤ new) (x : ℕ) (e : x ≡ row (i - 1)) (b : Bool) (eb : b ≡ isReplaced t x) where
-      look : isReplaced t (row (i - 1)) ≡ b
-      look = ap (isReplaced t) (sym e) ∙ sym eb
+    module _ (l : k < new) (x : ℕ) (e : x ≡ row (k + 1 - 1)) (b : Bool) (eb : b ≡ isReplaced t x) where
+      look : isReplaced t (row k) ≡ b
+      look = ap (isReplaced t) (sym (e ∙ ap row (place-after k))) ∙ sym eb
 
-      pub searching-found : b ≡ true → Found i
+      pub searching-found : b ≡ true → Found (FoundIndex.At (record { 0 = k + 1 }))
       unfolding firstReplaced
       searching-found f =
-          sym
-          (from-old ∙ w .is ∙ ap (firstReplaced row t (i - 1)) (left-more new i l) ∙ cond-true (isReplaced t (row (i - 1))) (i - 1 + 1) _ (look ∙ f)
-          ∙ (let g = w .low in let z : i - 1 + 1 ≡ i = omega arith in z))
+          index-found _ _
+          (sym (w ∙ ap (firstReplaced row t k) (left-more new k l) ∙ cond-true (isReplaced t (row k)) (k + 1) _ (look ∙ f)))
+          (λ z. omega arith)
 
-      pub searching-next : b ≡ false → Looking (i + 1)
+      pub searching-next : b ≡ false → Searching (k + 1)
       unfolding firstReplaced
       searching-next f =
-          record {
-            is = w .is ∙ ap (firstReplaced row t (i - 1)) (left-more new i l) ∙ cond-false (isReplaced t (row (i - 1))) (i - 1 + 1) _ (look ∙ f)
-                ∙ ap (λ (k : ℕ). firstReplaced row t k (new + 1 - (i + 1))) (next-place i (w .low));
-            low = omega arith;
-          }
+          w ∙ ap (firstReplaced row t k) (left-more new k l) ∙ cond-false (isReplaced t (row k)) (k + 1) _ (look ∙ f)
 
--- ---- replacing; i is the index whose place is replaced next
+-- ---- replacing; k is the place that is replaced next
 
-pub record Replacing (h₀ : Bytes) (first new t : ℕ) (h : Bytes) (i : ℕ) : Type 0 where
-  pub bytes : replaceAll h₀ t (first - 1) (new + 1 - first) ≡ replaceAll h t (i - 1) (new + 1 - i)
+pub record Replacing (h₀ : Bytes) (start new t : ℕ) (h : Bytes) (k : ℕ) : Type 0 where
+  pub bytes : replaceAll h₀ t start (new - start) ≡ replaceAll h t k (new - k)
   pub long : length h ≡ 24137
-  pub low : 1 ≤ i
 
 module _ (h₀ : Bytes) (first new t : ℕ) where
-  pub replacing-starts : length h₀ ≡ 24137 → 1 ≤ first → Replacing h₀ first new t h₀ first
-  replacing-starts l s = record { bytes = refl; long = l; low = s }
+  pub replacing-starts : length h₀ ≡ 24137 → Replacing h₀ (first - 1) new t h₀ (first - 1)
+  replacing-starts l = record { bytes = refl; long = l }
 
-  module _ (h : Bytes) (i : ℕ) (w : Replacing h₀ first new t h i) where
-    pub replacing-next : i ≤ new → (u : Bytes) → u ≡ replaceBytes h (i - 1) t → Replacing h₀ first new t u (i + 1)
+  module _ (h : Bytes) (k : ℕ) (w : Replacing h₀ (first - 1) new t h k) where
+    pub replacing-next : k < new → (u : Bytes) → u ≡ replaceBytes h (k + 1 - 1) t → Replacing h₀ (first - 1) new t u (k + 1)
     unfolding replaceAll
     replacing-next l u e =
+        let q = e ∙ ap (λ (j : ℕ). replaceBytes h j t) (place-after k) in
         record {
-          bytes = w .bytes ∙ ap (replaceAll h t (i - 1)) (left-more new i l)
-              ∙ (λ j. replaceAll (sym e j) t (next-place i (w .low) j) (new + 1 - (i + 1)));
-          long = ap length e ∙ replace-length h (i - 1) t ∙ w .long;
-          low = omega arith;
+          bytes = w .bytes ∙ ap (replaceAll h t k) (left-more new k l) ∙ ap (λ (z : Bytes). replaceAll z t (k + 1) (new - (k + 1))) (sym q);
+          long = ap length q ∙ replace-length h k t ∙ w .long;
         }
 
-    pub replacing-ends : new < i → h ≡ replaceAll h₀ t (first - 1) (new + 1 - first)
+    pub replacing-ends : 1 ≤ first → new ≤ k → h ≡ replaceAll h₀ t (first - 1) (new + 1 - first)
     unfolding replaceAll
-    replacing-ends l = sym (w .bytes ∙ ap (replaceAll h t (i - 1)) (let e : new + 1 - i ≡ 0 = omega arith in e))
+    replacing-ends s l =
+        sym
+        (ap (replaceAll h₀ t (first - 1)) (let e : new + 1 - first ≡ new - (first - 1) = omega arith in e)
+        ∙ w .bytes ∙ ap (replaceAll h t k) (let e : new - k ≡ 0 = omega arith in e))
 
 pub replace-all-length : (h : Bytes) (t k n : ℕ) → length (replaceAll h t k n) ≡ length h
 unfolding replaceAll
 replace-all-length h t k zero = refl
 replace-all-length h t k (suc n) = replace-all-length (replaceBytes h k t) t (k + 1) n ∙ replace-length h k t
+
+-- as many certificates as before
+replace-certificates : (h : Bytes) (k t : ℕ) → wordAt (replaceBytes h k t) 6 1 ≡ wordAt h 6 1
+unfolding replaceBytes
+replace-certificates h k t =
+    cond-cases (λ (u : Bytes). wordAt u 6 1 ≡ wordAt h 6 1) (isReplaced t (termIn h k)) _ h
+    (λ _. word-before h (393 + k * 4) (wordBytes 4 t) 6 1 (omega arith)) (λ _. refl)
+
+pub replace-all-certificates : (h : Bytes) (t k n : ℕ) → wordAt (replaceAll h t k n) 6 1 ≡ wordAt h 6 1
+unfolding replaceAll
+replace-all-certificates h t k zero = refl
+replace-all-certificates h t k (suc n) = replace-all-certificates (replaceBytes h k t) t (k + 1) n ∙ replace-certificates h k t
 
 -- ---- the record
 
@@ -201,23 +203,30 @@ module _ (h : Bytes) (old new t : ℕ) where
       )
 
   module _ (l : old ≤ new) (u : Bytes) (eu : u ≡ lengthenedTo h new) (ts : Bytes) (et : ts ≡ termsPart u)
-      (first : ℕ) (ef : first ≡ firstReplaced (termRow ts) t old (new - old)) where
-    accepted : (z : Bytes) → z ≡ changedFrom u new t first → Recorded h old new t TermsAnswer.Recorded z
+      (found : FoundIndex) (ef : found ≡ foundIndex (firstReplaced (termRow ts) t old (new - old))) where
+    accepted : (z : Bytes) → z ≡ changedFrom u new t (firstReplaced (termRow ts) t old (new - old)) → Recorded h old new t TermsAnswer.Recorded z
     unfolding termsAnswer termsBytes recordBytes
     accepted z e =
         let f = le-ltb new old l in
-        let g : first ≡ firstReplaced (termRow (termsPart (lengthenedTo h new))) t old (new - old)
-        = ef ∙ ap (λ (r : Bytes). firstReplaced (termRow r) t old (new - old)) (et ∙ ap termsPart eu) in (
+        let g = ap (λ (r : Bytes). firstReplaced (termRow r) t old (new - old)) (et ∙ ap termsPart eu) in (
           sym (cond-false (ltb new old) TermsAnswer.OldExceedsNew TermsAnswer.Recorded f),
           e ∙ (λ i. changedFrom (eu i) new t (g i)) ∙ sym (cond-false (ltb new old) h (recordBytes h old new t) f),
         )
 
-    pub record-unchanged : first ≡ 0 → Recorded h old new t TermsAnswer.Recorded u
+    pub record-unchanged : found ≡ FoundIndex.Nothing → Recorded h old new t TermsAnswer.Recorded u
     unfolding changedFrom
-    record-unchanged e = accepted u (sym (cond-true (eqb first 0) u _ (eq-eqb first 0 e)))
+    record-unchanged q =
+        let k = firstReplaced (termRow ts) t old (new - old) in
+        accepted u (sym (cond-true (eqb k 0) u _ (eq-eqb k 0 (nothing-told k found ef q))))
 
-    pub record-changed : (first ≡ 0 → ⊥) → (n : ℕ) → n ≡ wordAt u 6 1 → (v : Bytes) → v ≡ replaceAll u t (first - 1) (new + 1 - first)
-        → (z : Bytes) → z ≡ lowerBack v t first n → Recorded h old new t TermsAnswer.Recorded z
+    pub record-changed : (first : LogIndex) → found ≡ FoundIndex.At first → (v : Bytes) → v ≡ replaceAll u t (first .0 - 1) (new + 1 - first .0)
+        → (z : Bytes) → z ≡ lowerBack v t (first .0) (wordAt v 6 1) → Recorded h old new t TermsAnswer.Recorded z
     unfolding changedFrom
-    record-changed e n en v ev z ez =
-        accepted z (ez ∙ (λ i. lowerBack (ev i) t first (en i)) ∙ sym (cond-false (eqb first 0) u _ (ne-eqb first 0 e)))
+    record-changed first q v ev z ez =
+        let k = firstReplaced (termRow ts) t old (new - old) in
+        let p = index-told k found ef first q in
+        let n : wordAt v 6 1 ≡ wordAt u 6 1 = ap (λ (y : Bytes). wordAt y 6 1) ev ∙ replace-all-certificates u t (first .0 - 1) (new + 1 - first .0) in
+        accepted z
+        (ez ∙ (λ i. lowerBack (ev i) t (first .0) (n i))
+        ∙ ap (λ (j : ℕ). lowerBack (replaceAll u t (j - 1) (new + 1 - j)) t j (wordAt u 6 1)) (p .0)
+        ∙ sym (cond-false (eqb k 0) u _ (ne-eqb k 0 (p .1))))

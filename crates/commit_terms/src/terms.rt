@@ -2,21 +2,19 @@
 // late can make an index relevant that a check has passed, so the marks past it are lowered.
 ghost use mathlib.Core.Path.{_≡_};
 ghost use mathlib.Core.Bool.{true};
-ghost use Prim.Native.Nat.{_+_, _-_, _*_, _≤_};
+ghost use Prim.Native.Nat.{_+_, _-_, _≤_};
 ghost use lib.ListN.{length};
-ghost use Rattle.storage_bytes.specs.Words.{putBytes};
-ghost use Rattle.storage.specs.Fresh.{zeros};
 ghost use Rattle.storage.specs.Rules.{wellFormed};
 ghost use Rattle.storage.specs.Tables.{termRow};
+ghost use Rattle.table_rows.specs.Found.{foundIndex};
 ghost use Rattle.commit_terms.specs.Terms.{lengthenedTo, isReplaced, firstReplaced, replaceBytes, replaceAll, termsAnswer, termsBytes};
 use storage::fresh::clear;
-use storage::head::certificate_count;
-use storage::head::set_term_count;
-use storage::head::term_count;
+use storage::head::last_recorded;
+use storage::head::set_last_recorded;
 use storage_bytes::layout::TERM_WIDTH;
-use storage_bytes::layout::TERMS_LENGTH;
 use storage_bytes::layout::TERMS_START;
-use storage_bytes::layout::part;
+use storage_bytes::layout::term_table;
+use table_rows::terms::FoundIndex;
 use table_rows::terms::set_term;
 use table_rows::terms::term_of;
 use term_marks::marks::lower_marks;
@@ -30,48 +28,40 @@ pub enum TermsAnswer {
     OldExceedsNew,
 }
 
-// The places of the indexes after the recorded ones, through `new`, are zero.
-fn clear_places(history: &mut [u8], recorded: LogIndex, new: LogIndex)
-    requires { ⌜ (recorded .0 ≤ new .0) × (new .0 ≤ 256) × (length (now history) ≡ 24137) ⌝ }
-    ensures { λ r. ⌜ now (history .exit) ≡ putBytes (now (history .entry)) (393 + recorded .0 * 4) (zeros ((new .0 - recorded .0) * 4)) ⌝ }
-{
-    let a = TERMS_START + recorded.0 * TERM_WIDTH;
-    let e = TERMS_START + new.0 * TERM_WIDTH;
-    clear(&mut history[a..e]);
-}
-
 // The list is lengthened with zeros to `new`: the places first, then the count, once.
 fn lengthen(history: &mut [u8], new: LogIndex)
     requires { ⌜ (new .0 ≤ 256) × (length (now history) ≡ 24137) ⌝ }
     ensures { λ r. ⌜ now (history .exit) ≡ lengthenedTo (now (history .entry)) (new .0) ⌝ }
 {
-    let recorded = LogIndex(term_count(&history[..]));
-    if recorded.0 < new.0 {
-        clear_places(&mut history[..], recorded, new);
-        set_term_count(&mut history[..], new.0);
+    let recorded = last_recorded(&history[..]);
+    if new.0 <= recorded.0 {
+        return;
     }
+    let a = TERMS_START + recorded.0 * TERM_WIDTH;
+    let e = TERMS_START + new.0 * TERM_WIDTH;
+    clear(&mut history[a..e]);
+    set_last_recorded(&mut history[..], new);
 }
 
 // A nonzero term replaces one that is zero or greater.
 fn is_replaced(x: Term, term: Term) -> bool
     ensures { λ r. ⌜ r ≡ isReplaced (term .0) (x .0) ⌝ }
 {
-    term.0 != 0 && (x.0 == 0 || term.0 < x.0)
+    term.0 != Term::ZERO.0 && (x.0 == Term::ZERO.0 || term.0 < x.0)
 }
 
-// The first index from old + 1 to new whose place the term replaces; zero where there is none. Nothing is written.
-fn first_replaced(terms: &[u8], old: LogIndex, new: LogIndex, term: Term) -> LogIndex
+// The first index from old + 1 to new whose place the term replaces, where there is one. Nothing is written.
+fn first_replaced(terms: &[u8], old: LogIndex, new: LogIndex, term: Term) -> FoundIndex
     requires { ⌜ (old .0 ≤ new .0) × (new .0 ≤ 256) × (length (now terms) ≡ 1024) ⌝ }
-    ensures { λ r. ⌜ r .0 ≡ firstReplaced (termRow (now (terms .entry))) (term .0) (old .0) (new .0 - old .0) ⌝ }
+    ensures { λ r. ⌜ r ≡ foundIndex (firstReplaced (termRow (now (terms .entry))) (term .0) (old .0) (new .0 - old .0)) ⌝ }
 {
-    let mut index = LogIndex(old.0 + 1);
-    while index.0 <= new.0 {
+    for k in old.0..new.0 {
+        let index = LogIndex(k + 1);
         if is_replaced(term_of(terms, index), term) {
-            return index;
+            return FoundIndex::At(index);
         }
-        index = LogIndex(index.0 + 1);
     }
-    LogIndex::ZERO
+    FoundIndex::Nothing
 }
 
 // The place of the index, where the term replaces it.
@@ -79,7 +69,7 @@ fn replace_term(history: &mut [u8], index: LogIndex, term: Term)
     requires { ⌜ (1 ≤ index .0) × (index .0 ≤ 256) × (length (now history) ≡ 24137) ⌝ }
     ensures { λ r. ⌜ now (history .exit) ≡ replaceBytes (now (history .entry)) (index .0 - 1) (term .0) ⌝ }
 {
-    let x = term_of(part(&history[..], TERMS_START, TERMS_LENGTH), index);
+    let x = term_of(term_table(&history[..]), index);
     if is_replaced(x, term) {
         set_term(&mut history[..], index, term);
     }
@@ -90,10 +80,8 @@ fn replace_terms(history: &mut [u8], first: LogIndex, new: LogIndex, term: Term)
     requires { ⌜ (1 ≤ first .0) × (new .0 ≤ 256) × (length (now history) ≡ 24137) ⌝ }
     ensures { λ r. ⌜ now (history .exit) ≡ replaceAll (now (history .entry)) (term .0) (first .0 - 1) (new .0 + 1 - first .0) ⌝ }
 {
-    let mut index = first;
-    while index.0 <= new.0 {
-        replace_term(&mut history[..], index, term);
-        index = LogIndex(index.0 + 1);
+    for k in first.0 - 1..new.0 {
+        replace_term(&mut history[..], LogIndex(k + 1), term);
     }
 }
 
@@ -111,16 +99,10 @@ pub fn record_commit_terms(
         return TermsAnswer::OldExceedsNew;
     }
     lengthen(&mut history[..], new);
-    let first = first_replaced(
-        part(&history[..], TERMS_START, TERMS_LENGTH),
-        old,
-        new,
-        term,
-    );
-    if first.0 != 0 {
-        let n = certificate_count(&history[..]);
+    let found = first_replaced(term_table(&history[..]), old, new, term);
+    if let FoundIndex::At(first) = found {
         replace_terms(&mut history[..], first, new, term);
-        lower_marks(&mut history[..], n, term, first);
+        lower_marks(&mut history[..], term, first);
     }
     TermsAnswer::Recorded
 }

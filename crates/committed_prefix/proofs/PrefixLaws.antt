@@ -4,24 +4,24 @@ use Prim.Native.Nat.{ℕ, _-_, _≤_, _<_, min}
 use native.Mathlib.Omega.{arith}
 use mathlib.Core.Path.{_≡_, refl, sym, _∙_, ap, subst}
 use mathlib.Core.Bool.{true, false, cond}
-use mathlib.Core.Logic.{inl, ⊎-elim}
-use mathlib.Core.List.{List, [], _∷_}
+use mathlib.Core.Logic.{⊎-elim}
+use mathlib.Core.List.{List, []}
 use lib.Dec.{ltb}
 use lib.ListN.{length, getD, set, take}
 use lib.Seq.{set-getD}
 use borrow.Author.Tests.{ltb-true, ltb-false}
 use Rattle.model.specs.Sizes.{Bytes}
-use Rattle.model.specs.Entry.{Prefix, same, agree, withAll}
-use Rattle.model.specs.History.{Finding, History, noted}
+use Rattle.model.specs.Entry.{Prefix, same, agree}
+use Rattle.model.specs.History.{Finding, History}
 use Rattle.model.proofs.Tests.{cond-cases}
 use Rattle.storage_bytes.specs.Words.{wordAt}
 use Rattle.storage.specs.Values.{indexOf, numberIndex}
 use Rattle.storage_bytes.specs.Lists.{every}
-use Rattle.storage.specs.Tables.{PrefixRow, NodeRow, findingRows, prefixRows, findingsPart, prefixesPart}
+use Rattle.storage.specs.Tables.{PrefixRow, NodeRow, findingRows, prefixRows, prefixesPart}
 use Rattle.storage.specs.Decode.{prefixAt, resolve}
 use Rattle.storage.specs.Rules.{findingRight}
 use Rattle.storage.proofs.RowFacts.{Facts}
-use Rattle.storage.proofs.Meanings.{Stands, withNoted, prefixes-read, findings-read, owner-read, last-read, node-written, committed-written, prefixes-stored, number-length, findings-stored, committed-stored, findings-taken}
+use Rattle.storage.proofs.Meanings.{Stands, withNoted, prefixes-read, findings-read, owner-read, last-read, node-written, committed-written, prefixes-stored, number-length, committed-stored, findings-taken}
 use Rattle.log_violation.specs.Violation.{findingsKept}
 use Rattle.prefix_lookup.specs.Prefix.{sliceOf}
 use Rattle.log_comparison.specs.Comparison.{sameFrom}
@@ -29,8 +29,7 @@ use Rattle.prefix_lookup.specs.declared.lookup.Slice.{Slice}
 use Rattle.prefix_lookup.proofs.TableLaws.{rows-length, rows-at}
 use Rattle.prefix_lookup.proofs.Fronts.{Part, slice-is, front-is}
 use Rattle.log_comparison.proofs.ComparisonLaws.{same-prefix}
-use Rattle.log_violation.proofs.ViolationLaws.{Holds, note-holds, note-length, findings-long}
-use Rattle.committed_prefix.specs.Prefix.{rowsOf, nodeOf, longerIn, endIn, sameSlices, agreeIn, unseenSet, keepBytes, difference, heldWith, tableWith}
+use Rattle.committed_prefix.specs.Prefix.{rowsOf, nodeOf, longerIn, endIn, sameSlices, agreeIn, unseenSet, keepBytes}
 use Rattle.storage.proofs.WellFormed.{Formed, formed, formed-rows, formed-index}
 
 -- the history with a node's unseen mark, the committed prefix with its owner, and the findings anew
@@ -185,18 +184,6 @@ module _ (h : Bytes) (x : History) (s : Stands h x) where
   noted-written t m fs lt lm e r =
       subst (λ (gs : List Finding). Stands (findingsKept h t m) (withNoted x gs)) e
       (findings-taken h x s t m lt lm (ap (every findingRight) e ∙ r))
-
-  -- the table of findings with a difference stands for the findings with it, or there are too many
-  pub difference-holds : (n i : ℕ) → n < 64 → i ≤ 256 → Holds (tableWith h n i) (heldWith h n i) (noted (x .findings) (difference n i ∷ []))
-  unfolding tableWith heldWith noted withAll
-  difference-holds n i l b =
-      note-holds (findingsPart h) (wordAt h 7 1) (difference n i) (x .findings) (findings-long h (s .right))
-      (record { name = omega arith; node = omega arith; index = omega arith; term = omega arith })
-      (inl (facts .findings, findings-stored h x s))
-
-  pub table-length : (n i : ℕ) → length (tableWith h n i) ≡ 1024
-  unfolding tableWith
-  table-length n i = note-length (findingsPart h) (wordAt h 7 1) (difference n i) ∙ findings-long h (s .right)
 
 -- the committed prefix and its owner, with the mark cleared
 pub keep-written : (h : Bytes) (x : History) (s : Stands h x) (n p : ℕ) → n < 64 → p ≤ wordAt h 0 2

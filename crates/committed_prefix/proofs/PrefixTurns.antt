@@ -1,29 +1,29 @@
 -- What the steps on the committed prefix answer and leave, by what they read.
 -- Assumes nothing.
-use Prim.Native.Nat.{ℕ, _+_, _*_, _≤_, _<_}
+use Prim.Native.Nat.{ℕ, _+_, _*_, _≤_, _<_, min}
+use native.Mathlib.Omega.{arith}
 use mathlib.Core.Path.{_≡_, refl, sym, _∙_, ap, subst}
-use mathlib.Core.Bool.{Bool, true, false}
-use lib.Dec.{leb, ltb}
+use mathlib.Core.Bool.{Bool, false}
+use mathlib.Core.Logic.{⊎-elim}
+use lib.Dec.{ltb}
 use lib.ListN.{length}
-use borrow.Author.Tests.{lt-ltb, le-ltb, lt-leb, le-leb}
+use borrow.Author.Tests.{ltb-true, ltb-false}
 use Rattle.model.specs.Sizes.{Bytes}
-use Rattle.model.proofs.Tests.{cond-true, cond-false}
+use Rattle.model.proofs.Tests.{either, cond-true, cond-false}
 use Rattle.storage_bytes.specs.Words.{wordAt, wordBytes, putBytes}
-use Rattle.storage.specs.Tables.{NodeRow, nodeRow, prefixRow, nodesPart, findingsPart, prefixesPart}
+use Rattle.storage.specs.Tables.{NodeRow, nodeRow, prefixRow, nodesPart, prefixesPart}
 use Rattle.storage.specs.Values.{numberIndex}
 use Rattle.storage.specs.Writes.{nodeBytes, committedSet}
 use Rattle.storage_bytes.proofs.WordLaws.{put-length}
 use Rattle.prefix_lookup.specs.Prefix.{storedOf, sliceOf}
 use Rattle.log_comparison.specs.Comparison.{sameFrom}
-use Rattle.log_violation.specs.Violation.{noteHeld, notedIn}
 use Rattle.prefix_lookup.specs.declared.lookup.Slice.{Slice}
 use Rattle.prefix_lookup.specs.declared.lookup.Stored.{Stored}
 use Rattle.prefix_lookup.proofs.StoredLaws.{stored-number}
 use Rattle.prefix_lookup.proofs.TableLaws.{whole-table, slice-within}
 use Rattle.prefix_lookup.proofs.FrontLaws.{node-read}
-use Rattle.committed_prefix.specs.Prefix.{rowsOf, nodeOf, longerIn, endIn, sameSlices, agreeIn, unseenSet, keepBytes, difference, heldWith, tableWith, noteAnswer, noteLeaves, Noted}
+use Rattle.committed_prefix.specs.Prefix.{rowsOf, nodeOf, longerIn, endIn, sameSlices, agreeIn, unseenSet, keepBytes}
 use Rattle.units.specs.declared.LogPrefixWitness.{LogPrefixWitness}
-use Rattle.committed_prefix.specs.declared.committed.CommitAnswer.{CommitAnswer}
 use Rattle.storage.proofs.WellFormed.{Formed}
 
 -- a part of a stored prefix is stored
@@ -49,19 +49,19 @@ module _ (h : Bytes) (a b : ℕ) (q : Bytes) (eq : q ≡ prefixesPart h) (i : �
   unfolding longerIn numberIndex
   longer-is = (λ z. ltb (ei z) (ej z)) ∙ ap (λ (u : Bytes). ltb (numberIndex u a) (numberIndex u b)) eq
 
-  first-end : i ≡ numberIndex (prefixesPart h) a
-  first-end = ei ∙ ap (λ (u : Bytes). numberIndex u a) eq
-
-  second-end : j ≡ numberIndex (prefixesPart h) b
-  second-end = ej ∙ ap (λ (u : Bytes). numberIndex u b) eq
-
-  pub end-first : i < j → i ≡ endIn h a b
+  pub end-is : min i j ≡ endIn h a b
   unfolding endIn numberIndex
-  end-first l = first-end ∙ sym (cond-true (longerIn h a b) _ _ (sym longer-is ∙ lt-ltb i j l))
+  end-is =
+      ⊎-elim
+      (λ t. min-first (ltb-true i j t) ∙ ei ∙ ap (λ (u : Bytes). numberIndex u a) eq ∙ sym (cond-true (longerIn h a b) _ _ (sym longer-is ∙ t)))
+      (λ f. min-second (ltb-false i j f) ∙ ej ∙ ap (λ (u : Bytes). numberIndex u b) eq ∙ sym (cond-false (longerIn h a b) _ _ (sym longer-is ∙ f)))
+      (either (ltb i j))
+    where
+      min-first : i < j → min i j ≡ i
+      min-first l = omega arith
 
-  pub end-second : j ≤ i → j ≡ endIn h a b
-  unfolding endIn numberIndex
-  end-second l = second-end ∙ sym (cond-false (longerIn h a b) _ _ (sym longer-is ∙ le-ltb i j l))
+      min-second : j ≤ i → min i j ≡ j
+      min-second l = omega arith
 
 module _ (h : Bytes) (a b i : ℕ) (q : Bytes) (eq : q ≡ prefixesPart h) (r : Slice) (er : r ≡ sliceOf (prefixRow q) a i) where
   first-slice : sliceOf (rowsOf h) a i ≡ r
@@ -103,33 +103,3 @@ pub keep-length : (h : Bytes) (n p : ℕ) → length (keepBytes h n p) ≡ lengt
 unfolding keepBytes committedSet
 keep-length h n p =
     put-length (putBytes (unseenSet h n 0) 4 (wordBytes 2 p)) 8 (wordBytes 1 n) ∙ put-length (unseenSet h n 0) 4 (wordBytes 2 p) ∙ unseen-length h n 0
-
--- ---- a difference noted
-
-module _ (h : Bytes) (n i m : ℕ) (u : Bytes) (em : (m ≡ noteHeld (findingsPart h) (wordAt h 7 1) (difference n i)) × (u ≡ notedIn h (difference n i))) where
-  held-is : m ≡ heldWith h n i
-  unfolding heldWith
-  held-is = em .0
-
-  pub note-full : 128 < m → Noted h n i CommitAnswer.FindingsFull u
-  unfolding noteAnswer noteLeaves notedIn
-  note-full l =
-      let f : ltb 128 (heldWith h n i) ≡ true = ap (ltb 128) (sym held-is) ∙ lt-ltb 128 m l in
-      record {
-        answers = sym (cond-true (ltb 128 (heldWith h n i)) _ _ f);
-        leaves =
-            em .1 ∙ cond-false (leb (noteHeld (findingsPart h) (wordAt h 7 1) (difference n i)) 128) _ h (lt-leb _ 128 (subst (λ (x : ℕ). 128 < x) (em .0) l))
-            ∙ sym (cond-true (ltb 128 (heldWith h n i)) h _ f);
-      }
-
-  pub note-so : m ≤ 128 → (w : Bytes) → w ≡ unseenSet u n 0 → Noted h n i (CommitAnswer.Accepted 0) w
-  unfolding noteAnswer noteLeaves notedIn heldWith tableWith
-  note-so l w ew =
-      let f : ltb 128 (heldWith h n i) ≡ false = ap (ltb 128) (sym held-is) ∙ le-ltb 128 m l in
-      record {
-        answers = sym (cond-false (ltb 128 (heldWith h n i)) _ _ f);
-        leaves =
-            ew ∙ ap (λ (y : Bytes). unseenSet y n 0)
-            (em .1 ∙ cond-true (leb (noteHeld (findingsPart h) (wordAt h 7 1) (difference n i)) 128) _ h (le-leb _ 128 (subst (λ (x : ℕ). x ≤ 128) (em .0) l)))
-            ∙ sym (cond-false (ltb 128 (heldWith h n i)) h _ f);
-      }

@@ -1,20 +1,16 @@
--- The committed prefix on the bytes of a history, in the order of the code: how two prefixes compare, what is kept or noted.
+-- The committed prefix on the bytes of a history, in the order of the code: how two prefixes compare, and what is kept.
 -- Assumes nothing.
 use Prim.Native.Nat.{ℕ, _+_, _*_}
-use mathlib.Core.Path.{_≡_}
 use mathlib.Core.Bool.{Bool, false, cond}
 use lib.Dec.{ltb}
 use Rattle.model.specs.Sizes.{Bytes}
-use Rattle.model.specs.History.{Finding}
-use Rattle.storage_bytes.specs.Words.{wordAt, putBytes}
+use Rattle.storage_bytes.specs.Words.{putBytes}
 use Rattle.storage.specs.Values.{indexOf}
-use Rattle.storage.specs.Tables.{PrefixRow, NodeRow, nodeRow, prefixRow, nodesPart, findingsPart, prefixesPart}
+use Rattle.storage.specs.Tables.{PrefixRow, NodeRow, nodeRow, prefixRow, nodesPart, prefixesPart}
 use Rattle.storage.specs.Writes.{nodeBytes, committedSet}
 use Rattle.prefix_lookup.specs.Prefix.{sliceOf}
 use Rattle.log_comparison.specs.Comparison.{sameFrom}
-use Rattle.log_violation.specs.Violation.{noteHeld, noteBytes, findingsKept}
 use Rattle.prefix_lookup.specs.declared.lookup.Slice.{Slice}
-use Rattle.committed_prefix.specs.declared.committed.CommitAnswer.{CommitAnswer}
 
 -- ---- judged: nothing is written
 
@@ -54,32 +50,3 @@ unseenSet h n m = putBytes h (9 + n * 6) (nodeBytes (record { front = nodeOf h n
 unfoldable pub keepBytes : Bytes → ℕ → ℕ → Bytes
 unfolding unseenSet committedSet
 keepBytes h n p = committedSet (unseenSet h n 0) p n
-
--- LG-04 (node, shorter end)
-abbrev pub difference : ℕ → ℕ → Finding
-difference n i = record { name = 4; node = n; index = i; term = 0 }
-
--- how many findings are held with it, and their table
-unfoldable pub heldWith : Bytes → ℕ → ℕ → ℕ
-unfolding noteHeld
-heldWith h n i = noteHeld (findingsPart h) (wordAt h 7 1) (difference n i)
-
-unfoldable pub tableWith : Bytes → ℕ → ℕ → Bytes
-unfolding noteBytes
-tableWith h n i = noteBytes (findingsPart h) (wordAt h 7 1) (difference n i)
-
--- a difference is noted, unless there are too many: then every byte is left
-unfoldable pub noteAnswer : Bytes → ℕ → ℕ → CommitAnswer
-unfolding heldWith
-noteAnswer h n i = cond (ltb 128 (heldWith h n i)) CommitAnswer.FindingsFull (CommitAnswer.Accepted 0)
-
-unfoldable pub noteLeaves : Bytes → ℕ → ℕ → Bytes
-unfolding heldWith tableWith findingsKept unseenSet
-noteLeaves h n i =
-    cond (ltb 128 (heldWith h n i)) h (unseenSet (findingsKept h (tableWith h n i) (heldWith h n i)) n 0)
-
--- ---- what each function does
-
-pub record Noted (h : Bytes) (n i : ℕ) (r : CommitAnswer) (h′ : Bytes) : Type 0 where
-  pub answers : r ≡ noteAnswer h n i
-  pub leaves : h′ ≡ noteLeaves h n i

@@ -1,3 +1,3 @@
 // The committed prefix that a history keeps, and the steps that a commit takes on it (commit/prefix.rs). Stands on
-// log_comparison and log_violation.
+// log_comparison.
 pub mod committed;

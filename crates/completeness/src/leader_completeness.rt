@@ -11,9 +11,7 @@ use log_violation::violation::keep_findings;
 use prefix_lookup::lookup::Stored;
 use prefix_rows::prefixes::through;
 use storage_bytes::layout::FINDINGS_LENGTH;
-use storage_bytes::layout::PREFIXES_LENGTH;
-use storage_bytes::layout::PREFIXES_START;
-use storage_bytes::layout::part;
+use storage_bytes::layout::prefix_table;
 use units::FINDING_LIMIT;
 
 pub enum Checked {
@@ -31,10 +29,7 @@ pub fn record_leader_completeness(history: &mut [u8]) -> Checked
     let Stored::Prefix(committed) = committed_prefix(&history[..]) else {
         return Checked::Accepted(0); // nothing is committed, so no mark is passed
     };
-    let end = through(
-        part(&history[..], PREFIXES_START, PREFIXES_LENGTH),
-        committed,
-    );
+    let end = through(prefix_table(&history[..]), committed);
     let mut findings = [0u8; FINDINGS_LENGTH];
     let held = copy_findings(&history[..], &mut findings);
     let judged = judge_all(&history[..], committed, end, &mut findings, held);

@@ -34,12 +34,12 @@ use Rattle.storage.proofs.OrderLaws.{held-is, election-written}
 use Rattle.prefix_lookup.specs.Prefix.{witness, frontThrough}
 use Rattle.prefix_lookup.specs.declared.lookup.Slice.{Slice}
 use Rattle.prefix_lookup.proofs.Fronts.{front-cut}
-use Rattle.election_judging.specs.declared.judging.ElectionAnswer.{ElectionAnswer}
+use Rattle.election.specs.declared.certificate.ElectionAnswer.{ElectionAnswer}
 use Rattle.certificate_order.specs.Order.{takenOf}
 use Rattle.election_judging.specs.declared.judging.Numbering.{Numbering}
-use Rattle.election_judging.specs.Certify.{fullIn, numberingIn, answerOf}
+use Rattle.election_judging.specs.Certify.{numberingIn}
 use Rattle.election_judging.proofs.Ordered.{numbering-is}
-use Rattle.election.specs.Certify.{kept, bytesOf, answerIn, bytesIn}
+use Rattle.election.specs.Certify.{fullIn, answerOf, kept, bytesOf, answerIn, bytesIn}
 
 -- the model's refusal, or none
 abbrev pub refusalOf : ElectionAnswer → Option Refusal

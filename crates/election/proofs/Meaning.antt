@@ -12,7 +12,7 @@ use Rattle.model.specs.Answer.{Answer, accepted, refused}
 use Rattle.model.specs.Election.{electionRefusal, electionEffect}
 use Rattle.storage.proofs.Meanings.{Stands}
 use Rattle.storage.proofs.Answered.{Means, accepts, refuses}
-use Rattle.election_judging.specs.declared.judging.ElectionAnswer.{ElectionAnswer}
+use Rattle.election.specs.declared.certificate.ElectionAnswer.{ElectionAnswer}
 use Rattle.election.specs.Certify.{Recorded}
 use Rattle.election.proofs.Effects.{refusalOf, isAccepted, refusal-is, effect-stands, bytes-left}
 

@@ -3,14 +3,27 @@
 use Prim.Native.Nat.{ℕ}
 use mathlib.Core.Path.{_≡_}
 use mathlib.Core.Bool.{Bool, true, false, cond}
-use Rattle.model.specs.Sizes.{Bytes}
+use lib.Dec.{leb}
+use Rattle.model.specs.Sizes.{Bytes, certificateLimit}
+use Rattle.storage_bytes.specs.Words.{wordAt}
 use Rattle.storage.specs.Tables.{CertificateRow}
 use Rattle.storage.specs.Writes.{certificateAdded}
 use Rattle.prefix_lookup.specs.Prefix.{frontThrough}
 use Rattle.prefix_lookup.specs.declared.lookup.Slice.{Slice}
-use Rattle.election_judging.specs.declared.judging.ElectionAnswer.{ElectionAnswer}
+use Rattle.election.specs.declared.certificate.ElectionAnswer.{ElectionAnswer}
 use Rattle.election_judging.specs.declared.judging.Numbering.{Numbering}
-use Rattle.election_judging.specs.Certify.{fullIn, numberingOf, numberingIn, answerOf}
+use Rattle.election_judging.specs.Certify.{numberingOf, numberingIn}
+
+-- as many certificates are held as a history holds
+abbrev pub fullIn : Bytes → Bool
+fullIn h = leb certificateLimit (wordAt h 6 1)
+
+-- 9 beyond the leader's front; else 10 where the certificates are full; else 11 where the number is taken
+abbrev pub answerOf : Slice → Bool → Numbering → ElectionAnswer
+answerOf Slice.Beyond full m = ElectionAnswer.LengthExceedsFront
+answerOf (Slice.Prefix log) true m = ElectionAnswer.CertificatesFull
+answerOf (Slice.Prefix log) false Numbering.Taken = ElectionAnswer.NumberTaken
+answerOf (Slice.Prefix log) false (Numbering.Next place number) = ElectionAnswer.Accepted
 
 -- a new certificate's row: its mark is zero
 abbrev pub kept : ℕ → ℕ → ℕ → Bool → ℕ → CertificateRow

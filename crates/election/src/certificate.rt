@@ -7,17 +7,31 @@ ghost use Rattle.storage.specs.Rules.{wellFormed};
 ghost use Rattle.certificate_rows.specs.Values.{certificateValue};
 ghost use Rattle.election.specs.Certify.{kept, Recorded};
 use certificate_rows::certificates::Certificate;
+use certificate_rows::certificates::LOG_ABSENT;
+use certificate_rows::certificates::LOG_PRESENT;
 use certificate_rows::certificates::add_certificate;
-use election_judging::judging::ElectionAnswer;
 use election_judging::judging::Numbering;
-use election_judging::judging::certificates_full;
 use election_judging::judging::number_in_term;
 use prefix_lookup::lookup::Slice;
 use prefix_lookup::lookup::front_through;
+use storage::head::certificate_count;
+use units::CERTIFICATE_LIMIT;
 use units::LogIndex;
 use units::LogPrefixWitness;
 use units::NodeId;
 use units::Term;
+
+// Accepted, or why not.
+pub enum ElectionAnswer {
+    // The certificate is kept.
+    Accepted,
+    // 9: the length exceeds the leader's front.
+    LengthExceedsFront,
+    // 10: 64 certificates are held.
+    CertificatesFull,
+    // 11: its number within its term is taken.
+    NumberTaken,
+}
 
 // A new certificate: nothing of its log is checked yet.
 fn new_certificate(
@@ -35,7 +49,7 @@ fn new_certificate(
         mark: LogIndex::ZERO,
         leader,
         number,
-        present: if present { 1 } else { 0 },
+        present: if present { LOG_PRESENT } else { LOG_ABSENT },
     }
 }
 
@@ -54,7 +68,7 @@ pub fn record_election(
     let Slice::Prefix(log) = front_through(&history[..], leader, length) else {
         return ElectionAnswer::LengthExceedsFront;
     };
-    if certificates_full(&history[..]) {
+    if CERTIFICATE_LIMIT <= certificate_count(&history[..]) {
         return ElectionAnswer::CertificatesFull;
     }
     let Numbering::Next { place, number } = number_in_term(&history[..], term) else {

@@ -1,4 +1,4 @@
--- The ways an election is judged: the number taken or free, and each answer from what was found.
+-- The ways a new certificate is numbered: its number taken or free.
 -- Assumes nothing.
 use Prim.Native.Nat.{ℕ, _≤_}
 use native.Mathlib.Omega.{arith}
@@ -6,13 +6,10 @@ use mathlib.Core.Path.{_≡_, ap, sym, _∙_, subst}
 use mathlib.Core.Bool.{Bool, true, false}
 use Rattle.model.proofs.Tests.{cond-cases, cond-true, cond-false}
 use Rattle.storage.specs.Tables.{CertificateRow}
-use Rattle.prefix_lookup.specs.declared.lookup.Slice.{Slice}
-use Rattle.units.specs.declared.LogPrefixWitness.{LogPrefixWitness}
 use Rattle.certificate_order.specs.Order.{placeFrom, heldBefore, takenBefore}
 use Rattle.certificate_order.proofs.Loops.{place-within, held-within}
-use Rattle.election_judging.specs.declared.judging.ElectionAnswer.{ElectionAnswer}
 use Rattle.election_judging.specs.declared.judging.Numbering.{Numbering}
-use Rattle.election_judging.specs.Certify.{numberingOf, answerOf}
+use Rattle.election_judging.specs.Certify.{numberingOf}
 
 -- ---- the place and the number, with what was read
 
@@ -58,19 +55,3 @@ next-within row t n place number e =
     (takenBefore row (heldBefore row t (placeFrom row t n)) (placeFrom row t n) (heldBefore row t (placeFrom row t n)))
     Numbering.Taken (Numbering.Next (placeFrom row t n) (heldBefore row t (placeFrom row t n)))
     (λ _. omega arith) (λ _. place-within row t n))
-
--- ---- the answers
-
-module _ (full : Bool) (m : Numbering) where
-  pub nine : (s : Slice) → s ≡ Slice.Beyond → ElectionAnswer.LengthExceedsFront ≡ answerOf s full m
-  nine s e = sym (ap (λ (y : Slice). answerOf y full m) e)
-
-  module _ (s : Slice) (log : LogPrefixWitness) (e : s ≡ Slice.Prefix log) where
-    pub ten : full ≡ true → ElectionAnswer.CertificatesFull ≡ answerOf s full m
-    ten f = sym (λ i. answerOf (e i) (f i) m)
-
-    pub eleven : full ≡ false → m ≡ Numbering.Taken → ElectionAnswer.NumberTaken ≡ answerOf s full m
-    eleven f g = sym (λ i. answerOf (e i) (f i) (g i))
-
-    pub accepted : full ≡ false → (place number : ℕ) → m ≡ Numbering.Next place number → ElectionAnswer.Accepted ≡ answerOf s full m
-    accepted f place number g = sym (λ i. answerOf (e i) (f i) (g i))

@@ -1,3 +1,2 @@
-// What an election is judged by, before anything is written. Stands on certificate_order; its answers name a front's slice
-// (prefix_lookup).
+// The place and the number of a new certificate, before anything is written. Stands on certificate_order.
 pub mod judging;

@@ -10,9 +10,7 @@ ghost use Rattle.storage.specs.Tables.{findingRow, findingRows};
 ghost use Rattle.table_rows.specs.Values.{findingValue};
 ghost use Rattle.finding_lists.specs.Findings.{comesBefore, countFirst, pickOrdered, findingAnswer};
 use storage::head::finding_count;
-use storage_bytes::layout::FINDINGS_LENGTH;
-use storage_bytes::layout::FINDINGS_START;
-use storage_bytes::layout::part;
+use storage_bytes::layout::finding_table;
 use table_rows::findings::Found;
 use table_rows::findings::finding_at as row_at;
 
@@ -83,6 +81,6 @@ pub fn finding_at(history: &[u8], n: usize) -> FindingAnswer
     ensures { λ r. ⌜ r ≡ findingAnswer (now (history .entry)) n ⌝ }
 {
     let m = finding_count(history);
-    let findings = part(history, FINDINGS_START, FINDINGS_LENGTH);
+    let findings = finding_table(history);
     finding_in(findings, m, n)
 }

@@ -5,14 +5,15 @@ ghost use lib.ListN.{length};
 ghost use Rattle.storage_bytes.specs.Words.{wordAt};
 ghost use Rattle.storage.specs.Rules.{withinLimits, committedRight};
 use storage::head::certificate_count;
-use storage::head::committed_number;
+use storage::head::committed;
 use storage::head::finding_count;
-use storage::head::owner_number;
+use storage::head::last_recorded;
+use storage::head::owner;
 use storage::head::prefix_count;
-use storage::head::term_count;
 use units::CERTIFICATE_LIMIT;
 use units::FINDING_LIMIT;
 use units::INDEX_LIMIT;
+use units::NODE_LIMIT;
 use units::PREFIX_LIMIT;
 
 // The counts are within the limits.
@@ -23,7 +24,7 @@ pub fn within_limits(head: &[u8]) -> bool
     if PREFIX_LIMIT < prefix_count(head) {
         return false;
     }
-    if INDEX_LIMIT < term_count(head) {
+    if INDEX_LIMIT < last_recorded(head).0 {
         return false;
     }
     if CERTIFICATE_LIMIT < certificate_count(head) {
@@ -37,8 +38,8 @@ pub fn committed_right(head: &[u8]) -> bool
     requires { ⌜ 9 ≤ length (now head) ⌝ }
     ensures { λ r. ⌜ r ≡ committedRight (wordAt (now (head .entry)) 0 2) (wordAt (now (head .entry)) 4 2) (wordAt (now (head .entry)) 8 1) ⌝ }
 {
-    if prefix_count(head) < committed_number(head) {
+    if prefix_count(head) < committed(head).0 {
         return false;
     }
-    owner_number(head) <= 63
+    owner(head).0 <= NODE_LIMIT
 }

@@ -5,7 +5,7 @@ ghost use Rattle.storage.specs.Rules.{wellFormed};
 ghost use Rattle.storage.specs.Values.{committedEnd};
 ghost use Rattle.index_lists.specs.Committed.{ownerIn};
 use prefix_rows::prefixes::committed_end;
-use storage::head::owner_number;
+use storage::head::owner;
 
 pub fn committed_length(history: &[u8]) -> usize
     requires { ⌜ wellFormed (now history) ≡ true ⌝ }
@@ -21,5 +21,5 @@ pub fn committed_owner(history: &[u8]) -> usize
     if committed_end(history).0 == 0 {
         return 0;
     }
-    owner_number(history)
+    owner(history).0 as usize
 }

@@ -6,10 +6,8 @@ ghost use lib.ListN.{length};
 ghost use Rattle.storage.specs.Rules.{wellFormed};
 ghost use Rattle.index_lists.specs.Unknown.{isKnown, indexIn, unknownAnswer};
 use crate::committed::committed_length;
-use storage::head::term_count;
-use storage_bytes::layout::TERMS_LENGTH;
-use storage_bytes::layout::TERMS_START;
-use storage_bytes::layout::part;
+use storage::head::last_recorded;
+use storage_bytes::layout::term_table;
 use table_rows::terms::term_at;
 use units::LogIndex;
 
@@ -57,7 +55,6 @@ pub fn unknown_at(history: &[u8], n: usize) -> UnknownAnswer
     ensures { λ r. ⌜ r ≡ unknownAnswer (now (history .entry)) n ⌝ }
 {
     let m = committed_length(history);
-    let count = term_count(history);
-    let terms = part(history, TERMS_START, TERMS_LENGTH);
-    index_in(terms, count, m, n)
+    let count = last_recorded(history).0;
+    index_in(term_table(history), count, m, n)
 }

@@ -4,9 +4,7 @@ ghost use mathlib.Core.Bool.{true};
 ghost use lib.ListN.{length};
 ghost use Rattle.storage.specs.Rules.{wellFormed};
 ghost use Rattle.index_lists.specs.Unseen.{markIn, unseenAnswer};
-use storage_bytes::layout::NODES_LENGTH;
-use storage_bytes::layout::NODES_START;
-use storage_bytes::layout::part;
+use storage_bytes::layout::node_table;
 use table_rows::nodes::node_at;
 use units::LogIndex;
 use units::NodeId;
@@ -47,6 +45,6 @@ pub fn unseen_at(history: &[u8], n: usize) -> UnseenAnswer
     requires { ⌜ wellFormed (now history) ≡ true ⌝ }
     ensures { λ r. ⌜ r ≡ unseenAnswer (now (history .entry)) n ⌝ }
 {
-    let nodes = part(history, NODES_START, NODES_LENGTH);
+    let nodes = node_table(history);
     mark_in(nodes, n)
 }

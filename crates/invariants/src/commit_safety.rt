@@ -17,11 +17,22 @@ pub enum Verdict {
     Fails { rule: u8, node: NodeId },
 }
 
+// The rules, in order: rule 1, the commit index is not below its floor (`check_commit_index_monotonicity`).
+const COMMIT_MONOTONICITY: u8 = 1;
+
+// Rule 2 (`check_committed_configuration_index_monotonicity`).
+const CONFIGURATION_MONOTONICITY: u8 = 2;
+
+// Rule 3 (`check_committed_configuration_identity`).
+const CONFIGURATION_IDENTITY: u8 = 3;
+
+// Rule 4, the commit index is not above the last index (`check_commit_index_within_local_log_bounds`).
+const LOG_BOUNDS: u8 = 4;
+
 // In the place of a rule where none fails: it comes after all four.
 const NO_RULE: u8 = 5;
 
-// Rule 2 (`check_committed_configuration_index_monotonicity`): there was a committed configuration, and there is none now or one
-// of a lower index.
+// Rule 2 fails: there was a committed configuration, and there is none now or one of a lower index.
 fn configuration_regressed(r: Row) -> bool
     ensures { λ b. ⌜ b ≡ model.rule2 (rowOf r) ⌝ }
 {
@@ -30,7 +41,7 @@ fn configuration_regressed(r: Row) -> bool
     floor.present && (!actual.present || actual.index.0 < floor.index.0)
 }
 
-// Rule 3 (`check_committed_configuration_identity`): the committed configuration has another identity at the same index.
+// Rule 3 fails: the committed configuration has another identity at the same index.
 fn configuration_changed(r: Row) -> bool
     ensures { λ b. ⌜ b ≡ model.rule3 (rowOf r) ⌝ }
 {
@@ -42,28 +53,27 @@ fn configuration_changed(r: Row) -> bool
         && floor.identity != actual.identity
 }
 
-// The first rule that the row fails, 1 to 4, or NO_RULE. Rule 1 (`check_commit_index_monotonicity`): the commit index is below its
-// floor. Rule 4 (`check_commit_index_within_local_log_bounds`): it is above the last index.
+// The first rule that the row fails, or NO_RULE.
 fn first_rule(r: Row) -> u8
     ensures { λ k. ⌜ k ≡ firstRule (rowOf r) ⌝ }
 {
     if r.commit.0 < r.floor.0 {
-        return 1;
+        return COMMIT_MONOTONICITY;
     }
     if configuration_regressed(r) {
-        return 2;
+        return CONFIGURATION_MONOTONICITY;
     }
     if configuration_changed(r) {
-        return 3;
+        return CONFIGURATION_IDENTITY;
     }
     if r.last.0 < r.commit.0 {
-        return 4;
+        return LOG_BOUNDS;
     }
     NO_RULE
 }
 
 // The first failing row of the first failing rule, over the rows of a readable record. `rule` is the least that failed so
-// far and `node` the first that failed it. No rule comes before 1, so a row that fails it ends the walk.
+// far and `node` the first that failed it. No rule comes before the first, so a row that fails it ends the walk.
 pub fn check_commit_safety(s: &[u8], count: usize) -> Verdict
     requires { ⌜ places.RowWalk (now s) places.firstRow count ⌝ }
     ensures { λ r. ⌜ r ≡ verdictFor (model.verdict (places.rowsAt (now (s .entry)) places.firstRow count)) ⌝ }
@@ -72,7 +82,7 @@ pub fn check_commit_safety(s: &[u8], count: usize) -> Verdict
     let mut left = count;
     let mut rule = NO_RULE;
     let mut node = NodeId(0);
-    while 1 < rule && 0 < left {
+    while COMMIT_MONOTONICITY < rule && 0 < left {
         let row = row_at(s, at);
         at = row.next;
         left -= 1;

@@ -1,7 +1,7 @@
 -- The own answers of elections, checks and rows as answers of the history.
 -- Assumes nothing.
 use Rattle.model.specs.Rows as rows
-use Rattle.election_judging.specs.declared.judging.ElectionAnswer.{ElectionAnswer}
+use Rattle.election.specs.declared.certificate.ElectionAnswer.{ElectionAnswer}
 use Rattle.completeness.specs.declared.leader_completeness.Checked.{Checked}
 use Rattle.invariants.specs.declared.commit_safety.Verdict.{Verdict}
 use Rattle.answers.specs.declared.answer.Answer.{Answer}

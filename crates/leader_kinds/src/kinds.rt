@@ -11,8 +11,8 @@ ghost use Rattle.leader_kinds.specs.Kinds.{ofElection, ofCheck, ofRows, 
 use answers::answer::Answer;
 use completeness::leader_completeness::Checked;
 use completeness::leader_completeness::record_leader_completeness;
+use election::certificate::ElectionAnswer;
 use election::certificate::record_election;
-use election_judging::judging::ElectionAnswer;
 use invariants::commit_safety::Verdict;
 use invariants::commit_safety::check_commit_safety;
 use units::LogIndex;

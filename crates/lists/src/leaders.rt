@@ -9,9 +9,7 @@ ghost use Rattle.storage.specs.Tables.{findingRows};
 ghost use Rattle.table_rows.specs.Values.{findingValue};
 ghost use Rattle.lists.specs.Leaders.{pair, isBelow, lesserOf, betterOf, leastIn, nextOf, leaderIn, leaderAnswer};
 use storage::head::finding_count;
-use storage_bytes::layout::FINDINGS_LENGTH;
-use storage_bytes::layout::FINDINGS_START;
-use storage_bytes::layout::part;
+use storage_bytes::layout::finding_table;
 use table_rows::findings::Found;
 use table_rows::findings::LG_05;
 use table_rows::findings::finding_at as row_at;
@@ -120,6 +118,6 @@ pub fn leader_at(history: &[u8], n: usize) -> LeaderAnswer
     if m <= n {
         return LeaderAnswer::NoMore;
     }
-    let findings = part(history, FINDINGS_START, FINDINGS_LENGTH);
+    let findings = finding_table(history);
     leader_in(findings, m, n)
 }

@@ -1,7 +1,7 @@
 -- The own answers of views, commits and commit terms as answers of the history.
 -- Assumes nothing.
 use Rattle.logical_log.specs.declared.observation.Observed.{Observed}
-use Rattle.committed_prefix.specs.declared.committed.CommitAnswer.{CommitAnswer}
+use Rattle.commit.specs.declared.prefix.CommitAnswer.{CommitAnswer}
 use Rattle.commit_terms.specs.declared.terms.TermsAnswer.{TermsAnswer}
 use Rattle.answers.specs.declared.answer.Answer.{Answer}
 use Rattle.answers.specs.Numbers.{acceptedWith}

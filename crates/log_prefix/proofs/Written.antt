@@ -1,6 +1,6 @@
 -- An extension found or made: its number, how many prefixes are stored, and the bytes; and what `extend` answers.
 -- Assumes nothing.
-use Prim.Native.Nat.{ℕ, _+_, _*_, _<_, _≤_}
+use Prim.Native.Nat.{ℕ, _+_, _*_, _≤_}
 use native.Mathlib.Omega.{arith}
 use mathlib.Core.Path.{_≡_, refl, sym, _∙_, ap}
 use mathlib.Core.Bool.{Bool, true, false}
@@ -24,7 +24,7 @@ use Rattle.prefix_lookup.specs.Prefix.{witness, storedOf, rowOf, find}
 use Rattle.prefix_lookup.specs.declared.lookup.Stored.{Stored}
 use Rattle.prefix_lookup.proofs.StoredLaws.{stored-number, stored-nothing}
 use Rattle.units.specs.declared.LogPrefixWitness.{LogPrefixWitness}
-use Rattle.log_prefix.specs.Extension.{extensionIn, storedContent, appended, extendedBytes, extendedCount, extendedNumber, extended, nextIndex, extension, extensionBytes, Extending, writtenBytes, writtenCount, writtenNumber}
+use Rattle.log_prefix.specs.Extension.{extensionIn, storedContent, appended, made, extendedBytes, extendedCount, extendedNumber, extended, nextIndex, extension, extensionBytes, Making, Extending, writtenBytes, writtenCount, writtenNumber}
 use Rattle.log_prefix.specs.declared.prefix.Extended.{Extended}
 use Rattle.log_prefix.specs.declared.prefix.Extension.{Extension}
 
@@ -60,11 +60,19 @@ unfolding extendedBytes
 bytes-made h n p i e t = cond-true (eqb (extensionIn h n p e) 0) (appended h p i e) h t
 
 -- the length stays
-pub appended-length : (h : Bytes) (p i t m : ℕ) (c : Bytes) → length (prefixAppended h p i t m c) ≡ length h
+appended-length : (h : Bytes) (p i t m : ℕ) (c : Bytes) → length (prefixAppended h p i t m c) ≡ length h
 unfolding prefixAppended
 appended-length h p i t m c =
     put-length (putBytes h (3145 + wordAt h 0 2 * 41) (prefixBytes p i t m c)) 0 (wordBytes 2 (wordAt h 0 2 + 1))
     ∙ put-length h (3145 + wordAt h 0 2 * 41) (prefixBytes p i t m c)
+
+-- the row that is written is the entry's
+pub row-made : (h h′ : Bytes) (n p : ℕ) (e : ShownEntry) → Making h n e → h′ ≡ prefixAppended h p (e .index .0) (e .term .0) (e .length) (e .content)
+    → h′ ≡ appended h p (e .index .0) (entryValue e)
+row-made h h′ n p e g w =
+    let a = sym (value-length e) in
+    let b = g .padded in
+    w ∙ (λ j. prefixAppended h p (e .index .0) (e .term .0) (a j) (b j))
 
 -- what the extension of p by e comes to
 abbrev Made : Bytes → ℕ → ℕ → ShownEntry → Extended → Bytes → Type 0
@@ -83,26 +91,21 @@ module _ (h : Bytes) (n p : ℕ) (e : ShownEntry) (q : Bytes) (eq : q ≡ prefix
       let b = sym (count-found h n p (entryValue e) f) in
       ((λ j. record { prefix = witness (a j); count = b j }), sym (bytes-found h n p (e .index .0) (entryValue e) f))
 
-  module _ (g : Extending h n p e) (i : e .index .0 ≡ nextIndex h p) (z : r ≡ Stored.Nothing) where
+  module _ (z : r ≡ Stored.Nothing) where
     nowhere : eqb (extensionIn h n p (entryValue e)) 0 ≡ true
     nowhere = eq-eqb (extensionIn h n p (entryValue e)) 0 (stored-nothing (extensionIn h n p (entryValue e)) r extension-is z)
 
-    pub extend-room : wordAt h 0 2 < 512
-    extend-room = (let r = g .room i in let c = count-made h n p (entryValue e) nowhere in let k = g .count in omega arith)
+    pub extend-making : Extending h n p e → e .index .0 ≡ nextIndex h p → Making h n e
+    extend-making g i =
+        let m = g .room i in
+        let c = count-made h n p (entryValue e) nowhere in
+        record { long = g .long; count = g .count; room = omega arith; padded = g .padded }
 
-    pub extend-made : (h′ : Bytes)
-        → h′ ≡ prefixAppended h p (e .index .0) (e .term .0) (e .length) (e .content)
-        → Made h n p e (record { prefix = witness (n + 1); count = n + 1 }) h′
-    extend-made h′ w =
+    pub extend-made : (y : Extended) (h′ : Bytes) → (y ≡ made n) × (h′ ≡ appended h p (e .index .0) (entryValue e)) → Made h n p e y h′
+    extend-made y h′ w =
         let a = sym (number-made h n p (entryValue e) nowhere) in
         let b = sym (count-made h n p (entryValue e) nowhere) in
-        ((λ j. record { prefix = witness (a j); count = b j }), w ∙ same-bytes ∙ sym (bytes-made h n p (e .index .0) (entryValue e) nowhere))
-      where
-        same-bytes : prefixAppended h p (e .index .0) (e .term .0) (e .length) (e .content) ≡ appended h p (e .index .0) (entryValue e)
-        same-bytes =
-            let a = sym (value-length e) in
-            let b = g .padded in
-            λ j. prefixAppended h p (e .index .0) (e .term .0) (a j) (b j)
+        (w .0 ∙ (λ j. record { prefix = witness (a j); count = b j }), w .1 ∙ sym (bytes-made h n p (e .index .0) (entryValue e) nowhere))
 
 -- ---- an entry of the next index, and any other
 
@@ -178,7 +181,7 @@ count-grows (e ∷ es) h n p i =
     let b = count-grows es (extendedBytes h n p i e) (extendedCount h n p e) (extendedNumber h n p e) (i + 1) in
     omega arith
 
-pub bytes-length-one : (h : Bytes) (n p i : ℕ) (e : Entry) → length (extendedBytes h n p i e) ≡ length h
+bytes-length-one : (h : Bytes) (n p i : ℕ) (e : Entry) → length (extendedBytes h n p i e) ≡ length h
 unfolding extendedBytes
 bytes-length-one h n p i e =
     cond-cases (λ (u : Bytes). length u ≡ length h) (eqb (extensionIn h n p e) 0) (appended h p i e) h

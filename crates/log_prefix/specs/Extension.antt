@@ -1,7 +1,7 @@
 -- An extension of a stored prefix by an entry, found or made: what `extend` answers and writes; and the entries of a front written
 -- one after the other.
 -- Assumes nothing.
-use Prim.Native.Nat.{ℕ, _+_, _-_, _≤_}
+use Prim.Native.Nat.{ℕ, _+_, _-_, _≤_, _<_}
 use mathlib.Core.Path.{_≡_}
 use mathlib.Core.Bool.{cond}
 use mathlib.Core.List.{List, [], _∷_, _++_}
@@ -35,6 +35,10 @@ storedContent e = e .content ++ replicate (32 - length (e .content)) 0
 -- the history with the extension of p by e to index i as its next row
 abbrev pub appended : Bytes → ℕ → ℕ → Entry → Bytes
 appended h p i e = prefixAppended h p i (e .term) (length (e .content)) (storedContent e)
+
+-- one that is made is the next row
+abbrev pub made : ℕ → Extended
+made n = record { prefix = witness (n + 1); count = n + 1 }
 
 -- found or made: the history, how many prefixes it holds, and the number of the extension
 unfoldable pub extendedBytes : Bytes → ℕ → ℕ → ℕ → Entry → Bytes
@@ -80,6 +84,13 @@ unfoldable pub writtenNumber : Bytes → ℕ → ℕ → ℕ → List Entry → 
 unfolding extendedBytes extendedCount extendedNumber
 writtenNumber h n p i [] = p
 writtenNumber h n p i (e ∷ es) = writtenNumber (extendedBytes h n p i e) (extendedCount h n p e) (extendedNumber h n p e) (i + 1) es
+
+-- what making the next row asks: a history that holds n prefixes, with room for one more, and an entry as it is read
+pub record Making (h : Bytes) (n : ℕ) (e : ShownEntry) : Type 0 where
+  pub long : length h ≡ 24137
+  pub count : n ≡ wordAt h 0 2
+  pub room : n < 512
+  pub padded : e .content ≡ storedContent (entryValue e)
 
 -- what `extend` asks: a history of the right length that holds n prefixes, with room for the extension, and an entry as it is read
 pub record Extending (h : Bytes) (n p : ℕ) (e : ShownEntry) : Type 0 where

@@ -2,15 +2,13 @@
 ghost use mathlib.Core.Path.{_≡_};
 ghost use lib.ListN.{length};
 ghost use Rattle.prefix_lookup.specs.Table.{entryValue};
-ghost use Rattle.log_prefix.specs.Extension.{nextIndex, Extending, extended, extendedBytes, extension, extensionBytes};
+ghost use Rattle.log_prefix.specs.Extension.{Making, made, appended, Extending, extension, extensionBytes};
 use prefix_lookup::lookup::Stored;
 use prefix_lookup::lookup::find_extension;
 use prefix_rows::prefixes::append_prefix;
 use prefix_rows::prefixes::through;
 use record_walk::walk::ShownEntry;
-use storage_bytes::layout::PREFIXES_LENGTH;
-use storage_bytes::layout::PREFIXES_START;
-use storage_bytes::layout::part;
+use storage_bytes::layout::prefix_table;
 use units::LogPrefixWitness;
 
 // An extension, and how many prefixes are stored with it.
@@ -19,21 +17,17 @@ pub struct Extended {
     pub count: usize,
 }
 
-// The extension of the prefix by the entry is found, or made as the next row.
-fn find_or_make(history: &mut [u8], count: usize, p: LogPrefixWitness, e: ShownEntry) -> Extended
-    requires { ⌜ Extending (now history) count (p .0) e × (e .index .0 ≡ nextIndex (now history) (p .0)) ⌝ }
-    ensures { λ r. ⌜ (r ≡ extended (now (history .entry)) count (p .0) (entryValue e)) × (now (history .exit) ≡ extendedBytes (now (history .entry)) count (p .0) (e .index .0) (entryValue e)) ⌝ }
+// The extension of the prefix by the entry is made: the next row.
+fn make(history: &mut [u8], count: usize, p: LogPrefixWitness, e: ShownEntry) -> Extended
+    requires { ⌜ Making (now history) count e ⌝ }
+    ensures { λ r. ⌜ (r ≡ made count) × (now (history .exit) ≡ appended (now (history .entry)) (p .0) (e .index .0) (entryValue e)) ⌝ }
 {
-    let prefixes = part(&history[..], PREFIXES_START, PREFIXES_LENGTH);
-    let Stored::Prefix(prefix) = find_extension(prefixes, count, p, e) else {
-        let content = e.content;
-        append_prefix(&mut history[..], p, e.index, e.term, e.length, &content);
-        return Extended {
-            prefix: LogPrefixWitness(count + 1),
-            count: count + 1,
-        };
-    };
-    Extended { prefix, count }
+    let content = e.content;
+    append_prefix(&mut history[..], p, e.index, e.term, e.length, &content);
+    Extended {
+        prefix: LogPrefixWitness(count + 1),
+        count: count + 1,
+    }
 }
 
 // A prefix that was extended, or that the entry's index is not the next one.
@@ -42,14 +36,18 @@ pub enum Extension {
     NotNext,
 }
 
-// The one step that lengthens a prefix: it takes the entry of the index after its last, and no other.
+// The one step that lengthens a prefix: it takes the entry of the index after its last, and no other. The extension is found, or
+// made.
 pub fn extend(history: &mut [u8], count: usize, p: LogPrefixWitness, e: ShownEntry) -> Extension
     requires { ⌜ Extending (now history) count (p .0) e ⌝ }
     ensures { λ r. ⌜ (r ≡ extension (now (history .entry)) count (p .0) e) × (now (history .exit) ≡ extensionBytes (now (history .entry)) count (p .0) e) ⌝ }
 {
-    let last = through(part(&history[..], PREFIXES_START, PREFIXES_LENGTH), p);
-    if e.index.0 != last.0 + 1 {
+    let prefixes = prefix_table(&history[..]);
+    if e.index.0 != through(prefixes, p).0 + 1 {
         return Extension::NotNext;
     }
-    Extension::Prefix(find_or_make(&mut history[..], count, p, e))
+    let Stored::Prefix(prefix) = find_extension(prefixes, count, p, e) else {
+        return Extension::Prefix(make(&mut history[..], count, p, e));
+    };
+    Extension::Prefix(Extended { prefix, count })
 }

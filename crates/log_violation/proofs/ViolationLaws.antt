@@ -4,12 +4,12 @@
 use Prim.Native.Nat.{ℕ, zero, suc, _+_, _-_, _*_, _<_, _≤_}
 use native.Mathlib.Omega.{arith}
 use mathlib.Core.Path.{_≡_, refl, sym, _∙_, ap, subst}
-use mathlib.Core.Bool.{Bool, true, false, _||_}
+use mathlib.Core.Bool.{Bool, true, false, _&&_, _||_}
 use mathlib.Core.Logic.{_⊎_, inl, inr, ⊎-elim}
 use mathlib.Core.List.{List, [], _∷_, _++_, List·Memᴰ, List·Memᴰ·head, List·Memᴰ·tail, List·Memᴰ·not-nil, List·Memᴰ·cases-cons}
 use lib.Dec.{leb, ltb, eqb}
 use lib.ListN.{length, take, drop, length-append, take-append-drop}
-use borrow.Author.Tests.{eq-eqb, ne-eqb, eqb-true, lt-ltb, le-ltb, le-leb, lt-leb, leb-true, leb-false, ltb-false}
+use borrow.Author.Tests.{eq-eqb, eqb-true, lt-ltb, le-ltb, le-leb, lt-leb, leb-true, leb-false, ltb-false}
 use Rattle.model.specs.Sizes.{Bytes}
 use Rattle.model.specs.Entry.{with, withAll}
 use Rattle.model.specs.History.{Finding, sameFinding, noted}
@@ -26,31 +26,29 @@ use Rattle.storage_bytes.proofs.PartLaws.{part-length, part-lent, put-whole}
 use Rattle.storage.proofs.WellFormed.{formed}
 use Rattle.storage.proofs.WriteLaws.{part-written}
 use Rattle.storage.proofs.RowLaws.{rows-append, finding-own, finding-length, finding-back}
-use Rattle.log_violation.specs.Violation.{sameNumbers, notedFrom, isNoted, noteHeld, noteBytes, heldAll, bytesAll, findingsKept, notedIn}
+use Rattle.log_violation.specs.Violation.{sameNumbers, notedFrom, isNoted, noteHeld, noteBytes, heldAll, bytesAll, findingsKept, roomFor, notedIn}
 
--- ---- a row held against a finding, number by number
+-- ---- a row held against a finding, number by number: a is the flag of the first two tests, b that of the first three
 
-module _ (x g f : Finding) (e : g ≡ x) where
-  at-value : sameNumbers g f ≡ sameNumbers x f
-  at-value = ap (λ (y : Finding). sameNumbers y f) e
+in-turn : (i t n m : Bool) → (i && (t && (n && m))) ≡ (((i && t) && n) && m)
+in-turn true true n m = refl
+in-turn true false n m = refl
+in-turn false t n m = refl
 
-  pub other-index : (g .index ≡ f .index → ⊥) → false ≡ sameNumbers x f
+module _ (x g f : Finding) (e : g ≡ x) {a b : Bool} (two : a ≡ (eqb (g .index) (f .index) && eqb (g .term) (f .term))) (three : b ≡ (a && eqb (g .node) (f .node))) where
+  by-three : sameNumbers x f ≡ (b && eqb (g .name) (f .name))
   unfolding sameNumbers
-  other-index d = (rw (ne-eqb _ _ d)) ∙ at-value
+  by-three =
+      ap (λ (y : Finding). sameNumbers y f) (sym e)
+      ∙ in-turn (eqb (g .index) (f .index)) (eqb (g .term) (f .term)) (eqb (g .node) (f .node)) (eqb (g .name) (f .name))
+      ∙ ap (λ (c : Bool). (c && eqb (g .node) (f .node)) && eqb (g .name) (f .name)) (sym two)
+      ∙ ap (λ (c : Bool). c && eqb (g .name) (f .name)) (sym three)
 
-  module _ (a : g .index ≡ f .index) where
-    pub other-term : (g .term ≡ f .term → ⊥) → false ≡ sameNumbers x f
-    unfolding sameNumbers
-    other-term d = (rw (eq-eqb _ _ a, ne-eqb _ _ d)) ∙ at-value
+  pub name-decides : b ≡ true → eqb (g .name) (f .name) ≡ sameNumbers x f
+  name-decides h = sym (by-three ∙ ap (λ (c : Bool). c && eqb (g .name) (f .name)) h)
 
-    module _ (b : g .term ≡ f .term) where
-      pub other-node : (g .node ≡ f .node → ⊥) → false ≡ sameNumbers x f
-      unfolding sameNumbers
-      other-node d = (rw (eq-eqb _ _ a, eq-eqb _ _ b, ne-eqb _ _ d)) ∙ at-value
-
-      pub other-name : g .node ≡ f .node → eqb (g .name) (f .name) ≡ sameNumbers x f
-      unfolding sameNumbers
-      other-name d = (rw (eq-eqb _ _ a, eq-eqb _ _ b, eq-eqb _ _ d)) ∙ at-value
+  pub one-differs : b ≡ false → b ≡ sameNumbers x f
+  one-differs h = h ∙ sym (by-three ∙ ap (λ (c : Bool). c && eqb (g .name) (f .name)) h)
 
 -- ---- noting means one finding more, once
 
@@ -302,7 +300,7 @@ module _ (h : Bytes) (f : Finding) (long : length h ≡ 24137) (held : ℕ) (eh 
   lent : take 1024 (drop 2121 h) ≡ Table
   lent = part-lent h 2121 1024 (omega arith) .is
 
-  pub in-held : n ≡ noteHeld Table (wordAt h 7 1) f
+  in-held : n ≡ noteHeld Table (wordAt h 7 1) f
   in-held = en .0 ∙ (λ i. noteHeld (lent i) (eh i) f)
 
   in-table : t ≡ noteBytes Table (wordAt h 7 1) f
@@ -315,20 +313,25 @@ module _ (h : Bytes) (f : Finding) (long : length h ≡ 24137) (held : ℕ) (eh 
       part-written h t 2121 1024 0 t (sym (put-whole (take 1024 (drop 2121 h)) t l)) (omega arith) (omega arith)
 
   -- counted
-  pub in-room : n ≤ 128 → (v : Bytes) → v ≡ putBytes (take 2121 h ++ (t ++ drop 1024 (drop 2121 h))) 7 (wordBytes 1 n) → v ≡ notedIn h f
-  unfolding notedIn findingsKept
+  pub in-room : n ≤ 128 → (v : Bytes) → v ≡ putBytes (take 2121 h ++ (t ++ drop 1024 (drop 2121 h))) 7 (wordBytes 1 n) → (true ≡ roomFor h f) × (v ≡ notedIn h f)
+  unfolding roomFor notedIn findingsKept
   in-room r v ev =
-      ev ∙ ap (λ (u : Bytes). putBytes u 7 (wordBytes 1 n)) whole ∙ (λ i. findingsKept h (in-table i) (in-held i))
-      ∙ sym (cond-true (leb (noteHeld Table (wordAt h 7 1) f) 128) _ h (le-leb _ 128 (subst (λ (x : ℕ). x ≤ 128) in-held r)))
+      let room = le-leb (noteHeld Table (wordAt h 7 1) f) 128 (subst (λ (x : ℕ). x ≤ 128) in-held r) in (
+        sym room,
+        ev ∙ ap (λ (u : Bytes). putBytes u 7 (wordBytes 1 n)) whole ∙ (λ i. findingsKept h (in-table i) (in-held i)) ∙ sym (cond-true _ _ h room),
+      )
 
   -- there are too many: the table was full and is as it was
-  pub in-full : held ≤ 128 → 128 < n → take 2121 h ++ (t ++ drop 1024 (drop 2121 h)) ≡ notedIn h f
-  unfolding notedIn noteBytes noteHeld
+  pub in-full : held ≤ 128 → 128 < n → (false ≡ roomFor h f) × (take 2121 h ++ (t ++ drop 1024 (drop 2121 h)) ≡ notedIn h f)
+  unfolding roomFor notedIn noteBytes noteHeld
   in-full few r =
-      ap (λ (u : Bytes). take 2121 h ++ (u ++ drop 1024 (drop 2121 h))) same
-      ∙ ap (λ (u : Bytes). take 2121 h ++ u) (take-append-drop 1024 (drop 2121 h))
-      ∙ take-append-drop 2121 h
-      ∙ sym (cond-false (leb (noteHeld Table (wordAt h 7 1) f) 128) _ h (lt-leb _ 128 (subst (λ (x : ℕ). 128 < x) in-held r)))
+      let room = lt-leb (noteHeld Table (wordAt h 7 1) f) 128 (subst (λ (x : ℕ). 128 < x) in-held r) in (
+        sym room,
+        ap (λ (u : Bytes). take 2121 h ++ (u ++ drop 1024 (drop 2121 h))) same
+            ∙ ap (λ (u : Bytes). take 2121 h ++ u) (take-append-drop 1024 (drop 2121 h))
+            ∙ take-append-drop 2121 h
+            ∙ sym (cond-false _ _ h room),
+      )
     where
       full : 128 ≤ held
       full =
@@ -340,4 +343,4 @@ module _ (h : Bytes) (f : Finding) (long : length h ≡ 24137) (held : ℕ) (eh 
 
 pub in-length : (h : Bytes) (f : Finding) → length (notedIn h f) ≡ length h
 unfolding notedIn
-in-length h f = cond-cases (λ (u : Bytes). length u ≡ length h) (leb (noteHeld (findingsPart h) (wordAt h 7 1) f) 128) _ h (λ _. kept-length h _ _) (λ _. refl)
+in-length h f = cond-cases (λ (u : Bytes). length u ≡ length h) (roomFor h f) _ h (λ _. kept-length h _ _) (λ _. refl)

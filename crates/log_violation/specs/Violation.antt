@@ -50,9 +50,13 @@ bytesAll t n (f ∷ fs) = bytesAll (noteBytes t n f) (noteHeld t n f) fs
 unfoldable pub findingsKept : Bytes → Bytes → ℕ → Bytes
 findingsKept h t n = putBytes (putBytes h 2121 t) 7 (wordBytes 1 n)
 
--- a finding noted among the history's own; where there are too many, nothing is written
+-- there is room for the finding among the history's own
+unfoldable pub roomFor : Bytes → Finding → Bool
+unfolding noteHeld
+roomFor h f = leb (noteHeld (findingsPart h) (wordAt h 7 1) f) 128
+
+-- a finding noted among the history's own; where there is no room, nothing is written
 unfoldable pub notedIn : Bytes → Finding → Bytes
-unfolding noteHeld noteBytes findingsKept
+unfolding roomFor noteHeld noteBytes findingsKept
 notedIn h f =
-    let n = noteHeld (findingsPart h) (wordAt h 7 1) f in
-    cond (leb n 128) (findingsKept h (noteBytes (findingsPart h) (wordAt h 7 1) f) n) h
+    cond (roomFor h f) (findingsKept h (noteBytes (findingsPart h) (wordAt h 7 1) f) (noteHeld (findingsPart h) (wordAt h 7 1) f)) h

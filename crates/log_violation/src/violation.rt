@@ -6,12 +6,12 @@ ghost use lib.ListN.{length};
 ghost use Rattle.storage_bytes.specs.Words.{wordAt};
 ghost use Rattle.storage.specs.Tables.{findingRow, findingsPart};
 ghost use Rattle.table_rows.specs.Values.{findingValue};
-ghost use Rattle.log_violation.specs.Violation.{sameNumbers, isNoted, noteHeld, noteBytes, findingsKept, notedIn};
+ghost use Rattle.log_violation.specs.Violation.{sameNumbers, isNoted, noteHeld, noteBytes, findingsKept, roomFor, notedIn};
 use storage::head::finding_count;
 use storage::head::set_finding_count;
 use storage_bytes::layout::FINDINGS_LENGTH;
 use storage_bytes::layout::FINDINGS_START;
-use storage_bytes::layout::part;
+use storage_bytes::layout::finding_table;
 use storage_bytes::words::put_bytes;
 use table_rows::findings::Found;
 use table_rows::findings::finding_at;
@@ -24,16 +24,7 @@ fn is_finding(findings: &[u8], k: usize, f: Found) -> bool
     ensures { λ r. ⌜ r ≡ sameNumbers (findingRow (now (findings .entry)) k) (findingValue f) ⌝ }
 {
     let g = finding_at(findings, k);
-    if g.index.0 != f.index.0 {
-        return false;
-    }
-    if g.term.0 != f.term.0 {
-        return false;
-    }
-    if g.node.0 != f.node.0 {
-        return false;
-    }
-    g.name == f.name
+    g.index.0 == f.index.0 && g.term.0 == f.term.0 && g.node.0 == f.node.0 && g.name == f.name
 }
 
 // The finding is among the first n.
@@ -41,12 +32,10 @@ fn is_noted(findings: &[u8], n: usize, f: Found) -> bool
     requires { ⌜ (n ≤ 128) × (length (now findings) ≡ 1024) ⌝ }
     ensures { λ r. ⌜ r ≡ isNoted (now (findings .entry)) n (findingValue f) ⌝ }
 {
-    let mut k = 0;
-    while k < n {
+    for k in 0..n {
         if is_finding(findings, k, f) {
             return true;
         }
-        k += 1;
     }
     false
 }
@@ -56,10 +45,7 @@ pub fn note(findings: &mut [u8], n: usize, f: Found) -> usize
     requires { ⌜ (n ≤ 129) × (length (now findings) ≡ 1024) ⌝ }
     ensures { λ r. ⌜ (r ≡ noteHeld (now (findings .entry)) n (findingValue f)) × (now (findings .exit) ≡ noteBytes (now (findings .entry)) n (findingValue f)) ⌝ }
 {
-    if FINDING_LIMIT < n {
-        return n;
-    }
-    if is_noted(&findings[..], n, f) {
+    if FINDING_LIMIT < n || is_noted(&findings[..], n, f) {
         return n;
     }
     if n < FINDING_LIMIT {
@@ -68,19 +54,20 @@ pub fn note(findings: &mut [u8], n: usize, f: Found) -> usize
     n + 1
 }
 
-// The finding is noted among the history's own; how many are held then. Where there are too many, nothing is written.
-pub fn note_in(history: &mut [u8], f: Found) -> usize
+// The finding is noted among the history's own, where there is room for it; whether there is. Else nothing is written.
+pub fn note_in(history: &mut [u8], f: Found) -> bool
     requires { ⌜ (wordAt (now history) 7 1 ≤ 128) × (length (now history) ≡ 24137) ⌝ }
-    ensures { λ r. ⌜ (r ≡ noteHeld (findingsPart (now (history .entry))) (wordAt (now (history .entry)) 7 1) (findingValue f)) × (now (history .exit) ≡ notedIn (now (history .entry)) (findingValue f)) ⌝ }
+    ensures { λ r. ⌜ (r ≡ roomFor (now (history .entry)) (findingValue f)) × (now (history .exit) ≡ notedIn (now (history .entry)) (findingValue f)) ⌝ }
 {
     let held = finding_count(&history[..]);
     let a = FINDINGS_START;
     let e = a + FINDINGS_LENGTH;
     let n = note(&mut history[a..e], held, f);
-    if n <= FINDING_LIMIT {
-        set_finding_count(&mut history[..], n);
+    if FINDING_LIMIT < n {
+        return false;
     }
-    n
+    set_finding_count(&mut history[..], n);
+    true
 }
 
 // A copy of the history's findings, and how many it holds.
@@ -88,11 +75,7 @@ pub fn copy_findings(history: &[u8], findings: &mut [u8]) -> usize
     requires { ⌜ (length (now history) ≡ 24137) × (length (now findings) ≡ 1024) ⌝ }
     ensures { λ r. ⌜ (r ≡ wordAt (now (history .entry)) 7 1) × (now (findings .exit) ≡ findingsPart (now (history .entry))) ⌝ }
 {
-    put_bytes(
-        &mut findings[..],
-        0,
-        part(history, FINDINGS_START, FINDINGS_LENGTH),
-    );
+    put_bytes(&mut findings[..], 0, finding_table(history));
     finding_count(history)
 }
 

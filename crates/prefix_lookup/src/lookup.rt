@@ -13,13 +13,10 @@ use prefix_rows::prefixes::size_at;
 use prefix_rows::prefixes::term_at;
 use prefix_rows::prefixes::through;
 use record_walk::walk::ShownEntry;
-use storage_bytes::layout::NODES_LENGTH;
-use storage_bytes::layout::NODES_START;
 use storage_bytes::layout::PREFIX_CONTENT;
 use storage_bytes::layout::PREFIX_WIDTH;
-use storage_bytes::layout::PREFIXES_LENGTH;
-use storage_bytes::layout::PREFIXES_START;
-use storage_bytes::layout::part;
+use storage_bytes::layout::node_table;
+use storage_bytes::layout::prefix_table;
 use storage_bytes::words::same_bytes;
 use table_rows::nodes::node_at;
 use units::LogIndex;
@@ -63,12 +60,10 @@ pub fn find_extension(prefixes: &[u8], count: usize, p: LogPrefixWitness, e: Sho
     requires { ⌜ (count ≤ 512) × (p .0 ≤ count) × (length (now prefixes) ≡ 20992) × (e .length ≤ 32) ⌝ }
     ensures { λ r. ⌜ r ≡ storedOf (find (prefixRow (now (prefixes .entry))) count (rowOf (p .0) 0 (entryValue e))) ⌝ }
 {
-    let mut k = p.0;
-    while k < count {
+    for k in p.0..count {
         if matches_extension(prefixes, k, p, e) {
             return Stored::Prefix(LogPrefixWitness(k + 1));
         }
-        k += 1;
     }
     Stored::Nothing
 }
@@ -78,10 +73,7 @@ fn is_of(prefixes: &[u8], k: usize, index: LogIndex, term: Term) -> bool
     requires { ⌜ (k < 512) × (length (now prefixes) ≡ 20992) ⌝ }
     ensures { λ r. ⌜ r ≡ isOf (index .0) (term .0) (prefixRow (now (prefixes .entry)) k) ⌝ }
 {
-    if index_at(prefixes, k).0 != index.0 {
-        return false;
-    }
-    term_at(prefixes, k).0 == term.0
+    index_at(prefixes, k).0 == index.0 && term_at(prefixes, k).0 == term.0
 }
 
 // The first stored prefix of the index and term. A prefix's number is at least its index.
@@ -89,12 +81,10 @@ pub fn first_of(prefixes: &[u8], count: usize, index: LogIndex, term: Term) -> S
     requires { ⌜ (count ≤ 512) × (length (now prefixes) ≡ 20992) × (1 ≤ index .0) ⌝ }
     ensures { λ r. ⌜ r ≡ storedOf (first (prefixRow (now (prefixes .entry))) count (index .0) (term .0)) ⌝ }
 {
-    let mut k = index.0 - 1;
-    while k < count {
+    for k in index.0 - 1..count {
         if is_of(prefixes, k, index, term) {
             return Stored::Prefix(LogPrefixWitness(k + 1));
         }
-        k += 1;
     }
     Stored::Nothing
 }
@@ -119,7 +109,6 @@ pub fn front_through(history: &[u8], node: NodeId, index: LogIndex) -> Slice
     requires { ⌜ (wellFormed (now history) ≡ true) × (node .0 < 64) ⌝ }
     ensures { λ r. ⌜ r ≡ frontThrough (now (history .entry)) (node .0) (index .0) ⌝ }
 {
-    let x = node_at(part(history, NODES_START, NODES_LENGTH), node.0 as usize);
-    let front = x.front;
-    slice_through(part(history, PREFIXES_START, PREFIXES_LENGTH), front, index)
+    let x = node_at(node_table(history), node.0 as usize);
+    slice_through(prefix_table(history), x.front, index)
 }

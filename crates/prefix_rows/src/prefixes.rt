@@ -9,14 +9,14 @@ ghost use Rattle.storage_bytes.specs.Words.{Word, wordAt, wordBytes, putBytes};
 ghost use Rattle.storage.specs.Writes.{prefixBytes, prefixAppended};
 ghost use Rattle.storage.specs.Rules.{wellFormed};
 ghost use Rattle.storage.specs.Values.{Index, committedEnd};
-use storage::head::committed_number;
+use storage::head::committed;
 use storage::head::prefix_count;
 use storage::head::set_prefix_count;
 use storage_bytes::layout::PREFIX_CONTENT;
 use storage_bytes::layout::PREFIX_WIDTH;
 use storage_bytes::layout::PREFIXES_LENGTH;
 use storage_bytes::layout::PREFIXES_START;
-use storage_bytes::layout::part;
+use storage_bytes::layout::prefix_table;
 use storage_bytes::words::get8;
 use storage_bytes::words::get16;
 use storage_bytes::words::get32;
@@ -72,10 +72,7 @@ pub fn committed_end(history: &[u8]) -> LogIndex
     requires { ⌜ wellFormed (now history) ≡ true ⌝ }
     ensures { λ r. ⌜ r .0 ≡ committedEnd (now (history .entry)) ⌝ }
 {
-    through(
-        part(history, PREFIXES_START, PREFIXES_LENGTH),
-        LogPrefixWitness(committed_number(history)),
-    )
+    through(prefix_table(history), committed(history))
 }
 
 // A row's parent, index and term.

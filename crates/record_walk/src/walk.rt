@@ -142,15 +142,15 @@ pub fn row_at(s: &[u8], at: usize) -> Row
 }
 
 // The index of the last of `count` entries from bit `from` on, past a gap too; `before` where there is none.
-pub fn last_index(s: &[u8], from: usize, count: usize, before: usize) -> usize
+pub fn last_index(s: &[u8], from: usize, count: usize, before: LogIndex) -> LogIndex
     requires { ⌜ places.Walk (now s) from count ⌝ }
-    ensures { λ r. ⌜ r ≡ model.lastFrom before (places.entriesAt (now (s .entry)) from count) ⌝ }
+    ensures { λ r. ⌜ r .0 ≡ model.lastFrom (before .0) (places.entriesAt (now (s .entry)) from count) ⌝ }
 {
     let mut at = from;
     let mut left = count;
     let mut last = before;
     while 0 < left {
-        last = index_at(s, at).0;
+        last = index_at(s, at);
         at = next_at(s, at);
         left -= 1;
     }

@@ -11,17 +11,13 @@ use row_rules::nodes::nodes_right;
 use storage::head::certificate_count;
 use storage::head::finding_count;
 use storage::head::prefix_count;
-use storage_bytes::layout::CERTIFICATES_LENGTH;
-use storage_bytes::layout::CERTIFICATES_START;
-use storage_bytes::layout::FINDINGS_LENGTH;
-use storage_bytes::layout::FINDINGS_START;
 use storage_bytes::layout::HEAD_LENGTH;
 use storage_bytes::layout::HISTORY_LENGTH;
-use storage_bytes::layout::NODES_LENGTH;
-use storage_bytes::layout::NODES_START;
-use storage_bytes::layout::PREFIXES_LENGTH;
-use storage_bytes::layout::PREFIXES_START;
+use storage_bytes::layout::certificate_table;
+use storage_bytes::layout::finding_table;
+use storage_bytes::layout::node_table;
 use storage_bytes::layout::part;
+use storage_bytes::layout::prefix_table;
 
 // The bytes keep the storage rules.
 pub fn well_formed(history: &[u8]) -> bool
@@ -38,10 +34,10 @@ pub fn well_formed(history: &[u8]) -> bool
         return false;
     }
     let n = prefix_count(head);
-    if !nodes_right(part(history, NODES_START, NODES_LENGTH), n) {
+    if !nodes_right(node_table(history), n) {
         return false;
     }
-    let certificates = part(history, CERTIFICATES_START, CERTIFICATES_LENGTH);
+    let certificates = certificate_table(history);
     let m = certificate_count(head);
     if !certificates_right(certificates, m, n) {
         return false;
@@ -49,11 +45,8 @@ pub fn well_formed(history: &[u8]) -> bool
     if !numbered(certificates, m) {
         return false;
     }
-    if !findings_right(
-        part(history, FINDINGS_START, FINDINGS_LENGTH),
-        finding_count(head),
-    ) {
+    if !findings_right(finding_table(history), finding_count(head)) {
         return false;
     }
-    prefixes_right(part(history, PREFIXES_START, PREFIXES_LENGTH), n)
+    prefixes_right(prefix_table(history), n)
 }

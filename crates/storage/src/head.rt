@@ -9,6 +9,8 @@ use storage_bytes::words::get8;
 use storage_bytes::words::get16;
 use storage_bytes::words::put8;
 use storage_bytes::words::put16;
+use units::LogIndex;
+use units::LogPrefixWitness;
 use units::NodeId;
 
 pub fn prefix_count(head: &[u8]) -> usize
@@ -18,18 +20,20 @@ pub fn prefix_count(head: &[u8]) -> usize
     get16(head, 0)
 }
 
-pub fn term_count(head: &[u8]) -> usize
+// The last index with a place among the commit terms.
+pub fn last_recorded(head: &[u8]) -> LogIndex
     requires { ⌜ 9 ≤ length (now head) ⌝ }
-    ensures { λ r. ⌜ Word (now (head .entry)) 2 2 r ⌝ }
+    ensures { λ r. ⌜ Word (now (head .entry)) 2 2 (r .0) ⌝ }
 {
-    get16(head, 2)
+    LogIndex(get16(head, 2))
 }
 
-pub fn committed_number(head: &[u8]) -> usize
+// The committed prefix; the empty one where none is kept.
+pub fn committed(head: &[u8]) -> LogPrefixWitness
     requires { ⌜ 9 ≤ length (now head) ⌝ }
-    ensures { λ r. ⌜ Word (now (head .entry)) 4 2 r ⌝ }
+    ensures { λ r. ⌜ Word (now (head .entry)) 4 2 (r .0) ⌝ }
 {
-    get16(head, 4)
+    LogPrefixWitness(get16(head, 4))
 }
 
 pub fn certificate_count(head: &[u8]) -> usize
@@ -46,11 +50,12 @@ pub fn finding_count(head: &[u8]) -> usize
     get8(head, 7)
 }
 
-pub fn owner_number(head: &[u8]) -> usize
+// The owner of the committed prefix.
+pub fn owner(head: &[u8]) -> NodeId
     requires { ⌜ 9 ≤ length (now head) ⌝ }
-    ensures { λ r. ⌜ Word (now (head .entry)) 8 1 r ⌝ }
+    ensures { λ r. ⌜ Word (now (head .entry)) 8 1 (r .0) ⌝ }
 {
-    get8(head, 8)
+    NodeId(get8(head, 8) as u8)
 }
 
 pub fn set_prefix_count(head: &mut [u8], n: usize)
@@ -60,18 +65,11 @@ pub fn set_prefix_count(head: &mut [u8], n: usize)
     put16(&mut head[..], 0, n);
 }
 
-pub fn set_term_count(head: &mut [u8], n: usize)
+pub fn set_last_recorded(head: &mut [u8], index: LogIndex)
     requires { ⌜ 9 ≤ length (now head) ⌝ }
-    ensures { λ r. ⌜ now (head .exit) ≡ putBytes (now (head .entry)) 2 (wordBytes 2 n) ⌝ }
+    ensures { λ r. ⌜ now (head .exit) ≡ putBytes (now (head .entry)) 2 (wordBytes 2 (index .0)) ⌝ }
 {
-    put16(&mut head[..], 2, n);
-}
-
-pub fn set_committed_number(head: &mut [u8], n: usize)
-    requires { ⌜ 9 ≤ length (now head) ⌝ }
-    ensures { λ r. ⌜ now (head .exit) ≡ putBytes (now (head .entry)) 4 (wordBytes 2 n) ⌝ }
-{
-    put16(&mut head[..], 4, n);
+    put16(&mut head[..], 2, index.0);
 }
 
 pub fn set_certificate_count(head: &mut [u8], n: usize)
@@ -88,18 +86,11 @@ pub fn set_finding_count(head: &mut [u8], n: usize)
     put8(&mut head[..], 7, n);
 }
 
-pub fn set_owner_number(head: &mut [u8], n: usize)
+// The committed prefix and its owner.
+pub fn set_committed(head: &mut [u8], p: LogPrefixWitness, owner: NodeId)
     requires { ⌜ 9 ≤ length (now head) ⌝ }
-    ensures { λ r. ⌜ now (head .exit) ≡ putBytes (now (head .entry)) 8 (wordBytes 1 n) ⌝ }
+    ensures { λ r. ⌜ now (head .exit) ≡ committedSet (now (head .entry)) (p .0) (owner .0) ⌝ }
 {
-    put8(&mut head[..], 8, n);
-}
-
-// The committed prefix's number and owner.
-pub fn set_committed(history: &mut [u8], p: usize, owner: NodeId)
-    requires { ⌜ 9 ≤ length (now history) ⌝ }
-    ensures { λ r. ⌜ now (history .exit) ≡ committedSet (now (history .entry)) p (owner .0) ⌝ }
-{
-    set_committed_number(&mut history[..], p);
-    set_owner_number(&mut history[..], owner.0 as usize);
+    put16(&mut head[..], 4, p.0);
+    put8(&mut head[..], 8, owner.0 as usize);
 }

@@ -25,13 +25,13 @@ use Rattle.storage.proofs.Answered as kinds
 use Rattle.logical_log.specs.declared.observation.Observed.{Observed}
 use Rattle.logical_log.specs.Observation.{observed}
 use Rattle.logical_log.proofs.Meaning as views
-use Rattle.committed_prefix.specs.declared.committed.CommitAnswer.{CommitAnswer}
+use Rattle.commit.specs.declared.prefix.CommitAnswer.{CommitAnswer}
 use Rattle.commit.specs.Prefix.{commitAnswer, commitReply}
 use Rattle.commit_terms.specs.declared.terms.TermsAnswer.{TermsAnswer}
 use Rattle.commit_terms.specs.Terms.{termsAnswer, termsReply}
 use Rattle.commit.proofs.Meaning as commits
 use Rattle.commit_terms.proofs.Meaning as commit-terms
-use Rattle.election_judging.specs.declared.judging.ElectionAnswer.{ElectionAnswer}
+use Rattle.election.specs.declared.certificate.ElectionAnswer.{ElectionAnswer}
 use Rattle.election.specs.Certify.{answerIn}
 use Rattle.election.proofs.Meaning as elections
 use Rattle.completeness.specs.declared.leader_completeness.Checked.{Checked}

@@ -12,6 +12,12 @@ use storage_bytes::words::put32;
 use units::LogIndex;
 use units::Term;
 
+// What a search among the commit terms gives.
+pub enum FoundIndex {
+    At(LogIndex),
+    Nothing,
+}
+
 // The term of index k + 1.
 pub fn term_at(terms: &[u8], k: usize) -> Term
     requires { ⌜ (k < 256) × (length (now terms) ≡ 1024) ⌝ }

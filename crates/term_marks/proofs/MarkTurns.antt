@@ -8,7 +8,7 @@ use lib.ListN.{length}
 use borrow.Author.Tests.{le-leb, lt-leb}
 use Rattle.model.specs.Sizes.{Bytes}
 use Rattle.model.proofs.Tests.{cond-cases, cond-true, cond-false}
-use Rattle.storage_bytes.specs.Words.{wordBytes}
+use Rattle.storage_bytes.specs.Words.{wordAt, wordBytes}
 use Rattle.storage_bytes.proofs.WordLaws.{put-length}
 use Rattle.term_marks.specs.Marks.{markSet, certificateOf, lowerBytes, lowerBack}
 
@@ -35,31 +35,31 @@ module _ (h : Bytes) (first k m : ℕ) (e : m ≡ certificateOf h k .mark) where
 
 -- ---- the loop
 
-pub record Lowering (h₀ : Bytes) (n t first : ℕ) (h : Bytes) (k : ℕ) : Type 0 where
-  pub bytes : lowerBack h₀ t first n ≡ lowerBack h t first k
+pub record Lowering (h₀ : Bytes) (t first : ℕ) (h : Bytes) (k : ℕ) : Type 0 where
+  pub bytes : lowerBack h₀ t first (wordAt h₀ 6 1) ≡ lowerBack h t first k
   pub long : length h ≡ 24137
-  pub within : k ≤ n
+  pub within : k ≤ 64
 
-module _ (h₀ : Bytes) (n t first : ℕ) where
-  pub lowering-starts : length h₀ ≡ 24137 → Lowering h₀ n t first h₀ n
-  lowering-starts l = record { bytes = refl; long = l; within = omega arith }
+module _ (h₀ : Bytes) (t first : ℕ) where
+  pub lowering-starts : (k : ℕ) → k ≡ wordAt h₀ 6 1 → wordAt h₀ 6 1 ≤ 64 → length h₀ ≡ 24137 → Lowering h₀ t first h₀ k
+  lowering-starts k e w l = record { bytes = ap (lowerBack h₀ t first) (sym e); long = l; within = omega arith }
 
-  module _ (h : Bytes) (k : ℕ) (w : Lowering h₀ n t first h k) where
-    pub lowering-none : k ≤ 0 → h ≡ lowerBack h₀ t first n
+  module _ (h : Bytes) (k : ℕ) (w : Lowering h₀ t first h k) where
+    pub lowering-none : k ≤ 0 → h ≡ lowerBack h₀ t first (wordAt h₀ 6 1)
     unfolding lowerBack
     lowering-none l = sym (w .bytes ∙ ap (lowerBack h t first) (let e : k ≡ 0 = omega arith in e))
 
     module _ (l : 0 < k) (x : ℕ) (e : x ≡ certificateOf h (k - 1) .term) where
-      turn : lowerBack h₀ t first n ≡ lowerBack h t first (suc (k - 1))
+      turn : lowerBack h₀ t first (wordAt h₀ 6 1) ≡ lowerBack h t first (suc (k - 1))
       turn = w .bytes ∙ ap (lowerBack h t first) (let z : k ≡ suc (k - 1) = omega arith in z)
 
       -- it is of no greater term
-      pub lowering-ends : x ≤ t → h ≡ lowerBack h₀ t first n
+      pub lowering-ends : x ≤ t → h ≡ lowerBack h₀ t first (wordAt h₀ 6 1)
       unfolding lowerBack
       lowering-ends g =
           sym (turn ∙ cond-true (leb (certificateOf h (k - 1) .term) t) h _ (le-leb _ t (subst (λ (y : ℕ). y ≤ t) e g)))
 
-      pub lowering-next : t < x → (u : Bytes) → u ≡ lowerBytes h first (k - 1) → Lowering h₀ n t first u (k - 1)
+      pub lowering-next : t < x → (u : Bytes) → u ≡ lowerBytes h first (k - 1) → Lowering h₀ t first u (k - 1)
       unfolding lowerBack
       lowering-next g u q =
           record {

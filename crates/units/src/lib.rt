@@ -1,6 +1,7 @@
 // The units of the log history: node, index and term, each a tuple struct over one number, as in the Rust, and the prefix, told by
 // its number. No unit converts into another. The limits are those of document 01, "Sizes of things".
 ghost use mathlib.Core.Path.{_≡_};
+ghost use Prim.Native.Nat.{min};
 ghost use Rattle.units.specs.Units.{nodeOf, indexOf};
 
 // The greatest node.
@@ -69,6 +70,13 @@ impl LogIndex {
         } else {
             IndexAnswer::OutOfLimit
         }
+    }
+
+    // The earlier of two.
+    pub fn earlier(self, other: LogIndex) -> LogIndex
+        ensures { λ r. ⌜ r .0 ≡ min (self .0) (other .0) ⌝ }
+    {
+        if self.0 < other.0 { self } else { other }
     }
 }
 

@@ -2,7 +2,7 @@
 -- Assumes nothing.
 use Prim.Native.Nat.{ℕ, suc, _+_, _-_, _<_, _≤_}
 use native.Mathlib.Omega.{arith}
-use mathlib.Core.Path.{_≡_, refl, sym, _∙_, ap, subst, subst₂}
+use mathlib.Core.Path.{_≡_, refl, sym, _∙_, ap, subst}
 use mathlib.Core.Bool.{Bool, true, false, not, _&&_}
 use mathlib.Core.List.{List, [], _∷_, _++_}
 use lib.Dec.{eqb}
@@ -26,7 +26,7 @@ use Rattle.prefix_lookup.specs.Prefix.{storedOf, first}
 use Rattle.prefix_lookup.specs.declared.lookup.Stored.{Stored}
 use Rattle.units.specs.declared.LogPrefixWitness.{LogPrefixWitness}
 use Rattle.log_comparison.specs.Comparison.{sameFrom}
-use Rattle.view_judging.specs.Judging.{differs, other, isRemembered, noteOf, lackNotes, nextNumber, placeAt, frontAt, Stand, endsAt, placeFrom, storedNotes, ReachedAs, LackingAs, JudgedAs}
+use Rattle.view_judging.specs.Judging.{differs, other, isRemembered, noteOf, lackNotes, nextNumber, placeAt, frontAt, Stand, endsAt, placeFrom, storedNotes, ReachedAs, LackingAs}
 use Rattle.view_judging.specs.declared.judging.Place.{Place}
 use Rattle.prefix_lookup.proofs.StoredLaws.{stored-number, stored-nothing}
 use Rattle.log_violation.proofs.ViolationLaws.{Room, held-then, bytes-then, room-then}
@@ -84,10 +84,10 @@ module _ (s : Bytes) (k n i : ℕ) where
   one-more : 0 < n → n ≡ suc (n - 1)
   one-more h = omega arith
 
-  pub front-more : 0 < n → indexAt s k ≡ i → frontFrom i (entriesAt s k n) ≡ shownAt s k .entry ∷ frontFrom (i + 1) (entriesAt s (nextAt s k) (n - 1))
+  front-more : 0 < n → indexAt s k ≡ i → frontFrom i (entriesAt s k n) ≡ shownAt s k .entry ∷ frontFrom (i + 1) (entriesAt s (nextAt s k) (n - 1))
   front-more h e = ap (λ (m : ℕ). frontFrom i (entriesAt s k m)) (one-more h) ∙ front-suc s k (n - 1) i e
 
-  pub front-stop : 0 < n → (indexAt s k ≡ i → ⊥) → frontFrom i (entriesAt s k n) ≡ []
+  front-stop : 0 < n → (indexAt s k ≡ i → ⊥) → frontFrom i (entriesAt s k n) ≡ []
   front-stop h e = ap (λ (m : ℕ). frontFrom i (entriesAt s k m)) (one-more h) ∙ front-cut s k (n - 1) i e
 
   pub front-none : n ≤ 0 → frontFrom i (entriesAt s k n) ≡ []
@@ -134,20 +134,30 @@ module _ (s : Bytes) (at left i : ℕ) (w : Walk s at left) (h : 0 < left) (e : 
 
 -- ---- the walk along the stored prefixes
 
-pub record Judging (ps : Bytes) (count : ℕ) (s : Bytes) (entries node : ℕ) (t₀ : Bytes) (held : ℕ) (t : Bytes) (at left i p n : ℕ) : Type 0 where
-  pub place : placeFrom (prefixRow ps) count s firstEntry entries 1 0 ≡ placeFrom (prefixRow ps) count s at left i p
-  pub holds : heldAll t₀ held (storedNotes (prefixRow ps) count node s firstEntry entries 1 0) ≡ heldAll t n (storedNotes (prefixRow ps) count node s at left i p)
-  pub table : bytesAll t₀ held (storedNotes (prefixRow ps) count node s firstEntry entries 1 0) ≡ bytesAll t n (storedNotes (prefixRow ps) count node s at left i p)
+module _ (ps : Bytes) (count : ℕ) (s : Bytes) where
+  -- the place where it ends, and its LG-03, from a place on
+  abbrev End : Place → Place
+  End x = placeFrom (prefixRow ps) count s (x .at) (x .left) (x .index .0) (x .prefix .0)
+
+  abbrev Noted : ℕ → Place → List Finding
+  Noted node x = storedNotes (prefixRow ps) count node s (x .at) (x .left) (x .index .0) (x .prefix .0)
+
+pub record Judging (ps : Bytes) (count : ℕ) (s : Bytes) (entries node : ℕ) (t₀ : Bytes) (held : ℕ) (t : Bytes) (x : Place) (n : ℕ) : Type 0 where
+  pub place : End ps count s (placeAt firstEntry entries 1 0) ≡ End ps count s x
+  pub holds : heldAll t₀ held (Noted ps count s node (placeAt firstEntry entries 1 0)) ≡ heldAll t n (Noted ps count s node x)
+  pub table : bytesAll t₀ held (Noted ps count s node (placeAt firstEntry entries 1 0)) ≡ bytesAll t n (Noted ps count s node x)
   pub room : Room t n
-  pub stands : Stand s count (placeAt at left i p)
+  pub stands : Stand s count x
 
 module _ (ps : Bytes) (count : ℕ) (s : Bytes) (entries node : ℕ) (t₀ : Bytes) (held : ℕ) where
-  pub judging-starts : Walk s firstEntry entries → held ≤ 129 → length t₀ ≡ 1024 → Judging ps count s entries node t₀ held t₀ firstEntry entries 1 0 held
-  judging-starts w h l = record { place = refl; holds = refl; table = refl; room = record { few = h; long = l }; stands = first-stands s count entries w }
+  pub judging-starts : Walk s firstEntry entries → held ≤ 129 → length t₀ ≡ 1024 → (x : Place) → x ≡ placeAt firstEntry entries 1 0
+      → Judging ps count s entries node t₀ held t₀ x held
+  judging-starts w h l x ex =
+      subst (λ (y : Place). Judging ps count s entries node t₀ held t₀ y held) (sym ex)
+      (record { place = refl; holds = refl; table = refl; room = record { few = h; long = l }; stands = first-stands s count entries w })
 
-  module _ (t : Bytes) (at left i p n : ℕ) (j : Judging ps count s entries node t₀ held t at left i p n) where
-    ends : placeFrom (prefixRow ps) count s at left i p ≡ placeAt at left i p → storedNotes (prefixRow ps) count node s at left i p ≡ []
-        → ReachedAs ps count s entries node t₀ held n (placeAt at left i p) t
+  module _ (t : Bytes) (x : Place) (n : ℕ) (j : Judging ps count s entries node t₀ held t x n) where
+    ends : End ps count s x ≡ x → Noted ps count s node x ≡ [] → ReachedAs ps count s entries node t₀ held n x t
     unfolding heldAll bytesAll
     ends e z =
         record {
@@ -156,70 +166,77 @@ module _ (ps : Bytes) (count : ℕ) (s : Bytes) (entries node : ℕ) (t₀ : Byt
           table = sym (j .table ∙ ap (bytesAll t n) z);
         }
 
-    pub judging-none : left ≤ 0 → ReachedAs ps count s entries node t₀ held n (placeAt at left i p) t
+    -- the place with so many entries left
+    abbrev With : ℕ → Place
+    With m = placeAt (x .at) m (x .index .0) (x .prefix .0)
+
+    pub judging-none : x .left ≤ 0 → ReachedAs ps count s entries node t₀ held n x t
     unfolding placeFrom storedNotes
     judging-none l =
-        let z : left ≡ 0 = omega arith in
-        ends (ap (λ (m : ℕ). placeFrom (prefixRow ps) count s at m i p) z ∙ ap (λ (m : ℕ). placeAt at m i p) (sym z)) (ap (λ (m : ℕ). storedNotes (prefixRow ps) count node s at m i p) z)
+        let z : x ≡ With 0 = ap With (let y : x .left ≡ 0 = omega arith in y) in
+        ends (ap (End ps count s) z ∙ sym z) (ap (Noted ps count s node) z)
 
-    module _ (h : 0 < left) where
-      more : left ≡ suc (left - 1)
-      more = omega arith
+    module _ (h : 0 < x .left) where
+      one-left : x ≡ With (suc (x .left - 1))
+      one-left = ap With (let y : x .left ≡ suc (x .left - 1) = omega arith in y)
 
-      ends-here : endsAt (prefixRow ps) count s at i p ≡ true → ReachedAs ps count s entries node t₀ held n (placeAt at left i p) t
+      ends-here : endsAt (prefixRow ps) count s (x .at) (x .index .0) (x .prefix .0) ≡ true → ReachedAs ps count s entries node t₀ held n x t
       ends-here e =
           ends
-          (ap (λ (m : ℕ). placeFrom (prefixRow ps) count s at m i p) more ∙ place-stays (prefixRow ps) count s at i p (left - 1) e ∙ ap (λ (m : ℕ). placeAt at m i p) (sym more))
-          (ap (λ (m : ℕ). storedNotes (prefixRow ps) count node s at m i p) more ∙ stored-stays (prefixRow ps) count s at i p (left - 1) node e)
+          (ap (End ps count s) one-left ∙ place-stays (prefixRow ps) count s (x .at) (x .index .0) (x .prefix .0) (x .left - 1) e ∙ sym one-left)
+          (ap (Noted ps count s node) one-left ∙ stored-stays (prefixRow ps) count s (x .at) (x .index .0) (x .prefix .0) (x .left - 1) node e)
 
-      module _ (e : ShownEntry) (q : e ≡ shownEntry s at) where
-        index-read : e .index .0 ≡ indexAt s at
-        index-read = ap (λ (x : ShownEntry). x .index .0) q
+      module _ (e : ShownEntry) (q : e ≡ shownEntry s (x .at)) where
+        index-read : e .index .0 ≡ indexAt s (x .at)
+        index-read = ap (λ (y : ShownEntry). y .index .0) q
 
-        pub judging-gap : (e .index .0 ≡ i → ⊥) → ReachedAs ps count s entries node t₀ held n (placeAt at left i p) t
-        judging-gap g = ends-here (ends-gap (prefixRow ps) count s at i p (λ x. g (index-read ∙ x)))
+        pub judging-gap : (e .index .0 ≡ x .index .0 → ⊥) → ReachedAs ps count s entries node t₀ held n x t
+        judging-gap g = ends-here (ends-gap (prefixRow ps) count s (x .at) (x .index .0) (x .prefix .0) (λ y. g (index-read ∙ y)))
 
-        module _ (g : e .index .0 ≡ i) where
-          here-index : indexAt s at ≡ i
+        module _ (g : e .index .0 ≡ x .index .0) where
+          here-index : indexAt s (x .at) ≡ x .index .0
           here-index = sym index-read ∙ g
 
-          value : entryValue e ≡ shownAt s at .entry
-          value = entry-read s at e q (here s at left (j .stands .walk) h .short)
+          value : entryValue e ≡ shownAt s (x .at) .entry
+          value = entry-read s (x .at) e q (here s (x .at) (x .left) (j .stands .walk) h .short)
 
-          pub judging-lost : nextNumber (prefixRow ps) count p (entryValue e) ≡ 0 → ReachedAs ps count s entries node t₀ held n (placeAt at left i p) t
-          judging-lost z = ends-here (ends-lost (prefixRow ps) count s at i p here-index (ap (nextNumber (prefixRow ps) count p) (sym value) ∙ z))
+          pub judging-lost : nextNumber (prefixRow ps) count (x .prefix .0) (entryValue e) ≡ 0 → ReachedAs ps count s entries node t₀ held n x t
+          judging-lost z =
+              ends-here (ends-lost (prefixRow ps) count s (x .at) (x .index .0) (x .prefix .0) here-index (ap (nextNumber (prefixRow ps) count (x .prefix .0)) (sym value) ∙ z))
 
-          pub judging-next : (k : ℕ) → k ≡ nextNumber (prefixRow ps) count p (entryValue e) → (nextNumber (prefixRow ps) count p (entryValue e) ≡ 0 → ⊥)
+          pub judging-next : (k : ℕ) → k ≡ nextNumber (prefixRow ps) count (x .prefix .0) (entryValue e) → (nextNumber (prefixRow ps) count (x .prefix .0) (entryValue e) ≡ 0 → ⊥)
               → (b : Bool) → b ≡ other (prefixRow ps) count (e .index .0) (e .term .0) k
               → (n′ : ℕ) (t′ : Bytes) → (n′ ≡ heldAll t n (noteOf b node (e .index .0) (e .term .0))) × (t′ ≡ bytesAll t n (noteOf b node (e .index .0) (e .term .0)))
-              → Judging ps count s entries node t₀ held t′ (e .next) (left - 1) (i + 1) k n′
-          judging-next k ek z b eb n′ t′ en =
+              → (y : Place) → y ≡ placeAt (e .next) (x .left - 1) (x .index .0 + 1) k
+              → Judging ps count s entries node t₀ held t′ y n′
+          judging-next k ek z b eb n′ t′ en y ey =
               record {
-                place = j .place ∙ ap (λ (m : ℕ). placeFrom (prefixRow ps) count s at m i p) more ∙ place-goes (prefixRow ps) count s at i p (left - 1) goes
-                    ∙ (λ x. placeFrom (prefixRow ps) count s (after x) (left - 1) (i + 1) (number x));
+                place = j .place ∙ ap (End ps count s) one-left ∙ place-goes (prefixRow ps) count s (x .at) (x .index .0) (x .prefix .0) (x .left - 1) goes ∙ ap (End ps count s) after;
                 holds = j .holds ∙ ap (heldAll t n) noted ∙ held-then t n _ n′ t′ en _;
                 table = j .table ∙ ap (bytesAll t n) noted ∙ bytes-then t n _ n′ t′ en _;
                 room = room-then t n _ n′ t′ en (j .room);
-                stands = subst₂ (λ (x y : ℕ). Stand s count (placeAt x (left - 1) (i + 1) y)) after number
-                    (stand-next (prefixRow ps) count s (left - 1) at i p (subst (λ (m : ℕ). Stand s count (placeAt at m i p)) more (j .stands)) here-index);
+                stands = subst (Stand s count) after
+                    (stand-next (prefixRow ps) count s (x .left - 1) (x .at) (x .index .0) (x .prefix .0) (subst (Stand s count) one-left (j .stands)) here-index);
               }
             where
-              number : nextNumber (prefixRow ps) count p (shownAt s at .entry) ≡ k
-              number = ap (nextNumber (prefixRow ps) count p) (sym value) ∙ sym ek
+              number : nextNumber (prefixRow ps) count (x .prefix .0) (shownAt s (x .at) .entry) ≡ k
+              number = ap (nextNumber (prefixRow ps) count (x .prefix .0)) (sym value) ∙ sym ek
 
-              after : nextAt s at ≡ e .next
-              after = sym (ap (λ (x : ShownEntry). x .next) q)
+              next : nextAt s (x .at) ≡ e .next
+              next = sym (ap (λ (v : ShownEntry). v .next) q)
 
-              goes : endsAt (prefixRow ps) count s at i p ≡ false
-              goes = goes-on (prefixRow ps) count s at i p here-index (λ x. z (ap (nextNumber (prefixRow ps) count p) value ∙ x))
+              after : placeAt (nextAt s (x .at)) (x .left - 1) (x .index .0 + 1) (nextNumber (prefixRow ps) count (x .prefix .0) (shownAt s (x .at) .entry)) ≡ y
+              after = (λ i. placeAt (next i) (x .left - 1) (x .index .0 + 1) (number i)) ∙ sym ey
 
-              noted : storedNotes (prefixRow ps) count node s at left i p
-                  ≡ noteOf b node (e .index .0) (e .term .0) ++ storedNotes (prefixRow ps) count node s (e .next) (left - 1) (i + 1) k
+              goes : endsAt (prefixRow ps) count s (x .at) (x .index .0) (x .prefix .0) ≡ false
+              goes = goes-on (prefixRow ps) count s (x .at) (x .index .0) (x .prefix .0) here-index (λ v. z (ap (nextNumber (prefixRow ps) count (x .prefix .0)) value ∙ v))
+
+              noted : Noted ps count s node x ≡ noteOf b node (e .index .0) (e .term .0) ++ Noted ps count s node y
               noted =
-                  ap (λ (m : ℕ). storedNotes (prefixRow ps) count node s at m i p) more ∙ stored-goes (prefixRow ps) count s at i p (left - 1) node goes
-                  ∙ (let term = sym (ap (λ (x : ShownEntry). x .term .0) q) in
-                  λ x. noteOf (other (prefixRow ps) count (sym g x) (term x) (number x)) node (sym g x) (term x) ++ storedNotes (prefixRow ps) count node s (after x) (left - 1) (i + 1) (number x))
-                  ∙ ap (λ (y : Bool). noteOf y node (e .index .0) (e .term .0) ++ storedNotes (prefixRow ps) count node s (e .next) (left - 1) (i + 1) k) (sym eb)
+                  ap (Noted ps count s node) one-left ∙ stored-goes (prefixRow ps) count s (x .at) (x .index .0) (x .prefix .0) (x .left - 1) node goes
+                  ∙ (let term = sym (ap (λ (v : ShownEntry). v .term .0) q) in
+                  λ i. noteOf (other (prefixRow ps) count (sym g i) (term i) (number i)) node (sym g i) (term i) ++ Noted ps count s node (after i))
+                  ∙ ap (λ (v : Bool). noteOf v node (e .index .0) (e .term .0) ++ Noted ps count s node y) (sym eb)
 
 -- ---- the walk along the rest
 
@@ -228,83 +245,67 @@ lack-cons : (row : ℕ → PrefixRow) (n node i : ℕ) (e : Entry) (es : List En
 unfolding lackNotes
 lack-cons row n node i e es = refl
 
-pub record Lacking (ps : Bytes) (count : ℕ) (s : Bytes) (at₀ left₀ i₀ node : ℕ) (t₀ : Bytes) (held : ℕ) (t : Bytes) (at left i missing n : ℕ) : Type 0 where
-  pub lacks : length (frontFrom i₀ (entriesAt s at₀ left₀)) ≡ missing + length (frontFrom i (entriesAt s at left))
-  pub holds : heldAll t₀ held (lackNotes (prefixRow ps) count node i₀ (frontFrom i₀ (entriesAt s at₀ left₀)))
-      ≡ heldAll t n (lackNotes (prefixRow ps) count node i (frontFrom i (entriesAt s at left)))
-  pub table : bytesAll t₀ held (lackNotes (prefixRow ps) count node i₀ (frontFrom i₀ (entriesAt s at₀ left₀)))
-      ≡ bytesAll t n (lackNotes (prefixRow ps) count node i (frontFrom i (entriesAt s at left)))
-  pub room : Room t n
-  pub walk : Walk s at left
-  pub small : i ≤ 257
-  pub below : missing < i
+-- its LG-03, from a place on
+abbrev Lacked : Bytes → ℕ → Bytes → ℕ → Place → List Finding
+Lacked ps count s node x = lackNotes (prefixRow ps) count node (x .index .0) (frontAt s x)
 
-module _ (ps : Bytes) (count : ℕ) (s : Bytes) (at₀ left₀ i₀ node : ℕ) (t₀ : Bytes) (held : ℕ) where
-  pub lacking-starts : Walk s at₀ left₀ → 1 ≤ i₀ → i₀ ≤ 257 → held ≤ 129 → length t₀ ≡ 1024 → Lacking ps count s at₀ left₀ i₀ node t₀ held t₀ at₀ left₀ i₀ 0 held
-  lacking-starts w o m h l =
+pub record Lacking (ps : Bytes) (count : ℕ) (s : Bytes) (r : Place) (node : ℕ) (t₀ : Bytes) (held : ℕ) (t : Bytes) (x : Place) (missing n : ℕ) : Type 0 where
+  pub lacks : length (frontAt s r) ≡ missing + length (frontAt s x)
+  pub holds : heldAll t₀ held (Lacked ps count s node r) ≡ heldAll t n (Lacked ps count s node x)
+  pub table : bytesAll t₀ held (Lacked ps count s node r) ≡ bytesAll t n (Lacked ps count s node x)
+  pub room : Room t n
+  pub walk : Walk s (x .at) (x .left)
+  pub small : x .index .0 ≤ 257
+  pub below : missing < x .index .0
+
+module _ (ps : Bytes) (count : ℕ) (s : Bytes) (r : Place) (node : ℕ) (t₀ : Bytes) (held : ℕ) where
+  pub lacking-starts : Stand s count r → held ≤ 129 → length t₀ ≡ 1024 → Lacking ps count s r node t₀ held t₀ r 0 held
+  lacking-starts w h l =
       record {
         lacks = omega arith;
         holds = refl;
         table = refl;
         room = record { few = h; long = l };
-        walk = w;
-        small = m;
-        below = o;
+        walk = w .walk;
+        small = w .small;
+        below = w .positive;
       }
 
-  module _ (t : Bytes) (at left i missing n : ℕ) (j : Lacking ps count s at₀ left₀ i₀ node t₀ held t at left i missing n) where
-    pub lacking-ends : frontFrom i (entriesAt s at left) ≡ [] → LackingAs ps count s at₀ left₀ i₀ node t₀ held missing n t
+  module _ (t : Bytes) (x : Place) (missing n : ℕ) (j : Lacking ps count s r node t₀ held t x missing n) where
+    pub lacking-ends : frontAt s x ≡ [] → LackingAs ps count s (r .at) (r .left) (r .index .0) node t₀ held missing n t
     unfolding lackNotes heldAll bytesAll
     lacking-ends e =
         record {
           lack = (let a = j .lacks in let b = ap length e in omega arith);
-          holds = sym (j .holds ∙ ap (λ (es : List Entry). heldAll t n (lackNotes (prefixRow ps) count node i es)) e);
-          table = sym (j .table ∙ ap (λ (es : List Entry). bytesAll t n (lackNotes (prefixRow ps) count node i es)) e);
+          holds = sym (j .holds ∙ ap (λ (es : List Entry). heldAll t n (lackNotes (prefixRow ps) count node (x .index .0) es)) e);
+          table = sym (j .table ∙ ap (λ (es : List Entry). bytesAll t n (lackNotes (prefixRow ps) count node (x .index .0) es)) e);
         }
 
-    pub lacking-next : 0 < left → (e : ShownEntry) → e ≡ shownEntry s at → e .index .0 ≡ i
+    pub lacking-next : 0 < x .left → (e : ShownEntry) → e ≡ shownEntry s (x .at) → e .index .0 ≡ x .index .0
         → (b : Bool) → b ≡ isRemembered (prefixRow ps) count (e .index .0) (e .term .0)
         → (n′ : ℕ) (t′ : Bytes) → (n′ ≡ heldAll t n (noteOf b node (e .index .0) (e .term .0))) × (t′ ≡ bytesAll t n (noteOf b node (e .index .0) (e .term .0)))
-        → Lacking ps count s at₀ left₀ i₀ node t₀ held t′ (e .next) (left - 1) (i + 1) (missing + 1) n′
-    lacking-next h e q g b eb n′ t′ en =
-        record {
+        → (y : Place) → y ≡ placeAt (e .next) (x .left - 1) (x .index .0 + 1) (x .prefix .0)
+        → Lacking ps count s r node t₀ held t′ y (missing + 1) n′
+    lacking-next h e q g b eb n′ t′ en y ey =
+        subst (λ (v : Place). Lacking ps count s r node t₀ held t′ v (missing + 1) n′) (sym ey)
+        (record {
           lacks = (let a = j .lacks in let c = ap length steps in omega arith);
           holds = j .holds ∙ ap (heldAll t n) noted ∙ held-then t n _ n′ t′ en _;
           table = j .table ∙ ap (bytesAll t n) noted ∙ bytes-then t n _ n′ t′ en _;
           room = room-then t n _ n′ t′ en (j .room);
-          walk = walk-next s at left i (j .walk) h e q;
-          small = (let x = index-within s at left i (j .walk) h e q g in omega arith);
-          below = (let x = j .below in omega arith);
-        }
+          walk = walk-next s (x .at) (x .left) (x .index .0) (j .walk) h e q;
+          small = (let v = index-within s (x .at) (x .left) (x .index .0) (j .walk) h e q g in omega arith);
+          below = (let v = j .below in omega arith);
+        })
       where
-        F : List Entry
-        F = frontFrom (i + 1) (entriesAt s (e .next) (left - 1))
+        after : Place
+        after = placeAt (e .next) (x .left - 1) (x .index .0 + 1) (x .prefix .0)
 
-        steps : frontFrom i (entriesAt s at left) ≡ entryValue e ∷ F
-        steps = front-shown s at left i e (j .walk) h q g
+        steps : frontAt s x ≡ entryValue e ∷ frontAt s after
+        steps = front-shown s (x .at) (x .left) (x .index .0) e (j .walk) h q g
 
-        noted : lackNotes (prefixRow ps) count node i (frontFrom i (entriesAt s at left))
-            ≡ noteOf b node (e .index .0) (e .term .0) ++ lackNotes (prefixRow ps) count node (i + 1) F
+        noted : Lacked ps count s node x ≡ noteOf b node (e .index .0) (e .term .0) ++ Lacked ps count s node after
         noted =
-            ap (lackNotes (prefixRow ps) count node i) steps ∙ lack-cons (prefixRow ps) count node i (entryValue e) F
-            ∙ (λ x. noteOf (isRemembered (prefixRow ps) count (sym g x) (e .term .0)) node (sym g x) (e .term .0) ++ lackNotes (prefixRow ps) count node (i + 1) F)
-            ∙ ap (λ (x : Bool). noteOf x node (e .index .0) (e .term .0) ++ lackNotes (prefixRow ps) count node (i + 1) F) (sym eb)
-
--- ---- both walks
-
-pub judged-both : (ps : Bytes) (count : ℕ) (s : Bytes) (n node : ℕ) (t : Bytes) (held held₁ : ℕ) (r : Place) (t₁ : Bytes)
-    → ReachedAs ps count s n node t held held₁ r t₁ → (missing held₂ : ℕ) (t₂ : Bytes) → LackingAs ps count s (r .at) (r .left) (r .index .0) node t₁ held₁ missing held₂ t₂
-    → JudgedAs ps count s n node t held missing held₂ r t₂
-judged-both ps count s n node t held held₁ r t₁ a missing held₂ t₂ b =
-    record {
-      place = a .place;
-      lack = b .lack;
-      holds = b .holds ∙ sym (held-then t held N held₁ t₁ (a .holds, a .table) (R r)) ∙ ap (λ (x : Place). heldAll t held (N ++ R x)) (a .place);
-      table = b .table ∙ sym (bytes-then t held N held₁ t₁ (a .holds, a .table) (R r)) ∙ ap (λ (x : Place). bytesAll t held (N ++ R x)) (a .place);
-    }
-  where
-    N : List Finding
-    N = storedNotes (prefixRow ps) count node s firstEntry n 1 0
-
-    R : Place → List Finding
-    R x = lackNotes (prefixRow ps) count node (x .index .0) (frontAt s x)
+            ap (lackNotes (prefixRow ps) count node (x .index .0)) steps ∙ lack-cons (prefixRow ps) count node (x .index .0) (entryValue e) (frontAt s after)
+            ∙ (λ i. noteOf (isRemembered (prefixRow ps) count (sym g i) (e .term .0)) node (sym g i) (e .term .0) ++ Lacked ps count s node after)
+            ∙ ap (λ (v : Bool). noteOf v node (e .index .0) (e .term .0) ++ Lacked ps count s node after) (sym eb)

@@ -112,13 +112,6 @@ pub record LackingAs (ps : Bytes) (count : ℕ) (s : Bytes) (at left i node : �
   pub holds : held′ ≡ heldAll t held (lackNotes (prefixRow ps) count node i (frontFrom i (entriesAt s at left)))
   pub table : t′ ≡ bytesAll t held (lackNotes (prefixRow ps) count node i (frontFrom i (entriesAt s at left)))
 
--- both: where the missing prefixes begin, how many they are, and the findings with the view's LG-03
-pub record JudgedAs (ps : Bytes) (count : ℕ) (s : Bytes) (n node : ℕ) (t : Bytes) (held missing held′ : ℕ) (r : Place) (t′ : Bytes) : Type 0 where
-  pub place : r ≡ placeFrom (prefixRow ps) count s firstEntry n 1 0
-  pub lack : missing ≡ length (frontAt s r)
-  pub holds : held′ ≡ heldAll t held (notesFrom (prefixRow ps) count node s firstEntry n 1 0)
-  pub table : t′ ≡ bytesAll t held (notesFrom (prefixRow ps) count node s firstEntry n 1 0)
-
 -- ---- a view of m entries against a history
 
 -- the place before the first prefix that is not stored

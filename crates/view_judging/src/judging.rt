@@ -1,13 +1,13 @@
 // A view judged along its front (`observe_entries` of observation.rs), with nothing written: first as far as its prefixes are
 // stored, then the rest, where none is.
 ghost use mathlib.Core.Path.{_≡_};
-ghost use Prim.Native.Nat.{_≤_};
+ghost use Prim.Native.Nat.{_+_, _-_, _≤_};
 ghost use lib.ListN.{length};
 ghost use Rattle.record_scan.specs.Places.{Walk, firstEntry};
 ghost use Rattle.storage.specs.Tables.{prefixRow};
 ghost use Rattle.prefix_lookup.specs.Table.{Table};
 ghost use Rattle.log_violation.specs.Violation.{heldAll, bytesAll};
-ghost use Rattle.view_judging.specs.Judging.{other, isRemembered, noteOf, Stand, ReachedAs, LackingAs, JudgedAs, Observing, ViewJudged};
+ghost use Rattle.view_judging.specs.Judging.{other, isRemembered, noteOf, placeAt, Stand, ReachedAs, LackingAs, Observing, ViewJudged};
 use log_comparison::comparison::same_prefix;
 use log_violation::violation::copy_findings;
 use log_violation::violation::note;
@@ -17,9 +17,7 @@ use prefix_lookup::lookup::first_of;
 use record_walk::walk::FIRST_ENTRY;
 use record_walk::walk::entry_at;
 use storage::head::prefix_count;
-use storage_bytes::layout::PREFIXES_LENGTH;
-use storage_bytes::layout::PREFIXES_START;
-use storage_bytes::layout::part;
+use storage_bytes::layout::prefix_table;
 use table_rows::findings::Found;
 use table_rows::findings::LG_03;
 use units::LogIndex;
@@ -50,10 +48,35 @@ struct Lacking {
 
 // What judging gives: how many prefixes of the front are not stored, how many findings are held, and the place before the
 // first prefix that is not stored.
-pub struct Judged {
+pub struct JudgedView {
     pub missing: usize,
     pub held: usize,
     pub rest: Place,
+}
+
+// The place before the first of `entries` entries.
+fn first_place(entries: usize) -> Place
+    ensures { λ r. ⌜ r ≡ placeAt firstEntry entries 1 0 ⌝ }
+{
+    Place {
+        at: FIRST_ENTRY,
+        left: entries,
+        index: LogIndex(1),
+        prefix: LogPrefixWitness::EMPTY,
+    }
+}
+
+// The place behind one entry more, which ends before the bit `at`; `prefix` is the one before it then.
+pub fn place_after(here: Place, at: usize, prefix: LogPrefixWitness) -> Place
+    requires { ⌜ (1 ≤ here .left) × (here .index .0 ≤ 257) ⌝ }
+    ensures { λ r. ⌜ r ≡ placeAt at (here .left - 1) (here .index .0 + 1) (prefix .0) ⌝ }
+{
+    Place {
+        at,
+        left: here.left - 1,
+        index: LogIndex(here.index.0 + 1),
+        prefix,
+    }
 }
 
 // Another prefix than the given one is remembered for the index and term.
@@ -72,10 +95,11 @@ fn is_remembered(prefixes: &[u8], count: usize, index: LogIndex, term: Term) -> 
     requires { ⌜ Table (now prefixes) count × (1 ≤ index .0) ⌝ }
     ensures { λ r. ⌜ r ≡ isRemembered (prefixRow (now (prefixes .entry))) count (index .0) (term .0) ⌝ }
 {
-    let Stored::Prefix(_) = first_of(prefixes, count, index, term) else {
-        return false;
-    };
-    true
+    let remembered = first_of(prefixes, count, index, term);
+    match remembered {
+        Stored::Prefix(_) => true,
+        Stored::Nothing => false,
+    }
 }
 
 // LG-03 is noted where another prefix is remembered (`reconcile_prefix`).
@@ -116,33 +140,24 @@ fn judge_stored(
     requires { ⌜ Table (now prefixes) count × Walk (now view) firstEntry entries × (held ≤ 129) × (length (now findings) ≡ 1024) ⌝ }
     ensures { λ r. ⌜ ReachedAs (now (prefixes .entry)) count (now (view .entry)) entries (node .0) (now (findings .entry)) held (r .held) (r .rest) (now (findings .exit)) ⌝ }
 {
-    let mut at = FIRST_ENTRY;
-    let mut left = entries;
-    let mut i = 1;
-    let mut p = LogPrefixWitness::EMPTY;
+    let mut here = first_place(entries);
     let mut n = held;
-    while 0 < left {
-        let e = entry_at(view, at);
-        if e.index.0 != i {
+    while 0 < here.left {
+        let e = entry_at(view, here.at);
+        if e.index.0 != here.index.0 {
             break;
         }
-        let Stored::Prefix(next) = find_extension(prefixes, count, p, e) else {
+        let Stored::Prefix(next) = find_extension(prefixes, count, here.prefix, e) else {
             break;
         };
         let differs = is_other(prefixes, count, e.index, e.term, next);
         n = note_other(&mut findings[..], n, differs, node, e.index, e.term);
-        p = next;
-        i += 1;
-        at = e.next;
-        left -= 1;
+        here = place_after(here, e.next, next);
     }
-    let rest = Place {
-        at,
-        left,
-        index: LogIndex(i),
-        prefix: p,
-    };
-    Reached { held: n, rest }
+    Reached {
+        held: n,
+        rest: here,
+    }
 }
 
 // The walk along the rest of the front, whose prefixes are not stored: how many they are, and its LG-03.
@@ -158,39 +173,36 @@ fn judge_missing(
     requires { ⌜ Table (now prefixes) count × Stand (now view) count rest × (held ≤ 129) × (length (now findings) ≡ 1024) ⌝ }
     ensures { λ r. ⌜ LackingAs (now (prefixes .entry)) count (now (view .entry)) (rest .at) (rest .left) (rest .index .0) (node .0) (now (findings .entry)) held (r .missing) (r .held) (now (findings .exit)) ⌝ }
 {
-    let mut at = rest.at;
-    let mut left = rest.left;
-    let mut i = rest.index.0;
+    let mut here = rest;
     let mut missing = 0;
     let mut n = held;
-    while 0 < left {
-        let e = entry_at(view, at);
-        if e.index.0 != i {
+    while 0 < here.left {
+        let e = entry_at(view, here.at);
+        if e.index.0 != here.index.0 {
             break;
         }
         let differs = is_remembered(prefixes, count, e.index, e.term);
         n = note_other(&mut findings[..], n, differs, node, e.index, e.term);
         missing += 1;
-        i += 1;
-        at = e.next;
-        left -= 1;
+        here = place_after(here, e.next, here.prefix);
     }
     Lacking { missing, held: n }
 }
 
-// Both walks.
-fn judge(
-    prefixes: &[u8],
-    count: usize,
+// A view is judged against the history, on a copy of its findings, by both walks.
+pub fn judge_view(
+    history: &[u8],
     view: &[u8],
     entries: usize,
     node: NodeId,
     findings: &mut [u8],
-    held: usize,
-) -> Judged
-    requires { ⌜ Table (now prefixes) count × Walk (now view) firstEntry entries × (held ≤ 129) × (length (now findings) ≡ 1024) ⌝ }
-    ensures { λ r. ⌜ JudgedAs (now (prefixes .entry)) count (now (view .entry)) entries (node .0) (now (findings .entry)) held (r .missing) (r .held) (r .rest) (now (findings .exit)) ⌝ }
+) -> JudgedView
+    requires { ⌜ Observing (now history) (now view) entries (node .0) × (length (now findings) ≡ 1024) ⌝ }
+    ensures { λ r. ⌜ ViewJudged (now (history .entry)) (now (view .entry)) entries (node .0) (r .missing) (r .held) (r .rest) (now (findings .exit)) ⌝ }
 {
+    let count = prefix_count(history);
+    let held = copy_findings(history, &mut findings[..]);
+    let prefixes = prefix_table(history);
     let stored = judge_stored(
         prefixes,
         count,
@@ -210,34 +222,9 @@ fn judge(
         &mut findings[..],
         stored.held,
     );
-    Judged {
+    JudgedView {
         missing: lacking.missing,
         held: lacking.held,
         rest,
     }
-}
-
-// A view is judged against the history, on a copy of its findings.
-pub fn judge_view(
-    history: &[u8],
-    view: &[u8],
-    entries: usize,
-    node: NodeId,
-    findings: &mut [u8],
-) -> Judged
-    requires { ⌜ Observing (now history) (now view) entries (node .0) × (length (now findings) ≡ 1024) ⌝ }
-    ensures { λ r. ⌜ ViewJudged (now (history .entry)) (now (view .entry)) entries (node .0) (r .missing) (r .held) (r .rest) (now (findings .exit)) ⌝ }
-{
-    let count = prefix_count(history);
-    let held = copy_findings(history, &mut findings[..]);
-    let prefixes = part(history, PREFIXES_START, PREFIXES_LENGTH);
-    judge(
-        prefixes,
-        count,
-        view,
-        entries,
-        node,
-        &mut findings[..],
-        held,
-    )
 }

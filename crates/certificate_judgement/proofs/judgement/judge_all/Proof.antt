@@ -19,8 +19,8 @@ abbrev μ-loop : tie.MeasureT-loop
 certificate-count-requires : tie.Need-certificate-count-requires Inv-loop μ-loop
 certificate-count-requires c κs = let l = formed _ (c .before .before .pre .0 .right) .long in omega arith
 
-part-requires : tie.Need-part-requires Inv-loop μ-loop
-part-requires c κs = let l = formed _ (c .before .before .before .pre .0 .right) .long in omega arith
+certificate-table-requires : tie.Need-certificate-table-requires Inv-loop μ-loop
+certificate-table-requires c κs = let l = formed _ (c .before .before .before .pre .0 .right) .long in omega arith
 
 loop-holds : tie.Need-loop-holds Inv-loop μ-loop
 loop-holds c =
@@ -32,7 +32,7 @@ certificate-at-requires c κs =
     let o = formed _ (c .before .before .before .before .before .before .pre .0 .right) .certificates in
     let n = c .before .before .before .certificate-count .ensures .is in
     let l = c .loop-test .taken in
-    (omega arith, c .before .before .part .ensures .long)
+    (omega arith, c .before .before .certificate-table .ensures .long)
 
 judge-requires : tie.Need-judge-requires Inv-loop μ-loop
 judge-requires c κs =
@@ -42,7 +42,7 @@ judge-requires c κs =
       record {
         right = s .pre .0 .right;
         committed = s .pre .0 .committed;
-        stored = row-stored (s .args .history .now) _ _ (formed _ (s .pre .0 .right)) (omega arith) _ (c .before .before .before .before .part .ensures .is) (c .before .certificate-at .ensures);
+        stored = row-stored (s .args .history .now) _ _ (formed _ (s .pre .0 .right)) (omega arith) _ (c .before .before .before .before .certificate-table .ensures .is) (c .before .certificate-at .ensures);
         long = c .before .before .before .loop .inv .room .long;
         few = c .before .before .before .loop .inv .room .few;
       },
@@ -59,7 +59,7 @@ loop-again : tie.Need-loop-again Inv-loop μ-loop
 loop-again c =
     let l = c .before .before .before .before .before .before in
     let s = l .before .before .before .before .before .args in
-    walking-next (s .history .now) (s .findings .now) (s .held) _ (l .loop .findings) (l .loop .earlier .flags) (l .loop .earlier .held) (l .loop .k) (l .loop .inv) (c .before .before .before .before .before .loop-test .taken) _ (row-here (s .history .now) _ _ _ (l .before .part .ensures .is) (c .before .before .before .before .certificate-at .ensures)) _ _ _ (c .before .before .judge .ensures)
+    walking-next (s .history .now) (s .findings .now) (s .held) _ (l .loop .findings) (l .loop .earlier .flags) (l .loop .earlier .held) (l .loop .k) (l .loop .inv) (c .before .before .before .before .before .loop-test .taken) _ (row-here (s .history .now) _ _ _ (l .before .certificate-table .ensures .is) (c .before .before .before .before .certificate-at .ensures)) _ _ _ (c .before .before .judge .ensures)
 
 same-length : tie.Need-same-length Inv-loop μ-loop
 same-length c = c .before .loop .inv .room .long ∙ sym (c .before .before .before .before .before .before .pre .0 .long)
@@ -77,7 +77,7 @@ judge-all-spec =
     Inv-loop
     μ-loop
     certificate-count-requires
-    part-requires
+    certificate-table-requires
     loop-holds
     certificate-at-requires
     judge-requires

@@ -32,13 +32,6 @@ sub-term-at-2 c = search needs
 term-at-requires : tie.Need-term-at-requires Inv-loop μ-loop
 term-at-requires c κs = search needs
 
-returns : tie.Need-returns Inv-loop μ-loop
-returns c =
-    let r = c .before .before .before in
-    let l = r .before .before in
-    let s = l .before .before .args in
-    held-stop (certificateRow (s .certificates .now)) (s .term .0) (s .place) (l .loop .held) (l .loop .inv .1) (r .before .loop-test .taken) _ (r .term-at .ensures) (c .if1 .taken)
-
 add-held : tie.Need-add-held Inv-loop μ-loop
 add-held c = search needs
 
@@ -51,8 +44,15 @@ loop-again c =
     let l = r .before .before in
     let s = l .before .before .args in (
       omega arith,
-      held-next (certificateRow (s .certificates .now)) (s .term .0) (s .place) (l .loop .held) (l .loop .inv .1) (r .before .loop-test .taken) _ (r .term-at .ensures) (c .if1 .left),
+      held-next (certificateRow (s .certificates .now)) (s .term .0) (s .place) (l .loop .held) (l .loop .inv .1) (r .before .loop-test .taken) _ (r .term-at .ensures) (c .if1 .taken),
     )
+
+returns : tie.Need-returns Inv-loop μ-loop
+returns c =
+    let r = c .before .before .before in
+    let l = r .before .before in
+    let s = l .before .before .args in
+    held-stop (certificateRow (s .certificates .now)) (s .term .0) (s .place) (l .loop .held) (l .loop .inv .1) (r .before .loop-test .taken) _ (r .term-at .ensures) (c .if1 .left)
 
 returns-2 : tie.Need-returns-2 Inv-loop μ-loop
 returns-2 c =
@@ -70,8 +70,8 @@ held-of-spec =
     sub-term-at
     sub-term-at-2
     term-at-requires
-    returns
     add-held
     loop-less
     loop-again
+    returns
     returns-2)

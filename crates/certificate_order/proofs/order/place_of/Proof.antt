@@ -26,13 +26,6 @@ sub-term-at c = search needs
 term-at-requires : tie.Need-term-at-requires Inv-loop μ-loop
 term-at-requires c κs = search needs
 
-returns : tie.Need-returns Inv-loop μ-loop
-returns c =
-    let r = c .before .before .before in
-    let l = r .before .before in
-    let s = l .before .before .args in
-    place-stop (certificateRow (s .certificates .now)) (s .term .0) (s .n) (l .loop .place) (l .loop .inv .1) (r .before .loop-test .taken) _ (r .term-at .ensures) (c .if1 .taken)
-
 sub-place : tie.Need-sub-place Inv-loop μ-loop
 sub-place c = search needs
 
@@ -45,8 +38,15 @@ loop-again c =
     let l = r .before .before in
     let s = l .before .before .args in (
       omega arith,
-      place-next (certificateRow (s .certificates .now)) (s .term .0) (s .n) (l .loop .place) (l .loop .inv .1) (r .before .loop-test .taken) _ (r .term-at .ensures) (c .if1 .left),
+      place-next (certificateRow (s .certificates .now)) (s .term .0) (s .n) (l .loop .place) (l .loop .inv .1) (r .before .loop-test .taken) _ (r .term-at .ensures) (c .if1 .taken),
     )
+
+returns : tie.Need-returns Inv-loop μ-loop
+returns c =
+    let r = c .before .before .before in
+    let l = r .before .before in
+    let s = l .before .before .args in
+    place-stop (certificateRow (s .certificates .now)) (s .term .0) (s .n) (l .loop .place) (l .loop .inv .1) (r .before .loop-test .taken) _ (r .term-at .ensures) (c .if1 .left)
 
 returns-2 : tie.Need-returns-2 Inv-loop μ-loop
 returns-2 c =
@@ -63,8 +63,8 @@ place-of-spec =
     loop-holds
     sub-term-at
     term-at-requires
-    returns
     sub-place
     loop-less
     loop-again
+    returns
     returns-2)

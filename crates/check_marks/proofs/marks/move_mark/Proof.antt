@@ -18,8 +18,8 @@ returns c =
     let s = c .before .before .before .before .before .before .args in
     mark-stays (s .history .now) (s .k) (s .end .0) _ (c .before .before .before .checked-mark .ensures) (c .if1 .taken)
 
-part-requires : tie.Need-part-requires
-part-requires c κs = search needs
+certificate-table-requires : tie.Need-certificate-table-requires
+certificate-table-requires c κs = search needs
 
 certificate-at-requires : tie.Need-certificate-at-requires
 certificate-at-requires c κs = search needs
@@ -27,8 +27,8 @@ certificate-at-requires c κs = search needs
 with-mark-requires : tie.Need-with-mark-requires
 with-mark-requires c κs = search needs
 
-set-mark-requires : tie.Need-set-mark-requires
-set-mark-requires c κs = let s = c .before .before .before .before .before .before .before .before .before .before .before in (omega (arith, s .pre .0), s .pre .1)
+store-mark-requires : tie.Need-store-mark-requires
+store-mark-requires c κs = let s = c .before .before .before .before .before .before .before .before .before .before .before in (omega (arith, s .pre .0), s .pre .1)
 
 same-length-2 : tie.Need-same-length-2
 same-length-2 c = search needs
@@ -36,7 +36,7 @@ same-length-2 c = search needs
 returns-2 : tie.Need-returns-2
 returns-2 c =
     let s = c .before .before .before .before .before .before .before .before .before .before .before .before .before .before .args in
-    mark-passed (s .history .now) (s .k) (s .end .0) _ (c .before .before .before .before .before .before .before .before .before .before .before .checked-mark .ensures) (c .before .before .before .before .before .before .before .before .if1 .left) (certificateValue (c .before .before .before .before .before .certificate-at .result)) (certificateValue (c .before .before .before .before .with-mark .result)) (c .before .before .before .before .with-mark .ensures) _ (c .before .before .set-mark .ensures)
+    mark-passed (s .history .now) (s .k) (s .end .0) _ (c .before .before .before .before .before .before .before .before .before .before .before .checked-mark .ensures) (c .before .before .before .before .before .before .before .before .if1 .left) (certificateValue (c .before .before .before .before .before .certificate-at .result)) (certificateValue (c .before .before .before .before .with-mark .result)) (c .before .before .before .before .with-mark .ensures) _ (c .before .before .store-mark .ensures)
 
 pub move-mark-spec : {M : Type 1} → statement M
 move-mark-spec =
@@ -45,9 +45,9 @@ move-mark-spec =
     checked-mark-requires
     same-length
     returns
-    part-requires
+    certificate-table-requires
     certificate-at-requires
     with-mark-requires
-    set-mark-requires
+    store-mark-requires
     same-length-2
     returns-2)

@@ -35,7 +35,7 @@ returns c =
 
 set-unseen-requires-2 : tie.Need-set-unseen-requires-2
 set-unseen-requires-2 c κs =
-    let s = c .before .before .before .before .before .before .before .before .before in
+    let s = c .before .before .before .before .before .before .before .before .before .before in
     (s .pre .1, formed _ (s .pre .0) .long)
 
 same-length-2 : tie.Need-same-length-2
@@ -43,13 +43,11 @@ same-length-2 c = ap length (c .before .before .set-unseen2 .ensures) ∙ unseen
 
 returns-2 : tie.Need-returns-2
 returns-2 c =
-    let s = c .before .before .before .before .before .before .before .before .before .before .before .before in
-    observe-zero (s .args .history .now) (s .args .node .0) (s .args .index .0) _ (c .before .before .before .before .before .before .before .before .before .front-through .ensures) _ (c .before .before .before .before .before .before .before .seen .given .1) (c .before .before .before .before .if1 .taken) _ (c .before .before .set-unseen2 .ensures)
+    let s = c .before .before .before .before .before .before .before .before .before .before .before .before .before in
+    observe-zero (s .args .history .now) (s .args .node .0) (s .args .index .0) _ (c .before .before .before .before .before .before .before .before .before .before .front-through .ensures) _ (c .before .before .before .before .before .before .before .before .seen .given .1) (c .before .before .before .before .if1 .taken) _ (c .before .before .set-unseen2 .ensures)
 
 committed-prefix-requires : tie.Need-committed-prefix-requires
-committed-prefix-requires c κs =
-    let l = formed _ (c .before .before .before .before .before .before .before .before .before .pre .0) .long in
-    omega arith
+committed-prefix-requires c κs = let l = formed _ (c .before .before .before .before .before .before .before .before .before .before .pre .0) .long in omega arith
 
 enum-known-committed : tie.Need-enum-known-committed
 enum-known-committed c = search needs
@@ -59,7 +57,7 @@ enum-told-2 c = search needs
 
 keep-requires : tie.Need-keep-requires
 keep-requires c κs =
-    let s = c .before .before .before .before .before .before .before .before .before .before .before .before .before in
+    let s = c .before .before .before .before .before .before .before .before .before .before .before .before .before .before in
     (s .pre .1, formed _ (s .pre .0) .long)
 
 same-length-3 : tie.Need-same-length-3
@@ -67,22 +65,27 @@ same-length-3 c = ap length (c .before .before .keep .ensures) ∙ keep-length _
 
 returns-3 : tie.Need-returns-3
 returns-3 c =
-    let s = c .before .before .before .before .before .before .before .before .before .before .before .before .before .before .before .before in
-    observe-first (s .args .history .now) (s .args .node .0) (s .args .index .0) _ (c .before .before .before .before .before .before .before .before .before .before .before .before .before .front-through .ensures) _ (c .before .before .before .before .before .before .before .before .before .before .before .seen .given .1) (c .before .before .before .before .before .before .before .before .if1 .left) _ (c .before .before .before .before .before .before .committed-prefix .ensures) (c .before .before .before .before .enum-told2 .given .1) _ (c .before .before .keep .ensures)
+    let s = c .before .before .before .before .before .before .before .before .before .before .before .before .before .before .before .before .before in
+    observe-first (s .args .history .now) (s .args .node .0) (s .args .index .0) _ (c .before .before .before .before .before .before .before .before .before .before .before .before .before .before .front-through .ensures) _ (c .before .before .before .before .before .before .before .before .before .before .before .before .seen .given .1) (c .before .before .before .before .before .before .before .before .if1 .left) _ (c .before .before .before .before .before .before .committed-prefix .ensures) (c .before .before .before .before .enum-told2 .given .1) _ (c .before .before .keep .ensures)
 
 insert-committed-prefix-requires : tie.Need-insert-committed-prefix-requires
 insert-committed-prefix-requires c κs =
-    let s = c .before .before .before .before .before .before .before .before .before .before .before .before .before .before in
-    let f = formed _ (s .pre .0) in
-    (s .pre .0, s .pre .1, kept-within (s .args .history .now) f _ (c .before .before .before .before .committed-prefix .ensures) _ (c .before .before .committed .given .1), through-stored (s .args .history .now) (s .args .node .0) (s .args .index .0) _ f (s .pre .1) (sym (c .before .before .before .before .before .before .before .before .before .before .before .front-through .ensures) ∙ c .before .before .before .before .before .before .before .before .before .seen .given .1))
+    let s = c .before .before .before .before .before .before .before .before .before .before .before .before .before .before .before in
+    let h = s .args .history .now in
+    let f = formed h (s .pre .0) in (
+      s .pre .0,
+      s .pre .1,
+      kept-within h f _ (c .before .before .before .before .committed-prefix .ensures) _ (c .before .before .committed .given .1),
+      through-stored h (s .args .node .0) (s .args .index .0) _ f (s .pre .1) (sym (c .before .before .before .before .before .before .before .before .before .before .before .before .front-through .ensures) ∙ c .before .before .before .before .before .before .before .before .before .before .seen .given .1),
+    )
 
 same-length-4 : tie.Need-same-length-4
 same-length-4 c = ap length (c .before .before .insert-committed-prefix .ensures .leaves) ∙ insert-leaves-length _ _ _ _
 
 returns-4 : tie.Need-returns-4
 returns-4 c =
-    let s = c .before .before .before .before .before .before .before .before .before .before .before .before .before .before .before .before .before in
-    observe-later (s .args .history .now) (s .args .node .0) (s .args .index .0) _ (c .before .before .before .before .before .before .before .before .before .before .before .before .before .before .front-through .ensures) _ (c .before .before .before .before .before .before .before .before .before .before .before .before .seen .given .1) (c .before .before .before .before .before .before .before .before .before .if1 .left) _ (c .before .before .before .before .before .before .before .committed-prefix .ensures) _ (c .before .before .before .before .before .committed .given .1) _ _ (c .before .before .insert-committed-prefix .ensures)
+    let s = c .before .before .before .before .before .before .before .before .before .before .before .before .before .before .before .before .before .before in
+    observe-later (s .args .history .now) (s .args .node .0) (s .args .index .0) _ (c .before .before .before .before .before .before .before .before .before .before .before .before .before .before .before .front-through .ensures) _ (c .before .before .before .before .before .before .before .before .before .before .before .before .before .seen .given .1) (c .before .before .before .before .before .before .before .before .before .if1 .left) _ (c .before .before .before .before .before .before .before .committed-prefix .ensures) _ (c .before .before .before .before .before .committed .given .1) _ _ (c .before .before .insert-committed-prefix .ensures)
 
 pub observe-committed-prefixes-spec : {M : Type 1} → statement M
 observe-committed-prefixes-spec =

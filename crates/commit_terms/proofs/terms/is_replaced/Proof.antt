@@ -8,10 +8,10 @@ use Rattle.commit_terms.proofs.terms.is_replaced.Statement.{statement}
 use Rattle.commit_terms.proofs.terms.is_replaced.Tie as tie
 
 returns : tie.Need-returns
-returns c = eq-eqb _ _ (c .if2 .taken) ∙ replaced-zero _ _ (c .before .before .if1 .taken) (c .if2 .taken)
+returns c = eq-eqb _ _ (c .if2 .taken) ∙ replaced-zero _ _ (c .before .before .before .if1 .taken) (c .if2 .taken)
 
 returns-2 : tie.Need-returns-2
-returns-2 c = replaced-greater _ _ (c .before .before .before .before .if1 .taken) (c .before .before .if2 .left)
+returns-2 c = replaced-greater _ _ (c .before .before .before .before .before .if1 .taken) (c .before .before .if2 .left)
 
 returns-3 : tie.Need-returns-3
 returns-3 c = ap not (eq-eqb _ _ (c .if1 .left)) ∙ replaced-none _ _ (c .if1 .left)

@@ -9,8 +9,8 @@ use Rattle.committed_prefix.proofs.committed.set_unseen.Tie as tie
 cast-k : tie.Need-cast-k
 cast-k c = search needs
 
-part-requires : tie.Need-part-requires
-part-requires c κs = search needs
+node-table-requires : tie.Need-node-table-requires
+node-table-requires c κs = search needs
 
 node-at-requires : tie.Need-node-at-requires
 node-at-requires c κs = search needs
@@ -23,10 +23,11 @@ same-length c = search needs
 
 returns : tie.Need-returns
 returns c =
-    let s = c .before .before .before .before .before .before .before .before .before .before .before .args in
-    unseen-is (s .history .now) (s .node .0) _ (c .before .before .before .before .before .before .before .part .ensures .is) (nodeValue (c .before .before .before .before .before .before .node-at .result)) (c .before .before .before .before .before .before .node-at .ensures) (s .mark .0) _ (c .before .before .set-node .ensures)
+    let s = c .before .before .before .before .before .before .before .before .before .args in
+    let x = c .before .before .before .before .node-at in
+    unseen-is (s .history .now) (s .node .0) _ (c .before .before .before .before .before .node-table .ensures .is) (nodeValue (x .result)) (x .ensures) (s .mark .0) _ (c .before .before .set-node .ensures)
 
 pub set-unseen-spec : {M : Type 1} → statement M
 set-unseen-spec =
     tie.close
-    (tie.spec cast-k part-requires node-at-requires set-node-requires same-length returns)
+    (tie.spec cast-k node-table-requires node-at-requires set-node-requires same-length returns)

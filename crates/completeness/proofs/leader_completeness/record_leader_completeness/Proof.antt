@@ -30,8 +30,8 @@ returns c =
     let s = p .before .before .before in
     checked-nothing (s .args .history .now) _ (p .committed-prefix .ensures) (c .enum-told .given .1)
 
-part-requires : tie.Need-part-requires
-part-requires c κs = let l = formed _ (c .before .before .before .before .before .before .before .pre) .long in omega arith
+prefix-table-requires : tie.Need-prefix-table-requires
+prefix-table-requires c κs = let l = formed _ (c .before .before .before .before .before .before .before .pre) .long in omega arith
 
 through-requires : tie.Need-through-requires
 through-requires c κs =
@@ -41,7 +41,7 @@ through-requires c κs =
     let o = formed _ (s .pre) in
     let a = kept-within _ o _ (p .committed-prefix .ensures) _ (k .committed .given .1) in
     let b = o .prefixes in
-    (omega arith, c .part .ensures .long)
+    (omega arith, c .prefix-table .ensures .long)
 
 slice-aggregate-copy-findings : tie.Need-slice-aggregate-copy-findings
 slice-aggregate-copy-findings c = search needs
@@ -67,7 +67,7 @@ judge-all-requires c κs =
         long = ap length (p .copy-findings .ensures .1) ∙ findings-long _ (s .pre);
         few = omega arith;
       },
-      end-read (s .args .history .now) _ (q .committed-prefix .ensures) _ (k .committed .given .1) _ (e .before .part .ensures .is) _ (e .through .ensures .is),
+      end-read (s .args .history .now) _ (q .committed-prefix .ensures) _ (k .committed .given .1) _ (e .before .prefix-table .ensures .is) _ (e .through .ensures .is),
     )
 
 same-length-2 : tie.Need-same-length-2
@@ -113,7 +113,7 @@ returns-3 c =
     let h = s .args .history .now in
     checked-kept h _ (q .committed-prefix .ensures) _ (k .committed .given .1) _ _
     (judged-accepted h _ _ _ _ _ (p .copy-findings .ensures) (j .judge-all .ensures) (i .if1 .left)
-    _ (end-read h _ (q .committed-prefix .ensures) _ (k .committed .given .1) _ (e .before .part .ensures .is) _ (e .through .ensures .is))
+    _ (end-read h _ (q .committed-prefix .ensures) _ (k .committed .given .1) _ (e .before .prefix-table .ensures .is) _ (e .through .ensures .is))
     _ (written-as h _ _ _ _ (m .move-marks .ensures) _ (c .before .before .keep-findings .ensures)))
 
 same-length-3 : tie.Need-same-length-3
@@ -130,7 +130,7 @@ record-leader-completeness-spec =
     enum-told
     same-length
     returns
-    part-requires
+    prefix-table-requires
     through-requires
     slice-aggregate-copy-findings
     copy-findings-requires

@@ -1,7 +1,8 @@
 -- `election::certificate::record_election` meets its contract: each exit is a law of the ways an election goes.
 -- Assumes nothing.
 use Rattle.storage.proofs.WellFormed.{formed}
-use Rattle.election.proofs.Turns.{beyond, full, room-left, taken, place-fits, accepted}
+use Rattle.election.proofs.Turns.{beyond, full, taken, place-fits, accepted}
+use native.Mathlib.Omega.{arith}
 use borrow.Author.Needs.{needs}
 use Rattle.election.proofs.certificate.record_election.Statement.{statement}
 use Rattle.election.proofs.certificate.record_election.Tie as tie
@@ -24,8 +25,8 @@ returns c =
     let s = f .before .before .before .args in
     beyond (s .history .now) (s .leader .0) (s .term .0) (s .present) (s .length .0) _ (f .front-through .ensures) (c .enum-told .given .1)
 
-certificates-full-requires : tie.Need-certificates-full-requires
-certificates-full-requires c κs = search needs
+certificate-count-requires : tie.Need-certificate-count-requires
+certificate-count-requires c κs = let l = formed _ (c .before .before .before .before .before .before .before .pre .0) .long in omega arith
 
 same-length-2 : tie.Need-same-length-2
 same-length-2 c = search needs
@@ -36,7 +37,7 @@ returns-2 c =
     let g = b .before .before .before in
     let f = g .before .before in
     let s = f .before .before .before .args in
-    full (s .history .now) (s .leader .0) (s .term .0) (s .present) (s .length .0) _ (f .front-through .ensures) _ (g .log .given .1) _ (b .certificates-full .ensures) (c .if1 .taken)
+    full (s .history .now) (s .leader .0) (s .term .0) (s .present) (s .length .0) _ (f .front-through .ensures) _ (g .log .given .1) _ (b .certificate-count .ensures .is) (c .if1 .taken)
 
 number-in-term-requires : tie.Need-number-in-term-requires
 number-in-term-requires c κs = search needs
@@ -58,7 +59,7 @@ returns-3 c =
     let g = b .before .before .before in
     let f = g .before .before in
     let s = f .before .before .before .args in
-    taken (s .history .now) (s .leader .0) (s .term .0) (s .present) (s .length .0) _ (f .front-through .ensures) _ (g .log .given .1) _ (b .certificates-full .ensures) (i .if1 .left) _
+    taken (s .history .now) (s .leader .0) (s .term .0) (s .present) (s .length .0) _ (f .front-through .ensures) _ (g .log .given .1) _ (b .certificate-count .ensures .is) (i .if1 .left) _
     (m .number-in-term .ensures) (c .enum-told2 .given .1)
 
 new-certificate-requires : tie.Need-new-certificate-requires
@@ -72,7 +73,7 @@ add-certificate-requires c κs =
     let b = i .before in
     let s = b .before .before .before .before .before .before .before .before in (
       place-fits _ _ _ (m .number-in-term .ensures) _ _ (p .place .given .1),
-      room-left _ _ (b .certificates-full .ensures) (i .if1 .left),
+      (let k = b .certificate-count .ensures .is in let l = i .if1 .left in omega arith),
       formed _ (s .pre .0) .long,
     )
 
@@ -90,7 +91,7 @@ returns-4 c =
     let g = b .before .before .before in
     let f = g .before .before in
     let s = f .before .before .before .args in
-    accepted (s .history .now) (s .leader .0) (s .term .0) (s .present) (s .length .0) _ (f .front-through .ensures) _ (g .log .given .1) _ (b .certificates-full .ensures) (i .if1 .left) _
+    accepted (s .history .now) (s .leader .0) (s .term .0) (s .present) (s .length .0) _ (f .front-through .ensures) _ (g .log .given .1) _ (b .certificate-count .ensures .is) (i .if1 .left) _
     (m .number-in-term .ensures) _ _ (p .place .given .1) _ (n .new-certificate .ensures) _ (k .add-certificate .ensures)
 
 pub record-election-spec : {M : Type 1} → statement M
@@ -102,7 +103,7 @@ record-election-spec =
     enum-told
     same-length
     returns
-    certificates-full-requires
+    certificate-count-requires
     same-length-2
     returns-2
     number-in-term-requires

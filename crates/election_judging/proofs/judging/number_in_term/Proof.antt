@@ -13,19 +13,19 @@ use Rattle.election_judging.proofs.judging.number_in_term.Tie as tie
 certificate-count-requires : tie.Need-certificate-count-requires
 certificate-count-requires c κs = let e = formed _ (c .before .pre) .long in omega arith
 
-part-requires : tie.Need-part-requires
-part-requires c κs = let e = formed _ (c .before .before .pre) .long in omega arith
+certificate-table-requires : tie.Need-certificate-table-requires
+certificate-table-requires c κs = let e = formed _ (c .before .before .pre) .long in omega arith
 
 place-of-requires : tie.Need-place-of-requires
 place-of-requires c κs =
     let e = formed _ (c .before .before .before .pre) .certificates in
-    (omega (arith, c .before .certificate-count .ensures .is), c .part .ensures .long)
+    (omega (arith, c .before .certificate-count .ensures .is), c .certificate-table .ensures .long)
 
 held-of-requires : tie.Need-held-of-requires
 held-of-requires c κs =
     let p = c .before in
     let e = formed _ (p .before .before .before .pre) .certificates in
-    (place-fits _ _ _ _ (c .place-of .ensures) (omega (arith, p .before .certificate-count .ensures .is)), p .part .ensures .long)
+    (place-fits _ _ _ _ (c .place-of .ensures) (omega (arith, p .before .certificate-count .ensures .is)), p .certificate-table .ensures .long)
 
 is-taken-requires : tie.Need-is-taken-requires
 is-taken-requires c κs =
@@ -34,7 +34,7 @@ is-taken-requires c κs =
     let e = formed _ (p .before .before .before .pre) .certificates in (
       number-fits _ _ _ _ (q .place-of .ensures) _ (c .held-of .ensures),
       place-fits _ _ _ _ (q .place-of .ensures) (omega (arith, p .before .certificate-count .ensures .is)),
-      p .part .ensures .long,
+      p .certificate-table .ensures .long,
     )
 
 returns : tie.Need-returns
@@ -44,7 +44,7 @@ returns c =
     let p = q .before in
     let s = p .before .before .before .args in
     number-taken _ _ _ _ (q .place-of .ensures) _ (h .held-of .ensures) _ (c .before .is-taken .ensures) (c .if1 .taken)
-    ∙ (λ i. numberingOf (certificateRow (p .part .ensures .is i)) (s .term .0) (p .before .certificate-count .ensures .is i))
+    ∙ (λ i. numberingOf (certificateRow (p .certificate-table .ensures .is i)) (s .term .0) (p .before .certificate-count .ensures .is i))
 
 returns-2 : tie.Need-returns-2
 returns-2 c =
@@ -53,14 +53,14 @@ returns-2 c =
     let p = q .before in
     let s = p .before .before .before .args in
     number-free _ _ _ _ (q .place-of .ensures) _ (h .held-of .ensures) _ (c .before .is-taken .ensures) (c .if1 .left)
-    ∙ (λ i. numberingOf (certificateRow (p .part .ensures .is i)) (s .term .0) (p .before .certificate-count .ensures .is i))
+    ∙ (λ i. numberingOf (certificateRow (p .certificate-table .ensures .is i)) (s .term .0) (p .before .certificate-count .ensures .is i))
 
 pub number-in-term-spec : {M : Type 1} → statement M
 number-in-term-spec =
     tie.close
     (tie.spec
     certificate-count-requires
-    part-requires
+    certificate-table-requires
     place-of-requires
     held-of-requires
     is-taken-requires

@@ -9,19 +9,19 @@ use Rattle.finding_lists.proofs.findings.finding_at.Tie as tie
 finding-count-requires : tie.Need-finding-count-requires
 finding-count-requires c κs = let l = formed _ (c .before .pre) .long in omega arith
 
-part-requires : tie.Need-part-requires
-part-requires c κs = let l = formed _ (c .before .before .pre) .long in omega arith
+finding-table-requires : tie.Need-finding-table-requires
+finding-table-requires c κs = let l = formed _ (c .before .before .pre) .long in omega arith
 
 finding-in-requires : tie.Need-finding-in-requires
 finding-in-requires c κs =
     let s = c .before .before .before in
     let n = formed (s .args .history .now) (s .pre) .findings in
     let e = c .before .finding-count .ensures .is in
-    (omega arith, c .part .ensures .long)
+    (omega arith, c .finding-table .ensures .long)
 
 returns : tie.Need-returns
-returns c = findings-lent _ _ _ _ (c .before .part .ensures .is) (c .before .before .finding-count .ensures .is) (c .finding-in .ensures)
+returns c = findings-lent _ _ _ _ (c .before .finding-table .ensures .is) (c .before .before .finding-count .ensures .is) (c .finding-in .ensures)
 
 pub finding-at-spec : {M : Type 1} → statement M
 finding-at-spec =
-    tie.close (tie.spec finding-count-requires part-requires finding-in-requires returns)
+    tie.close (tie.spec finding-count-requires finding-table-requires finding-in-requires returns)

@@ -9,25 +9,25 @@ use Rattle.head_rules.proofs.head.committed_right.Tie as tie
 prefix-count-requires : tie.Need-prefix-count-requires
 prefix-count-requires c κs = search needs
 
-committed-number-requires : tie.Need-committed-number-requires
-committed-number-requires c κs = search needs
+committed-requires : tie.Need-committed-requires
+committed-requires c κs = search needs
 
 returns : tie.Need-returns
 unfolding committedRight
 returns c =
-    rw (← c .before .before .prefix-count .ensures .is, ← c .before .committed-number .ensures .is, lt-leb _ _ (c .if1 .taken))
+    rw (← c .before .before .before .prefix-count .ensures .is, ← c .before .before .committed .ensures .is, lt-leb _ _ (c .if1 .taken))
 
-owner-number-requires : tie.Need-owner-number-requires
-owner-number-requires c κs = search needs
+owner-requires : tie.Need-owner-requires
+owner-requires c κs = search needs
 
 returns-2 : tie.Need-returns-2
 unfolding committedRight
 returns-2 c =
-    let b = c .before in
+    let b = c .before .before in
     rw (
-      ← b .before .before .prefix-count .ensures .is,
-      ← b .before .committed-number .ensures .is,
-      ← c .owner-number .ensures .is,
+      ← b .before .before .before .prefix-count .ensures .is,
+      ← b .before .before .committed .ensures .is,
+      ← c .before .owner .ensures .is,
       le-leb _ _ (b .if1 .left),
     )
 
@@ -36,7 +36,7 @@ committed-right-spec =
     tie.close
     (tie.spec
     prefix-count-requires
-    committed-number-requires
+    committed-requires
     returns
-    owner-number-requires
+    owner-requires
     returns-2)

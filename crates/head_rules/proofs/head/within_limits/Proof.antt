@@ -13,14 +13,14 @@ returns : tie.Need-returns
 unfolding withinLimits
 returns c = rw (← c .before .prefix-count .ensures .is, lt-leb _ _ (c .if1 .taken))
 
-term-count-requires : tie.Need-term-count-requires
-term-count-requires c κs = search needs
+last-recorded-requires : tie.Need-last-recorded-requires
+last-recorded-requires c κs = search needs
 
 returns-2 : tie.Need-returns-2
 unfolding withinLimits
 returns-2 c =
-    let b = c .before .before in
-    rw (← b .before .prefix-count .ensures .is, ← c .before .term-count .ensures .is, le-leb _ _ (b .if1 .left), lt-leb _ _ (c .if2 .taken))
+    let b = c .before .before .before in
+    rw (← b .before .prefix-count .ensures .is, ← c .before .before .last-recorded .ensures .is, le-leb _ _ (b .if1 .left), lt-leb _ _ (c .if2 .taken))
 
 certificate-count-requires : tie.Need-certificate-count-requires
 certificate-count-requires c κs = search needs
@@ -29,10 +29,10 @@ returns-3 : tie.Need-returns-3
 unfolding withinLimits
 returns-3 c =
     let b2 = c .before .before in
-    let b1 = b2 .before .before in
+    let b1 = b2 .before .before .before in
     rw (
       ← b1 .before .prefix-count .ensures .is,
-      ← b2 .before .term-count .ensures .is,
+      ← b2 .before .before .last-recorded .ensures .is,
       ← c .before .certificate-count .ensures .is,
       le-leb _ _ (b1 .if1 .left),
       le-leb _ _ (b2 .if2 .left),
@@ -47,10 +47,10 @@ unfolding withinLimits
 returns-4 c =
     let b3 = c .before in
     let b2 = b3 .before .before in
-    let b1 = b2 .before .before in
+    let b1 = b2 .before .before .before in
     rw (
       ← b1 .before .prefix-count .ensures .is,
-      ← b2 .before .term-count .ensures .is,
+      ← b2 .before .before .last-recorded .ensures .is,
       ← b3 .before .certificate-count .ensures .is,
       ← c .finding-count .ensures .is,
       le-leb _ _ (b1 .if1 .left),
@@ -64,7 +64,7 @@ within-limits-spec =
     (tie.spec
     prefix-count-requires
     returns
-    term-count-requires
+    last-recorded-requires
     returns-2
     certificate-count-requires
     returns-3

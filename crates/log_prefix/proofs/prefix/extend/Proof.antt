@@ -1,55 +1,85 @@
 -- `log_prefix::prefix::extend` meets its contract.
 -- Assumes nothing.
-use native.Mathlib.Omega.{arith}
-use mathlib.Core.Path.{sym, _∙_, ap}
-use lib.ListN.{length}
+use mathlib.Core.Path.{sym, _∙_}
 use borrow.Author.Needs.{needs}
-use Rattle.log_prefix.proofs.Written.{bytes-length-one, next-read, extends-next, extends-none}
+use Rattle.log_prefix.proofs.Written.{extend-found, extend-making, extend-made, next-read, extends-next, extends-none}
 use Rattle.log_prefix.proofs.prefix.extend.Statement.{statement}
 use Rattle.log_prefix.proofs.prefix.extend.Tie as tie
 
-part-requires : tie.Need-part-requires
-part-requires c κs = search needs
+prefix-table-requires : tie.Need-prefix-table-requires
+prefix-table-requires c κs = search needs
 
 through-requires : tie.Need-through-requires
 through-requires c κs = search needs
 
 add-if1 : tie.Need-add-if1
-add-if1 c = (let r = c .before .through .ensures .below in omega arith)
+add-if1 c = search needs
 
 same-length : tie.Need-same-length
 same-length c = search needs
 
 returns : tie.Need-returns
 returns c =
-    let s = c .before .before .before .before .before .before .before .args in
-    let i = next-read (s .history .now) _ (s .p .0) _ (c .before .before .before .before .part .ensures .is) (c .before .before .before .through .ensures .is) in
+    let t = c .before .before .before .before in
+    let s = t .before .before .before .args in
+    let i = next-read (s .history .now) _ (s .p .0) _ (t .prefix-table .ensures .is) (c .before .before .before .through .ensures .is) in
     extends-none (s .history .now) (s .count) (s .p .0) (s .e) (λ x. c .if1 .taken (x ∙ sym i))
 
-find-or-make-requires : tie.Need-find-or-make-requires
-find-or-make-requires c κs =
-    let s = c .before .before .before .before .before .before .before .before in
-    (s .pre, c .before .if1 .left ∙ next-read (s .args .history .now) _ (s .args .p .0) _ (c .before .before .before .before .before .part .ensures .is) (c .before .before .before .before .through .ensures .is))
+find-extension-requires : tie.Need-find-extension-requires
+find-extension-requires c κs = search needs
+
+enum-known-prefix : tie.Need-enum-known-prefix
+enum-known-prefix c = search needs
+
+enum-told : tie.Need-enum-told
+enum-told c = search needs
+
+make-requires : tie.Need-make-requires
+make-requires c κs =
+    let f = c .before .before .before in
+    let t = f .before .before .before .before .before in
+    let s = t .before .before .before in
+    let i = f .before .if1 .left ∙ next-read (s .args .history .now) _ (s .args .p .0) _ (t .prefix-table .ensures .is) (f .before .before .before .before .through .ensures .is) in
+    extend-making (s .args .history .now) (s .args .count) (s .args .p .0) (s .args .e) _ (t .prefix-table .ensures .is) _ (f .find-extension .ensures) (c .before .enum-told .given .1) (s .pre) i
 
 same-length-2 : tie.Need-same-length-2
-same-length-2 c = ap length (c .before .before .find-or-make .ensures .1) ∙ bytes-length-one _ _ _ _ _
+same-length-2 c = search needs
 
 returns-2 : tie.Need-returns-2
 returns-2 c =
-    let b = c .before .before .before .before in
-    let s = b .before .before .before .before .before .before .before .args in
-    extends-next (s .history .now) (s .count) (s .p .0) (s .e)
-    (b .if1 .left ∙ next-read (s .history .now) _ (s .p .0) _ (b .before .before .before .before .part .ensures .is) (b .before .before .before .through .ensures .is)) _ _ (c .before .before .find-or-make .ensures)
+    let f = c .before .before .before .before .before .before in
+    let t = f .before .before .before .before .before in
+    let s = t .before .before .before .args in
+    let i = f .before .if1 .left ∙ next-read (s .history .now) _ (s .p .0) _ (t .prefix-table .ensures .is) (f .before .before .before .before .through .ensures .is) in
+    extends-next (s .history .now) (s .count) (s .p .0) (s .e) i _ _
+    (extend-made (s .history .now) (s .count) (s .p .0) (s .e) _ (t .prefix-table .ensures .is) _ (f .find-extension .ensures) (c .before .before .before .before .enum-told .given .1) _ _ (c .before .before .make .ensures))
+
+same-length-3 : tie.Need-same-length-3
+same-length-3 c = search needs
+
+returns-3 : tie.Need-returns-3
+returns-3 c =
+    let f = c .before .before .before in
+    let t = f .before .before .before .before .before in
+    let s = t .before .before .before .args in
+    let i = f .before .if1 .left ∙ next-read (s .history .now) _ (s .p .0) _ (t .prefix-table .ensures .is) (f .before .before .before .before .through .ensures .is) in
+    extends-next (s .history .now) (s .count) (s .p .0) (s .e) i _ _
+    (extend-found (s .history .now) (s .count) (s .p .0) (s .e) _ (t .prefix-table .ensures .is) _ (f .find-extension .ensures) _ (c .before .prefix .given .1))
 
 pub extend-spec : {M : Type 1} → statement M
 extend-spec =
     tie.close
     (tie.spec
-    part-requires
+    prefix-table-requires
     through-requires
     add-if1
     same-length
     returns
-    find-or-make-requires
+    find-extension-requires
+    enum-known-prefix
+    enum-told
+    make-requires
     same-length-2
-    returns-2)
+    returns-2
+    same-length-3
+    returns-3)

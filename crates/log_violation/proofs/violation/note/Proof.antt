@@ -10,22 +10,15 @@ use Rattle.log_violation.proofs.ViolationLaws.{Noted, note-over, note-a
 use Rattle.log_violation.proofs.violation.note.Statement.{statement}
 use Rattle.log_violation.proofs.violation.note.Tie as tie
 
-returns : tie.Need-returns
-returns c =
-    let s = c .before .before .args in
-    note-over (s .findings .now) (s .n) (findingValue (s .f)) (c .if1 .taken)
-
 is-noted-requires : tie.Need-is-noted-requires
 is-noted-requires c κs = search needs
 
-same-length : tie.Need-same-length
-same-length c = search needs
-
-returns-2 : tie.Need-returns-2
-returns-2 c =
-    let b = c .before .before .before in
-    let s = b .before .before .args in
-    note-again (s .findings .now) (s .n) (findingValue (s .f)) (b .if1 .left) _ (c .before .is-noted .ensures) (c .if2 .taken)
+returns : tie.Need-returns
+returns c =
+    let s = c .before .before .args in
+    let t = s .findings .now in
+    let f = findingValue (s .f) in
+    ⊎-elim (λ w. note-over t (s .n) f (w .taken)) (λ w. note-again t (s .n) f (w .0 .left) _ (w .2 .ensures) (w .3 .taken)) (c .if1 .came)
 
 put-finding-requires : tie.Need-put-finding-requires
 put-finding-requires c κs = search needs
@@ -33,8 +26,8 @@ put-finding-requires c κs = search needs
 add-result : tie.Need-add-result
 add-result c = search needs
 
-returns-3 : tie.Need-returns-3
-returns-3 c =
+returns-2 : tie.Need-returns-2
+returns-2 c =
     let b = c .before .before .before .before in
     let s = b .before .before .args in
     let t = s .findings .now in
@@ -45,18 +38,16 @@ returns-3 c =
     (λ w. subst (Noted t (s .n) f (s .n + 1)) (sym (w .1)) (note-full t (s .n) f (b .if1 .left) _ e z (w .0 .left)))
     (c .if3 .came)
 
-same-length-2 : tie.Need-same-length-2
-same-length-2 c = ap length (returns-3 c .1) ∙ note-length _ _ _
+same-length : tie.Need-same-length
+same-length c = ap length (returns-2 c .1) ∙ note-length _ _ _
 
 pub note-spec : {M : Type 1} → statement M
 note-spec =
     tie.close
     (tie.spec
-    returns
     is-noted-requires
-    same-length
-    returns-2
+    returns
     put-finding-requires
     add-result
-    same-length-2
-    returns-3)
+    same-length
+    returns-2)

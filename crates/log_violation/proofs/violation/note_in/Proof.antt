@@ -5,7 +5,7 @@ use mathlib.Core.Path.{ap, _∙_}
 use lib.ListN.{length}
 use borrow.Author.Needs.{needs}
 use Rattle.table_rows.specs.Values.{findingValue}
-use Rattle.log_violation.proofs.ViolationLaws.{in-held, in-room, in-full, in-length}
+use Rattle.log_violation.proofs.ViolationLaws.{in-room, in-full, in-length}
 use Rattle.log_violation.proofs.violation.note_in.Statement.{statement}
 use Rattle.log_violation.proofs.violation.note_in.Tie as tie
 
@@ -27,27 +27,26 @@ part-note-end c = search needs
 note-requires : tie.Need-note-requires
 note-requires c κs = search needs
 
-set-finding-count-requires : tie.Need-set-finding-count-requires
-set-finding-count-requires c κs = search needs
-
 returns : tie.Need-returns
 returns c =
-    let o = c .before .before .before .before .before .before .before in
+    let o = c .before .before .before in
     let s = o .before .before .before .before .before in
-    let h = s .args .history .now in
+    let q = s .pre .0 in
     let k = o .before .before .finding-count .ensures .is in
-    (in-held h (findingValue (s .args .f)) (s .pre .1) _ k _ _ (o .note .ensures), in-room h (findingValue (s .args .f)) (s .pre .1) _ k _ _ (o .note .ensures) (c .before .before .before .before .if1 .taken) _ (c .before .before .set-finding-count .ensures))
+    in-full (s .args .history .now) (findingValue (s .args .f)) (s .pre .1) _ k _ _ (o .note .ensures) (omega arith) (c .if1 .taken)
 
 same-length : tie.Need-same-length
 same-length c = ap length (returns c .1) ∙ in-length _ _
 
+set-finding-count-requires : tie.Need-set-finding-count-requires
+set-finding-count-requires c κs = search needs
+
 returns-2 : tie.Need-returns-2
 returns-2 c =
-    let o = c .before .before .before in
+    let o = c .before .before .before .before .before .before .before in
     let s = o .before .before .before .before .before in
-    let h = s .args .history .now in
-    let k = o .before .before .finding-count .ensures .is in
-    (in-held h (findingValue (s .args .f)) (s .pre .1) _ k _ _ (o .note .ensures), in-full h (findingValue (s .args .f)) (s .pre .1) _ k _ _ (o .note .ensures) (let q = s .pre .0 in omega arith) (c .if1 .left))
+    in-room (s .args .history .now) (findingValue (s .args .f)) (s .pre .1) _ (o .before .before .finding-count .ensures .is) _ _ (o .note .ensures) (c .before .before .before .before .if1 .left) _
+    (c .before .before .set-finding-count .ensures)
 
 same-length-2 : tie.Need-same-length-2
 same-length-2 c = ap length (returns-2 c .1) ∙ in-length _ _
@@ -62,8 +61,8 @@ note-in-spec =
     part-note-start
     part-note-end
     note-requires
-    set-finding-count-requires
     same-length
     returns
+    set-finding-count-requires
     same-length-2
     returns-2)

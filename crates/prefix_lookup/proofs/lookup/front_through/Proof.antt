@@ -11,8 +11,8 @@ use mathlib.Core.Path.{refl}
 use Rattle.prefix_lookup.proofs.lookup.front_through.Statement.{statement}
 use Rattle.prefix_lookup.proofs.lookup.front_through.Tie as tie
 
-part-requires : tie.Need-part-requires
-part-requires c κs =
+node-table-requires : tie.Need-node-table-requires
+node-table-requires c κs =
     let l = formed _ (c .before .pre .0) .long in
     omega arith
 
@@ -22,36 +22,36 @@ cast-node-at c = search needs
 node-at-requires : tie.Need-node-at-requires
 node-at-requires c κs = search needs
 
-part-requires-2 : tie.Need-part-requires-2
-part-requires-2 c κs =
-    let l = formed _ (c .before .before .before .before .before .pre .0) .long in
+prefix-table-requires : tie.Need-prefix-table-requires
+prefix-table-requires c κs =
+    let l = formed _ (c .before .before .before .before .pre .0) .long in
     omega arith
 
 slice-through-requires : tie.Need-slice-through-requires
 slice-through-requires c κs =
-    let s = c .before .before .before .before .before .before in
+    let s = c .before .before .before .before .before in
     let h = s .args .history .now in
     let f = formed h (s .pre .0) in
-    let x = c .before .before .node-at in (
+    let x = c .before .node-at in (
       wordAt h 0 2,
-      table-lent h _ _ f (c .part2 .ensures .is) refl,
-      front-within h (s .args .node .0) _ (c .before .before .before .before .part .ensures .is) (nodeValue (x .result)) (x .ensures) f (s .pre .1),
+      table-lent h _ _ f (c .prefix-table .ensures .is) refl,
+      front-within h (s .args .node .0) _ (c .before .before .before .node-table .ensures .is) (nodeValue (x .result)) (x .ensures) f (s .pre .1),
     )
 
 returns : tie.Need-returns
 returns c =
-    let s = c .before .before .before .before .before .before .before .args in
-    let x = c .before .before .before .node-at in
-    through-is (s .history .now) (s .node .0) _ (c .before .before .before .before .before .part .ensures .is) (nodeValue (x .result)) (x .ensures) _ (c .before .part2 .ensures .is) (s .index .0) _
+    let s = c .before .before .before .before .before .before .args in
+    let x = c .before .before .node-at in
+    through-is (s .history .now) (s .node .0) _ (c .before .before .before .before .node-table .ensures .is) (nodeValue (x .result)) (x .ensures) _ (c .before .prefix-table .ensures .is) (s .index .0) _
     (c .slice-through .ensures)
 
 pub front-through-spec : {M : Type 1} → statement M
 front-through-spec =
     tie.close
     (tie.spec
-    part-requires
+    node-table-requires
     cast-node-at
     node-at-requires
-    part-requires-2
+    prefix-table-requires
     slice-through-requires
     returns)

@@ -8,16 +8,16 @@ use Rattle.prefix_lookup.proofs.lookup.is_of.Tie as tie
 index-at-requires : tie.Need-index-at-requires
 index-at-requires c κs = search needs
 
-returns : tie.Need-returns
-returns c = rw (← c .before .before .before .index-at .ensures .is, ne-eqb _ _ (c .if1 .taken))
-
 term-at-requires : tie.Need-term-at-requires
 term-at-requires c κs = search needs
 
-returns-2 : tie.Need-returns-2
-returns-2 c =
+returns : tie.Need-returns
+returns c =
     let b = c .before .before .before in
-    rw (← b .before .before .before .index-at .ensures .is, eq-eqb _ _ (b .if1 .left), ← c .before .before .term-at .ensures)
+    rw (← b .before .before .before .index-at .ensures .is, eq-eqb _ _ (b .if1 .taken), ← c .before .before .term-at .ensures)
+
+returns-2 : tie.Need-returns-2
+returns-2 c = rw (← c .before .before .before .index-at .ensures .is, ne-eqb _ _ (c .if1 .left))
 
 pub is-of-spec : {M : Type 1} → statement M
-is-of-spec = tie.close (tie.spec index-at-requires returns term-at-requires returns-2)
+is-of-spec = tie.close (tie.spec index-at-requires term-at-requires returns returns-2)

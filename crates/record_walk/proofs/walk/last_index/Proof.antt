@@ -10,10 +10,10 @@ use Rattle.record_walk.proofs.walk.last_index.Statement.{statement}
 use Rattle.record_walk.proofs.walk.last_index.Tie as tie
 
 abbrev Inv-loop : tie.InvT-loop
-Inv-loop s from count before at₀ left₀ last₀ at left last = Walk s at left × (lastFrom before (entriesAt s from count) ≡ lastFrom last (entriesAt s at left))
+Inv-loop s from count at₀ left₀ last₀ at left last = Walk s at left × (lastFrom (last₀ .0) (entriesAt s from count) ≡ lastFrom (last .0) (entriesAt s at left))
 
 abbrev μ-loop : tie.MeasureT-loop
-μ-loop s from count before at₀ left₀ last₀ at left last = left
+μ-loop s from count at₀ left₀ last₀ at left last = left
 
 loop-holds : tie.Need-loop-holds Inv-loop μ-loop
 loop-holds c = (c .before .pre, refl)

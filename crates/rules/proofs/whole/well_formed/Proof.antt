@@ -44,8 +44,8 @@ returns-3 c =
 prefix-count-requires : tie.Need-prefix-count-requires
 prefix-count-requires c κs = search needs
 
-part-requires-2 : tie.Need-part-requires-2
-part-requires-2 c κs = search needs
+node-table-requires : tie.Need-node-table-requires
+node-table-requires c κs = search needs
 
 nodes-right-requires : tie.Need-nodes-right-requires
 nodes-right-requires c κs = search needs
@@ -58,13 +58,13 @@ returns-4 c =
     let b = b2 .before .before in
     let h = b .before .before .before .args .history .now in
     sym
-    (rules-in-turn h _ _ _ _ _ _ _ _ (b .before .if1 .left) (b .part .ensures .is) (q .part2 .ensures .is) refl refl refl (q .before .prefix-count .ensures .is) refl refl
+    (rules-in-turn h _ _ _ _ _ _ _ _ (b .before .if1 .left) (b .part .ensures .is) (q .node-table .ensures .is) refl refl refl (q .before .prefix-count .ensures .is) refl refl
     ∙ pass _ (sym (b2 .before .within-limits .ensures) ∙ not-false _ (b2 .if2 .left))
     ∙ pass _ (sym (b3 .before .committed-right .ensures) ∙ not-false _ (b3 .if3 .left))
     ∙ stop _ (sym (c .before .nodes-right .ensures) ∙ not-true _ (c .if4 .taken)))
 
-part-requires-3 : tie.Need-part-requires-3
-part-requires-3 c κs = search needs
+certificate-table-requires : tie.Need-certificate-table-requires
+certificate-table-requires c κs = search needs
 
 certificate-count-requires : tie.Need-certificate-count-requires
 certificate-count-requires c κs = search needs
@@ -77,7 +77,7 @@ certificates-right-requires : tie.Need-certificates-right-requires
 certificates-right-requires c κs =
     let b2 = c .before .before .before .before .before .before .before .before in
     let m : c .certificate-count .result ≤ 64 = omega (arith, limits b2 .certificates, c .certificate-count .ensures .is) in
-    (m, c .before .part3 .ensures .long)
+    (m, c .before .certificate-table .ensures .long)
 
 returns-5 : tie.Need-returns-5
 returns-5 c =
@@ -89,7 +89,7 @@ returns-5 c =
     let b = b2 .before .before in
     let h = b .before .before .before .args .history .now in
     sym
-    (rules-in-turn h _ _ _ _ _ _ _ _ (b .before .if1 .left) (b .part .ensures .is) (q .part2 .ensures .is) (m .before .part3 .ensures .is) refl refl (q .before .prefix-count .ensures .is) (m .certificate-count .ensures .is) refl
+    (rules-in-turn h _ _ _ _ _ _ _ _ (b .before .if1 .left) (b .part .ensures .is) (q .node-table .ensures .is) (m .before .certificate-table .ensures .is) refl refl (q .before .prefix-count .ensures .is) (m .certificate-count .ensures .is) refl
     ∙ pass _ (sym (b2 .before .within-limits .ensures) ∙ not-false _ (b2 .if2 .left))
     ∙ pass _ (sym (b3 .before .committed-right .ensures) ∙ not-false _ (b3 .if3 .left))
     ∙ pass _ (sym (b4 .before .nodes-right .ensures) ∙ not-false _ (b4 .if4 .left))
@@ -100,7 +100,7 @@ numbered-requires c κs =
     let q = c .before .before in
     let b2 = q .before .before .before .before .before .before .before .before in
     let m : q .certificate-count .result ≤ 64 = omega (arith, limits b2 .certificates, q .certificate-count .ensures .is) in
-    (m, q .before .part3 .ensures .long)
+    (m, q .before .certificate-table .ensures .long)
 
 returns-6 : tie.Need-returns-6
 returns-6 c =
@@ -113,15 +113,15 @@ returns-6 c =
     let b = b2 .before .before in
     let h = b .before .before .before .args .history .now in
     sym
-    (rules-in-turn h _ _ _ _ _ _ _ _ (b .before .if1 .left) (b .part .ensures .is) (q .part2 .ensures .is) (m .before .part3 .ensures .is) refl refl (q .before .prefix-count .ensures .is) (m .certificate-count .ensures .is) refl
+    (rules-in-turn h _ _ _ _ _ _ _ _ (b .before .if1 .left) (b .part .ensures .is) (q .node-table .ensures .is) (m .before .certificate-table .ensures .is) refl refl (q .before .prefix-count .ensures .is) (m .certificate-count .ensures .is) refl
     ∙ pass _ (sym (b2 .before .within-limits .ensures) ∙ not-false _ (b2 .if2 .left))
     ∙ pass _ (sym (b3 .before .committed-right .ensures) ∙ not-false _ (b3 .if3 .left))
     ∙ pass _ (sym (b4 .before .nodes-right .ensures) ∙ not-false _ (b4 .if4 .left))
     ∙ pass _ (sym (b5 .before .certificates-right .ensures) ∙ not-false _ (b5 .if5 .left))
     ∙ stop _ (sym (c .before .numbered .ensures) ∙ not-true _ (c .if6 .taken)))
 
-part-requires-4 : tie.Need-part-requires-4
-part-requires-4 c κs = search needs
+finding-table-requires : tie.Need-finding-table-requires
+finding-table-requires c κs = search needs
 
 finding-count-requires : tie.Need-finding-count-requires
 finding-count-requires c κs = search needs
@@ -131,7 +131,7 @@ findings-right-requires c κs =
     let b6 = c .before .before in
     let b2 = b6 .before .before .before .before .before .before .before .before .before .before .before .before in
     let m : c .finding-count .result ≤ 128 = omega (arith, limits b2 .findings, c .finding-count .ensures .is) in
-    (m, c .before .part4 .ensures .long)
+    (m, c .before .finding-table .ensures .long)
 
 returns-7 : tie.Need-returns-7
 returns-7 c =
@@ -146,7 +146,7 @@ returns-7 c =
     let b = b2 .before .before in
     let h = b .before .before .before .args .history .now in
     sym
-    (rules-in-turn h _ _ _ _ _ _ _ _ (b .before .if1 .left) (b .part .ensures .is) (q .part2 .ensures .is) (m .before .part3 .ensures .is) (f .before .part4 .ensures .is) refl (q .before .prefix-count .ensures .is) (m .certificate-count .ensures .is) (f .finding-count .ensures .is)
+    (rules-in-turn h _ _ _ _ _ _ _ _ (b .before .if1 .left) (b .part .ensures .is) (q .node-table .ensures .is) (m .before .certificate-table .ensures .is) (f .before .finding-table .ensures .is) refl (q .before .prefix-count .ensures .is) (m .certificate-count .ensures .is) (f .finding-count .ensures .is)
     ∙ pass _ (sym (b2 .before .within-limits .ensures) ∙ not-false _ (b2 .if2 .left))
     ∙ pass _ (sym (b3 .before .committed-right .ensures) ∙ not-false _ (b3 .if3 .left))
     ∙ pass _ (sym (b4 .before .nodes-right .ensures) ∙ not-false _ (b4 .if4 .left))
@@ -154,15 +154,15 @@ returns-7 c =
     ∙ pass _ (sym (b6 .before .numbered .ensures) ∙ not-false _ (b6 .if6 .left))
     ∙ stop _ (sym (c .before .findings-right .ensures) ∙ not-true _ (c .if7 .taken)))
 
-part-requires-5 : tie.Need-part-requires-5
-part-requires-5 c κs = search needs
+prefix-table-requires : tie.Need-prefix-table-requires
+prefix-table-requires c κs = search needs
 
 prefixes-right-requires : tie.Need-prefixes-right-requires
 prefixes-right-requires c κs =
     let q = c .before .before .before .before .before .before .before .before .before .before .before .before .before .before in
     let b2 = q .before .before .before in
     let m : q .prefix-count .result ≤ 512 = omega (arith, limits b2 .prefixes, q .prefix-count .ensures .is) in
-    (m, c .part5 .ensures .long)
+    (m, c .prefix-table .ensures .long)
 
 returns-8 : tie.Need-returns-8
 returns-8 c =
@@ -179,7 +179,7 @@ returns-8 c =
     let h = b .before .before .before .args .history .now in
     c .prefixes-right .ensures
     ∙ sym
-    (rules-in-turn h _ _ _ _ _ _ _ _ (b .before .if1 .left) (b .part .ensures .is) (q .part2 .ensures .is) (m .before .part3 .ensures .is) (f .before .part4 .ensures .is) (c .before .part5 .ensures .is) (q .before .prefix-count .ensures .is) (m .certificate-count .ensures .is) (f .finding-count .ensures .is)
+    (rules-in-turn h _ _ _ _ _ _ _ _ (b .before .if1 .left) (b .part .ensures .is) (q .node-table .ensures .is) (m .before .certificate-table .ensures .is) (f .before .finding-table .ensures .is) (c .before .prefix-table .ensures .is) (q .before .prefix-count .ensures .is) (m .certificate-count .ensures .is) (f .finding-count .ensures .is)
     ∙ pass _ (sym (b2 .before .within-limits .ensures) ∙ not-false _ (b2 .if2 .left))
     ∙ pass _ (sym (b3 .before .committed-right .ensures) ∙ not-false _ (b3 .if3 .left))
     ∙ pass _ (sym (b4 .before .nodes-right .ensures) ∙ not-false _ (b4 .if4 .left))
@@ -198,19 +198,19 @@ well-formed-spec =
     committed-right-requires
     returns-3
     prefix-count-requires
-    part-requires-2
+    node-table-requires
     nodes-right-requires
     returns-4
-    part-requires-3
+    certificate-table-requires
     certificate-count-requires
     certificates-right-requires
     returns-5
     numbered-requires
     returns-6
-    part-requires-4
+    finding-table-requires
     finding-count-requires
     findings-right-requires
     returns-7
-    part-requires-5
+    prefix-table-requires
     prefixes-right-requires
     returns-8)

@@ -9,14 +9,14 @@ use borrow.Author.Needs.{needs}
 use Rattle.storage.proofs.head.set_committed.Statement.{statement}
 use Rattle.storage.proofs.head.set_committed.Tie as tie
 
-set-committed-number-requires : tie.Need-set-committed-number-requires
-set-committed-number-requires c κs = search needs
+put16-requires : tie.Need-put16-requires
+put16-requires c κs = search needs
 
-cast-set-owner-number : tie.Need-cast-set-owner-number
-cast-set-owner-number c = search needs
+cast-put8 : tie.Need-cast-put8
+cast-put8 c = search needs
 
-set-owner-number-requires : tie.Need-set-owner-number-requires
-set-owner-number-requires c κs = search needs
+put8-requires : tie.Need-put8-requires
+put8-requires c κs = search needs
 
 same-length : tie.Need-same-length
 same-length c = search needs
@@ -27,14 +27,14 @@ returns c =
     let b = c .before .before in
     let b1 = b .before .before .before .before .before in
     let s = b1 .before .before .before .args in
-    b .set-owner-number .ensures ∙ ap (λ (t : List ℕ). putBytes t 8 (wordBytes 1 (s .owner .0))) (b1 .set-committed-number .ensures)
+    b .put8 .ensures ∙ ap (λ (t : List ℕ). putBytes t 8 (wordBytes 1 (s .owner .0))) (b1 .put16 .ensures)
 
 pub set-committed-spec : {M : Type 1} → statement M
 set-committed-spec =
     tie.close
     (tie.spec
-    set-committed-number-requires
-    cast-set-owner-number
-    set-owner-number-requires
+    put16-requires
+    cast-put8
+    put8-requires
     same-length
     returns)

@@ -7,14 +7,14 @@ use borrow.Author.Needs.{needs}
 use Rattle.term_marks.proofs.marks.checked_mark.Statement.{statement}
 use Rattle.term_marks.proofs.marks.checked_mark.Tie as tie
 
-part-requires : tie.Need-part-requires
-part-requires c κs = search needs
+certificate-table-requires : tie.Need-certificate-table-requires
+certificate-table-requires c κs = search needs
 
 mark-at-requires : tie.Need-mark-at-requires
 mark-at-requires c κs = search needs
 
 returns : tie.Need-returns
-returns c = c .mark-at .ensures ∙ ap (λ (q : Bytes). certificateRow q (c .before .before .before .args .k) .mark) (c .before .part .ensures .is)
+returns c = c .mark-at .ensures ∙ ap (λ (q : Bytes). certificateRow q (c .before .before .before .args .k) .mark) (c .before .certificate-table .ensures .is)
 
 pub checked-mark-spec : {M : Type 1} → statement M
-checked-mark-spec = tie.close (tie.spec part-requires mark-at-requires returns)
+checked-mark-spec = tie.close (tie.spec certificate-table-requires mark-at-requires returns)

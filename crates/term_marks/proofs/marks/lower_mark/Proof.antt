@@ -13,16 +13,16 @@ checked-mark-requires c κs = search needs
 sub-t11 : tie.Need-sub-t11
 sub-t11 c = search needs
 
-set-mark-requires : tie.Need-set-mark-requires
-set-mark-requires c κs = search needs
+store-mark-requires : tie.Need-store-mark-requires
+store-mark-requires c κs = search needs
 
 same-length : tie.Need-same-length
-same-length c = ap length (c .before .before .set-mark .ensures) ∙ mark-length _ _ _
+same-length c = ap length (c .before .before .store-mark .ensures) ∙ mark-length _ _ _
 
 returns : tie.Need-returns
 returns c =
     let s = c .before .before .before .before .before .before .before .before .before .before .before .args in
-    lower-past (s .history .now) (s .first .0) (s .k) _ (c .before .before .before .before .before .before .before .before .checked-mark .ensures) (c .before .before .before .before .before .if1 .taken) _ (c .before .before .set-mark .ensures)
+    lower-past (s .history .now) (s .first .0) (s .k) _ (c .before .before .before .before .before .before .before .before .checked-mark .ensures) (c .before .before .before .before .before .if1 .taken) _ (c .before .before .store-mark .ensures)
 
 same-length-2 : tie.Need-same-length-2
 same-length-2 c = search needs
@@ -38,7 +38,7 @@ lower-mark-spec =
     (tie.spec
     checked-mark-requires
     sub-t11
-    set-mark-requires
+    store-mark-requires
     same-length
     returns
     same-length-2

@@ -8,15 +8,18 @@ use Rattle.term_marks.proofs.marks.lower_marks.Statement.{statement}
 use Rattle.term_marks.proofs.marks.lower_marks.Tie as tie
 
 abbrev Inv-loop : tie.InvT-loop
-Inv-loop history₀ n term first k₀ history k = Lowering history₀ n (term .0) (first .0) history k
+Inv-loop history₀ term first k₀ history k = Lowering history₀ (term .0) (first .0) history k
 
 abbrev μ-loop : tie.MeasureT-loop
-μ-loop history₀ n term first k₀ history k = k
+μ-loop history₀ term first k₀ history k = k
+
+certificate-count-requires : tie.Need-certificate-count-requires Inv-loop μ-loop
+certificate-count-requires c κs = search needs
 
 loop-holds : tie.Need-loop-holds Inv-loop μ-loop
 loop-holds c =
-    let s = c .before in
-    lowering-starts (s .args .history .now) (s .args .n) (s .args .term .0) (s .args .first .0) (s .pre .2)
+    let s = c .before .before .before in
+    lowering-starts (s .args .history .now) (s .args .term .0) (s .args .first .0) _ (c .certificate-count .ensures .is) (s .pre .0) (s .pre .2)
 
 sub-k : tie.Need-sub-k Inv-loop μ-loop
 sub-k c = search needs
@@ -26,26 +29,23 @@ election-term-requires c κs =
     let l = c .before .before .loop in
     let w = l .inv .within in
     let t = c .before .loop-test .taken in
-    let b = c .before .before .before .before .pre .0 in
     (omega arith, l .inv .long)
 
 same-length : tie.Need-same-length Inv-loop μ-loop
-same-length c = c .before .before .before .before .before .before .loop .inv .long ∙ sym (c .before .before .before .before .before .before .before .before .pre .2)
+same-length c = c .before .before .before .before .before .before .loop .inv .long ∙ sym (c .before .before .before .before .before .before .before .before .before .before .pre .2)
 
 returns : tie.Need-returns Inv-loop μ-loop
 returns c =
     let l = c .before .before .before .before .before .before .loop in
-    let s = c .before .before .before .before .before .before .before .before in
-    lowering-ends (s .args .history .now) (s .args .n) (s .args .term .0) (s .args .first .0) (l .history) (l .k) (l .inv) (c .before .before .before .before .before .loop-test .taken) _ (c .before .before .before .election-term .ensures) (omega (arith, c .if1 .taken))
+    let s = c .before .before .before .before .before .before .before .before .before .before .args in
+    lowering-ends (s .history .now) (s .term .0) (s .first .0) (l .history) (l .k) (l .inv) (c .before .before .before .before .before .loop-test .taken) _ (c .before .before .before .election-term .ensures) (omega (arith, c .if1 .taken))
 
 lower-mark-requires : tie.Need-lower-mark-requires Inv-loop μ-loop
 lower-mark-requires c κs =
     let l = c .before .before .before .before .before .before .before .loop in
     let w = l .inv .within in
     let t = c .before .before .before .before .before .before .loop-test .taken in
-    let s = c .before .before .before .before .before .before .before .before .before in
-    let b = s .pre .0 in
-    (omega arith, s .pre .1, l .inv .long)
+    (omega arith, c .before .before .before .before .before .before .before .before .before .before .before .pre .1, l .inv .long)
 
 loop-less : tie.Need-loop-less Inv-loop μ-loop
 loop-less c = search needs
@@ -53,17 +53,17 @@ loop-less c = search needs
 loop-again : tie.Need-loop-again Inv-loop μ-loop
 loop-again c =
     let l = c .before .before .before .before .before .before .before .before .before .before .loop in
-    let s = c .before .before .before .before .before .before .before .before .before .before .before .before in
-    lowering-next (s .args .history .now) (s .args .n) (s .args .term .0) (s .args .first .0) (l .history) (l .k) (l .inv) (c .before .before .before .before .before .before .before .before .before .loop-test .taken) _ (c .before .before .before .before .before .before .before .election-term .ensures) (c .before .before .before .before .if1 .left) _ (c .before .before .lower-mark .ensures)
+    let s = c .before .before .before .before .before .before .before .before .before .before .before .before .before .before .args in
+    lowering-next (s .history .now) (s .term .0) (s .first .0) (l .history) (l .k) (l .inv) (c .before .before .before .before .before .before .before .before .before .loop-test .taken) _ (c .before .before .before .before .before .before .before .election-term .ensures) (c .before .before .before .before .if1 .left) _ (c .before .before .lower-mark .ensures)
 
 same-length-2 : tie.Need-same-length-2 Inv-loop μ-loop
-same-length-2 c = c .before .loop .inv .long ∙ sym (c .before .before .before .pre .2)
+same-length-2 c = c .before .loop .inv .long ∙ sym (c .before .before .before .before .before .pre .2)
 
 returns-2 : tie.Need-returns-2 Inv-loop μ-loop
 returns-2 c =
     let l = c .before .loop in
-    let s = c .before .before .before in
-    lowering-none (s .args .history .now) (s .args .n) (s .args .term .0) (s .args .first .0) (l .history) (l .k) (l .inv) (c .loop-test .left)
+    let s = c .before .before .before .before .before .args in
+    lowering-none (s .history .now) (s .term .0) (s .first .0) (l .history) (l .k) (l .inv) (c .loop-test .left)
 
 pub lower-marks-spec : {M : Type 1} → statement M
 lower-marks-spec =
@@ -71,6 +71,7 @@ lower-marks-spec =
     (tie.spec
     Inv-loop
     μ-loop
+    certificate-count-requires
     loop-holds
     sub-k
     election-term-requires

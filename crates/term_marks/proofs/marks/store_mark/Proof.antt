@@ -1,9 +1,9 @@
--- `term_marks::marks::set_mark` meets its contract.
+-- `term_marks::marks::store_mark` meets its contract.
 -- Assumes nothing.
 use Rattle.term_marks.specs.Marks.{markSet}
 use borrow.Author.Needs.{needs}
-use Rattle.term_marks.proofs.marks.set_mark.Statement.{statement}
-use Rattle.term_marks.proofs.marks.set_mark.Tie as tie
+use Rattle.term_marks.proofs.marks.store_mark.Statement.{statement}
+use Rattle.term_marks.proofs.marks.store_mark.Tie as tie
 
 mul-o : tie.Need-mul-o
 mul-o c = search needs
@@ -24,5 +24,5 @@ returns : tie.Need-returns
 unfolding markSet
 returns c = search needs
 
-pub set-mark-spec : {M : Type 1} → statement M
-set-mark-spec = tie.close (tie.spec mul-o add-o add-put16 put16-requires same-length returns)
+pub store-mark-spec : {M : Type 1} → statement M
+store-mark-spec = tie.close (tie.spec mul-o add-o add-put16 put16-requires same-length returns)

@@ -1,12 +1,14 @@
--- `committed_prefix::committed::note_difference` meets its contract.
+-- `commit::prefix::note_difference` meets its contract.
 -- Assumes nothing.
 use mathlib.Core.Path.{ap, _∙_}
 use lib.ListN.{length}
+use borrow.Author.Tests.{not-true, not-false}
 use Rattle.storage.proofs.WellFormed.{formed}
 use Rattle.log_violation.proofs.ViolationLaws.{in-length}
-use Rattle.committed_prefix.proofs.PrefixTurns.{unseen-length, note-full, note-so}
-use Rattle.committed_prefix.proofs.committed.note_difference.Statement.{statement}
-use Rattle.committed_prefix.proofs.committed.note_difference.Tie as tie
+use Rattle.committed_prefix.proofs.PrefixTurns.{unseen-length}
+use Rattle.commit.proofs.Difference.{note-full, note-so}
+use Rattle.commit.proofs.prefix.note_difference.Statement.{statement}
+use Rattle.commit.proofs.prefix.note_difference.Tie as tie
 
 note-in-requires : tie.Need-note-in-requires
 note-in-requires c κs =
@@ -19,7 +21,7 @@ same-length c = ap length (c .before .before .before .note-in .ensures .1) ∙ i
 returns : tie.Need-returns
 returns c =
     let s = c .before .before .before .before .before .before in
-    note-full (s .args .history .now) (s .args .node .0) (s .args .end .0) _ _ (c .before .before .before .note-in .ensures) (c .if1 .taken)
+    note-full (s .args .history .now) (s .args .node .0) (s .args .end .0) _ _ (c .before .before .before .note-in .ensures) (not-true _ (c .if1 .taken))
 
 set-unseen-requires : tie.Need-set-unseen-requires
 set-unseen-requires c κs =
@@ -33,7 +35,7 @@ same-length-2 c =
 returns-2 : tie.Need-returns-2
 returns-2 c =
     let s = c .before .before .before .before .before .before .before .before .before .before in
-    note-so (s .args .history .now) (s .args .node .0) (s .args .end .0) _ _ (c .before .before .before .before .before .before .before .note-in .ensures) (c .before .before .before .before .if1 .left) _ (c .before .before .set-unseen .ensures)
+    note-so (s .args .history .now) (s .args .node .0) (s .args .end .0) _ _ (c .before .before .before .before .before .before .before .note-in .ensures) (not-false _ (c .before .before .before .before .if1 .left)) _ (c .before .before .set-unseen .ensures)
 
 pub note-difference-spec : {M : Type 1} → statement M
 note-difference-spec =
