@@ -7,7 +7,6 @@ ghost use Rattle.storage.specs.Tables.{certificateRows};
 ghost use Rattle.storage.specs.Rules.{certificateRight, follows as followsRow, numbered as numberedRows};
 ghost use Rattle.certificate_rows.specs.Values.{certificateValue};
 use certificate_rows::certificates::Certificate;
-use certificate_rows::certificates::LOG_PRESENT;
 use certificate_rows::certificates::certificate_at;
 use units::INDEX_LIMIT;
 use units::NODE_LIMIT;
@@ -25,7 +24,7 @@ fn certificate_right(n: usize, c: Certificate) -> bool
     if NODE_LIMIT < c.leader.0 {
         return false;
     }
-    c.present <= LOG_PRESENT
+    c.present <= 1
 }
 
 // The storage rules of every one of m rows by itself.

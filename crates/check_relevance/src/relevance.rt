@@ -8,7 +8,7 @@ ghost use Rattle.storage.specs.Tables.{termRow};
 ghost use Rattle.storage.specs.Rules.{wellFormed};
 ghost use Rattle.storage.specs.Values.{committedEnd};
 ghost use Rattle.certificate_rows.specs.Values.{certificateValue};
-ghost use Rattle.table_rows.specs.Found.{foundIndex};
+ghost use Rattle.table_rows.specs.TermSearch.{foundIndex};
 ghost use Rattle.check_relevance.specs.Relevance.{lastRelevant, relevantIn};
 use certificate_rows::certificates::Certificate;
 use storage::head::last_recorded;

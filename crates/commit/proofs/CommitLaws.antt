@@ -5,7 +5,7 @@ use native.Mathlib.Omega.{arith}
 use mathlib.Core.Path.{_≡_, refl, sym, _∙_, ap, subst, subst₂}
 use mathlib.Core.Bool.{Bool, true, false, cond}
 use mathlib.Core.Logic.{_⊎_, inl, inr, ⊎-elim}
-use mathlib.Core.List.{List, [], _∷_, List·Memᴰ·eq-of-singleton}
+use mathlib.Core.List.{List, [], _∷_}
 use mathlib.Core.Option.{none, some}
 use lib.Dec.{leb, ltb, eqb}
 use lib.ListN.{length, take}
@@ -17,23 +17,21 @@ use Rattle.model.specs.History.{Finding, History, frontOf, noted}
 use Rattle.model.specs.Commit.{seen, unseenMark, replaces, differences, commitFindings, commitRefusal, agreement, commitValue, commitEffect}
 use Rattle.model.proofs.Tests.{either, cond-true, cond-false, yes-same}
 use Rattle.storage_bytes.specs.Words.{wordAt}
-use Rattle.storage.specs.Tables.{findingRow}
-use Rattle.storage_bytes.proofs.ListLaws.{tabulate-length}
 use Rattle.storage.proofs.RuleLaws.{pass, stop}
-use Rattle.storage.proofs.DecodeLaws.{FindingNamed}
-use Rattle.storage.proofs.Meanings.{Stands, withNoted, findings-right, noted-right}
+use Rattle.storage.proofs.Meanings.{Stands, withNoted, findings-read}
 use Rattle.prefix_lookup.specs.declared.lookup.Slice.{Slice}
-use Rattle.log_violation.specs.Violation.{findingsKept}
+use Rattle.log_violation.specs.Violation.{roomFor, notedIn}
 use Rattle.prefix_lookup.specs.Prefix.{witness, storedOf, frontThrough}
-use Rattle.committed_prefix.specs.Prefix.{longerIn, endIn, agreeIn, unseenSet, keepBytes}
-use Rattle.commit.specs.Prefix.{flagsOf, difference, heldWith, tableWith, noteAnswer, noteLeaves, commitAnswer, commitBytes, Inserted, Observed}
+use Rattle.committed_prefix.specs.Prefix.{agreeIn, unseenSet, keepBytes}
+use Rattle.commit.specs.Prefix.{longerIn, endIn, flagsOf, difference, noteAnswer, noteLeaves, commitAnswer, commitBytes, Inserted, Observed}
 use Rattle.prefix_lookup.proofs.StoredLaws.{stored-none, stored-read}
 use Rattle.prefix_lookup.proofs.Fronts.{Part, front-cut}
 use Rattle.commit.specs.declared.prefix.CommitAnswer.{CommitAnswer}
 use Rattle.storage.proofs.WellFormed.{formed}
 use Rattle.commit.proofs.PrefixTurns.{insert-differs, keep-is, insert-longer, insert-shorter, observe-unseen, observe-zero, observe-first, observe-later}
-use Rattle.committed_prefix.proofs.PrefixLaws.{changed, at, committed-is, owner-is, findings-held, empty-is, longer-means, end-means, agree-means, end-limit, unseen-written, noted-written, keep-written}
-use Rattle.commit.proofs.Difference.{difference-holds, table-length}
+use Rattle.committed_prefix.proofs.PrefixLaws.{changed, at, committed-is, owner-is, empty-is, unseen-written, keep-written}
+use Rattle.commit.proofs.Ends.{longer-means, end-means, agree-means, end-limit}
+use Rattle.commit.proofs.Difference.{difference-noted}
 
 -- ---- of the model alone
 
@@ -110,7 +108,7 @@ module _ (x : History) (n i : ℕ) where
 
   module _ (h : Bytes) (s : Stands h x) (here : n < 64) (limit : i ≤ 256) where
     held : length (x .findings) ≤ 128
-    held = (let a = findings-held h x s in let b = formed h (s .right) .findings in omega arith)
+    held = (let a = ap (λ (y : History). length (y .findings)) (sym (s .decodes)) ∙ findings-read h in let b = formed h (s .right) .findings in omega arith)
 
     -- nothing is seen: only the mark is set
     nothing-seen : (m : ℕ) → m ≤ 256 → m ≡ unseenMark (frontOf x n) i → seen x n i ≡ [] → Accepts 0 (unseenSet h n m)
@@ -205,48 +203,25 @@ module _ (x : History) (n i : ℕ) where
           keeps : replaces (x .committed) (seen x n i) ≡ false
           keeps = replaces-not (x .committed) (seen x n i) (agree-is ∙ e)
 
-          room-left : heldWith h n (endIn h c p) ≤ 128 → Stands (findingsKept h (tableWith h n (endIn h c p)) (heldWith h n (endIn h c p))) (withNoted x fs)
-              → length fs ≤ 128 → Outcome h (noteAnswer h n (endIn h c p)) (noteLeaves h n (endIn h c p))
-          unfolding noteAnswer noteLeaves
-          room-left l w m =
-              let f = le-ltb 128 (heldWith h n (endIn h c p)) l in
-              let k = endIn h c p in
-              let y = withNoted x fs in
-              let z = findingsKept h (tableWith h n k) (heldWith h n k) in
-              let made : Accepts 0 (unseenSet z n 0) =
-              record {
-                refuses = few fs found m;
-                value = sym (value-is false e);
-                stands =
-                    subst (Stands (unseenSet z n 0))
-                    (effect-is 0 (x .committed) (x .owner) fs reach
-                    (sym (cond-false (replaces (x .committed) (seen x n i)) _ _ keeps)) (sym (cond-false (replaces (x .committed) (seen x n i)) _ _ keeps)) found)
-                    (unseen-written z y w n 0 here (omega arith));
-              } in
-              inl (0, cond-false (ltb 128 (heldWith h n k)) _ _ f, subst (Accepts 0) (sym (cond-false (ltb 128 (heldWith h n k)) h (unseenSet z n 0) f)) made)
-
-          none-left : 128 < heldWith h n (endIn h c p) → 128 < length fs → Outcome h (noteAnswer h n (endIn h c p)) (noteLeaves h n (endIn h c p))
-          unfolding noteAnswer noteLeaves
-          none-left l m =
-              let f = lt-ltb 128 (heldWith h n (endIn h c p)) l in
-              inr (cond-true (ltb 128 (heldWith h n (endIn h c p))) _ _ f, many fs found m, cond-true (ltb 128 (heldWith h n (endIn h c p))) h _ f)
-
           differs-seen : Outcome h (noteAnswer h n (endIn h c p)) (noteLeaves h n (endIn h c p))
+          unfolding noteAnswer noteLeaves
           differs-seen =
-              let k = endIn h c p in
-              let top = end-limit h x s c p lc within in
-              let t = tableWith h n k in
+              let f = difference n (endIn h c p) in
               ⊎-elim
               (λ y.
-              let size = ap length (y .1) ∙ refl in
-              let counted = tabulate-length (findingRow t) 0 (heldWith h n k) in
-              room-left (y .0)
-              (noted-written h x s t (heldWith h n k) fs (table-length h x s n k) (y .0) (y .1)
-              (noted-right (difference n k ∷ []) (x .findings) (findings-right h x s)
-              (λ g m. subst FindingNamed (sym (List·Memᴰ·eq-of-singleton m)) (record { low = omega arith; high = omega arith; node = omega arith; index = top }))))
-              (let few-held = y .0 in omega arith))
-              (λ y. none-left (let a = y .0 in omega arith) (y .1))
-              (difference-holds h x s n k here top)
+              let made : Accepts 0 (unseenSet (notedIn h f) n 0) =
+              record {
+                refuses = few fs found (y .few);
+                value = sym (value-is false e);
+                stands =
+                    subst (Stands (unseenSet (notedIn h f) n 0))
+                    (effect-is 0 (x .committed) (x .owner) fs reach
+                    (sym (cond-false (replaces (x .committed) (seen x n i)) _ _ keeps)) (sym (cond-false (replaces (x .committed) (seen x n i)) _ _ keeps)) found)
+                    (unseen-written (notedIn h f) (withNoted x fs) (y .stands) n 0 here (omega arith));
+              } in
+              inl (0, cond-true (roomFor h f) _ _ (y .room), subst (Accepts 0) (sym (cond-true (roomFor h f) (unseenSet (notedIn h f) n 0) h (y .room))) made))
+              (λ y. inr (cond-false (roomFor h f) _ _ (y .0), many fs found (y .1), cond-false (roomFor h f) _ h (y .0)))
+              (difference-noted h x s n (endIn h c p) here (end-limit h x s c p lc within))
 
 -- ---- all cases
 

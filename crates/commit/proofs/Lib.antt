@@ -1,3 +1,4 @@
+pub mod Ends
 pub mod PrefixTurns
 pub mod CommitLaws
 pub mod Difference

@@ -12,8 +12,8 @@ use Rattle.storage_bytes.specs.Words.{wordAt}
 use Rattle.storage.specs.Writes.{committedSet}
 use Rattle.prefix_lookup.specs.Prefix.{storedOf, frontThrough}
 use Rattle.prefix_lookup.specs.declared.lookup.Slice.{Slice}
-use Rattle.committed_prefix.specs.Prefix.{longerIn, endIn, agreeIn, unseenSet, keepBytes}
-use Rattle.commit.specs.Prefix.{flagsOf, noteAnswer, noteLeaves, Noted, insertAnswer, insertLeaves, keptAnswer, keptLeaves, seenAnswer, seenLeaves, commitAnswer, commitBytes, Inserted, Observed}
+use Rattle.committed_prefix.specs.Prefix.{agreeIn, unseenSet, keepBytes}
+use Rattle.commit.specs.Prefix.{longerIn, endIn, flagsOf, noteAnswer, noteLeaves, Noted, insertAnswer, insertLeaves, keptAnswer, keptLeaves, seenAnswer, seenLeaves, commitAnswer, commitBytes, Inserted, Observed}
 use Rattle.prefix_lookup.specs.declared.lookup.Stored.{Stored}
 use Rattle.units.specs.declared.LogPrefixWitness.{LogPrefixWitness}
 use Rattle.commit.specs.declared.prefix.CommitAnswer.{CommitAnswer}

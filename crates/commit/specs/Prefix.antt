@@ -1,23 +1,31 @@
 -- A commit index on the bytes of a history, in the order of the code: what the prefix that it shows is answered, and what it leaves.
 -- Assumes nothing.
-use Prim.Native.Nat.{ℕ}
+use Prim.Native.Nat.{ℕ, min}
 use mathlib.Core.Path.{_≡_}
-use mathlib.Core.Bool.{cond}
+use mathlib.Core.Bool.{Bool, cond}
 use lib.Dec.{ltb, eqb}
 use Rattle.model.specs.Sizes.{Bytes}
 use Rattle.model.specs.History.{Finding}
 use Rattle.model.specs.Refusal.{findingsFull}
 use Rattle.model.specs.Answer.{Answer, accepted, refused}
 use Rattle.storage_bytes.specs.Words.{wordAt}
-use Rattle.storage.specs.Tables.{findingsPart}
+use Rattle.storage.specs.Values.{indexOf}
 use Rattle.prefix_lookup.specs.Prefix.{storedOf, frontThrough}
 use Rattle.prefix_lookup.specs.declared.lookup.Slice.{Slice}
 use Rattle.prefix_lookup.specs.declared.lookup.Stored.{Stored}
 use Rattle.commit.specs.declared.prefix.CommitAnswer.{CommitAnswer}
-use Rattle.committed_prefix.specs.Prefix.{longerIn, endIn, agreeIn, unseenSet, keepBytes}
-use Rattle.log_violation.specs.Violation.{noteHeld, noteBytes, findingsKept}
+use Rattle.committed_prefix.specs.Prefix.{rowsOf, agreeIn, unseenSet, keepBytes}
+use Rattle.log_violation.specs.Violation.{roomFor, notedIn}
 
 -- ---- judged: nothing is written
+
+-- the second prefix is the longer one
+unfoldable pub longerIn : Bytes → ℕ → ℕ → Bool
+longerIn h a b = ltb (indexOf (rowsOf h) a) (indexOf (rowsOf h) b)
+
+-- "through the shorter end"
+unfoldable pub endIn : Bytes → ℕ → ℕ → ℕ
+endIn h a b = min (indexOf (rowsOf h) a) (indexOf (rowsOf h) b)
 
 -- "flag 1, and flag 2 if the owner is another node"
 abbrev pub flagsOf : ℕ → ℕ → ℕ
@@ -29,24 +37,14 @@ flagsOf owner n = cond (eqb owner n) 1 3
 abbrev pub difference : ℕ → ℕ → Finding
 difference n i = record { name = 4; node = n; index = i; term = 0 }
 
--- how many findings are held with it, and their table
-unfoldable pub heldWith : Bytes → ℕ → ℕ → ℕ
-unfolding noteHeld
-heldWith h n i = noteHeld (findingsPart h) (wordAt h 7 1) (difference n i)
-
-unfoldable pub tableWith : Bytes → ℕ → ℕ → Bytes
-unfolding noteBytes
-tableWith h n i = noteBytes (findingsPart h) (wordAt h 7 1) (difference n i)
-
 -- a difference is noted, unless there are too many: then every byte is left
 unfoldable pub noteAnswer : Bytes → ℕ → ℕ → CommitAnswer
-unfolding heldWith
-noteAnswer h n i = cond (ltb 128 (heldWith h n i)) CommitAnswer.FindingsFull (CommitAnswer.Accepted 0)
+unfolding roomFor
+noteAnswer h n i = cond (roomFor h (difference n i)) (CommitAnswer.Accepted 0) CommitAnswer.FindingsFull
 
 unfoldable pub noteLeaves : Bytes → ℕ → ℕ → Bytes
-unfolding heldWith tableWith findingsKept unseenSet
-noteLeaves h n i =
-    cond (ltb 128 (heldWith h n i)) h (unseenSet (findingsKept h (tableWith h n i) (heldWith h n i)) n 0)
+unfolding roomFor notedIn unseenSet
+noteLeaves h n i = cond (roomFor h (difference n i)) (unseenSet (notedIn h (difference n i)) n 0) h
 
 -- the prefix p held against the committed one, c
 unfoldable pub insertAnswer : Bytes → ℕ → ℕ → ℕ → CommitAnswer

@@ -1,2 +1,2 @@
-// Kind 2, after commit/prefix.rs of the Rust: the committed prefix. Stands on committed_prefix.
+// Kind 2, after commit/prefix.rs of the Rust: the committed prefix. Stands on committed_prefix, prefix_lookup and log_violation.
 pub mod prefix;

@@ -21,9 +21,9 @@ use Rattle.storage.proofs.WriteLaws.{region-back}
 use Rattle.storage.proofs.RowLaws.{word-before, word-after}
 use Rattle.storage.proofs.RuleLaws.{pass, stop}
 use Rattle.units.specs.declared.LogIndex.{LogIndex}
-use Rattle.table_rows.specs.Found.{foundIndex}
+use Rattle.table_rows.specs.TermSearch.{foundIndex}
 use Rattle.table_rows.specs.declared.terms.FoundIndex.{FoundIndex}
-use Rattle.table_rows.proofs.FoundLaws.{index-found, index-none, index-told, nothing-told}
+use Rattle.table_rows.proofs.TermSearchLaws.{index-found, index-none, index-told, nothing-told}
 use Rattle.term_marks.specs.Marks.{lowerBack}
 use Rattle.commit_terms.specs.Terms.{lengthenedTo, termIn, isReplaced, firstReplaced, replaceBytes, replaceAll, changedFrom, recordBytes, termsAnswer, termsBytes}
 use Rattle.commit_terms.specs.declared.terms.TermsAnswer.{TermsAnswer}
@@ -113,8 +113,8 @@ left-more : (new k : ℕ) → k < new → new - k ≡ suc (new - (k + 1))
 left-more new k h = omega arith
 
 -- the place of the index after k
-place-after : (k : ℕ) → k + 1 - 1 ≡ k
-place-after k = omega arith
+place-is : (k : ℕ) → k + 1 - 1 ≡ k
+place-is k = omega arith
 
 module _ (row : ℕ → ℕ) (t old new : ℕ) where
   abbrev pub Searching : ℕ → Type 0
@@ -130,7 +130,7 @@ module _ (row : ℕ → ℕ) (t old new : ℕ) where
 
     module _ (l : k < new) (x : ℕ) (e : x ≡ row (k + 1 - 1)) (b : Bool) (eb : b ≡ isReplaced t x) where
       look : isReplaced t (row k) ≡ b
-      look = ap (isReplaced t) (sym (e ∙ ap row (place-after k))) ∙ sym eb
+      look = ap (isReplaced t) (sym (e ∙ ap row (place-is k))) ∙ sym eb
 
       pub searching-found : b ≡ true → Found (FoundIndex.At (record { 0 = k + 1 }))
       unfolding firstReplaced
@@ -158,7 +158,7 @@ module _ (h₀ : Bytes) (first new t : ℕ) where
     pub replacing-next : k < new → (u : Bytes) → u ≡ replaceBytes h (k + 1 - 1) t → Replacing h₀ (first - 1) new t u (k + 1)
     unfolding replaceAll
     replacing-next l u e =
-        let q = e ∙ ap (λ (j : ℕ). replaceBytes h j t) (place-after k) in
+        let q = e ∙ ap (λ (j : ℕ). replaceBytes h j t) (place-is k) in
         record {
           bytes = w .bytes ∙ ap (replaceAll h t k) (left-more new k l) ∙ ap (λ (z : Bytes). replaceAll z t (k + 1) (new - (k + 1))) (sym q);
           long = ap length q ∙ replace-length h k t ∙ w .long;

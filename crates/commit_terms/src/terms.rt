@@ -6,7 +6,7 @@ ghost use Prim.Native.Nat.{_+_, _-_, _≤_};
 ghost use lib.ListN.{length};
 ghost use Rattle.storage.specs.Rules.{wellFormed};
 ghost use Rattle.storage.specs.Tables.{termRow};
-ghost use Rattle.table_rows.specs.Found.{foundIndex};
+ghost use Rattle.table_rows.specs.TermSearch.{foundIndex};
 ghost use Rattle.commit_terms.specs.Terms.{lengthenedTo, isReplaced, firstReplaced, replaceBytes, replaceAll, termsAnswer, termsBytes};
 use storage::fresh::clear;
 use storage::head::last_recorded;

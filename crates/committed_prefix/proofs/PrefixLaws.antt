@@ -1,36 +1,30 @@
 -- What the numbers of prefixes mean where bytes stand for a history, and what each write of this kind means.
 -- Assumes nothing.
-use Prim.Native.Nat.{ℕ, _-_, _≤_, _<_, min}
+use Prim.Native.Nat.{ℕ, _≤_, _<_}
 use native.Mathlib.Omega.{arith}
-use mathlib.Core.Path.{_≡_, refl, sym, _∙_, ap, subst}
-use mathlib.Core.Bool.{true, false, cond}
+use mathlib.Core.Path.{_≡_, sym, _∙_, ap, subst}
+use mathlib.Core.Bool.{false}
 use mathlib.Core.Logic.{⊎-elim}
 use mathlib.Core.List.{List, []}
-use lib.Dec.{ltb}
 use lib.ListN.{length, getD, set, take}
 use lib.Seq.{set-getD}
-use borrow.Author.Tests.{ltb-true, ltb-false}
 use Rattle.model.specs.Sizes.{Bytes}
-use Rattle.model.specs.Entry.{Prefix, same, agree}
+use Rattle.model.specs.Entry.{Prefix, same}
 use Rattle.model.specs.History.{Finding, History}
-use Rattle.model.proofs.Tests.{cond-cases}
 use Rattle.storage_bytes.specs.Words.{wordAt}
-use Rattle.storage.specs.Values.{indexOf, numberIndex}
-use Rattle.storage_bytes.specs.Lists.{every}
-use Rattle.storage.specs.Tables.{PrefixRow, NodeRow, findingRows, prefixRows, prefixesPart}
+use Rattle.storage.specs.Tables.{PrefixRow, NodeRow, prefixRows, prefixesPart}
 use Rattle.storage.specs.Decode.{prefixAt, resolve}
-use Rattle.storage.specs.Rules.{findingRight}
 use Rattle.storage.proofs.RowFacts.{Facts}
-use Rattle.storage.proofs.Meanings.{Stands, withNoted, prefixes-read, findings-read, owner-read, last-read, node-written, committed-written, prefixes-stored, number-length, committed-stored, findings-taken}
-use Rattle.log_violation.specs.Violation.{findingsKept}
+use Rattle.storage.proofs.Meanings.{Stands, prefixes-read, owner-read, last-read, node-written, committed-written, prefixes-stored, committed-stored}
 use Rattle.prefix_lookup.specs.Prefix.{sliceOf}
 use Rattle.log_comparison.specs.Comparison.{sameFrom}
 use Rattle.prefix_lookup.specs.declared.lookup.Slice.{Slice}
 use Rattle.prefix_lookup.proofs.TableLaws.{rows-length, rows-at}
 use Rattle.prefix_lookup.proofs.Fronts.{Part, slice-is, front-is}
 use Rattle.log_comparison.proofs.ComparisonLaws.{same-prefix}
-use Rattle.committed_prefix.specs.Prefix.{rowsOf, nodeOf, longerIn, endIn, sameSlices, agreeIn, unseenSet, keepBytes}
-use Rattle.storage.proofs.WellFormed.{Formed, formed, formed-rows, formed-index}
+use Rattle.committed_prefix.specs.Prefix.{rowsOf, nodeOf, sameSlices, agreeIn, unseenSet, keepBytes}
+use Rattle.committed_prefix.proofs.PrefixTurns.{none-first}
+use Rattle.storage.proofs.WellFormed.{Formed, formed, formed-rows}
 
 -- the history with a node's unseen mark, the committed prefix with its owner, and the findings anew
 abbrev pub changed : History → ℕ → ℕ → Prefix → ℕ → List Finding → History
@@ -46,11 +40,6 @@ changed x n m c o fs =
       certificates = x .certificates;
       findings = fs;
     }
-
--- the lesser of two by the code's test
-lesser : (a b : ℕ) → cond (ltb a b) a b ≡ min a b
-lesser a b =
-    cond-cases (λ (z : ℕ). z ≡ min a b) (ltb a b) a b (λ e. let l = ltb-true a b e in omega arith) (λ e. let l = ltb-false a b e in omega arith)
 
 module _ (h : Bytes) (x : History) (s : Stands h x) where
   -- the prefix of a number
@@ -89,16 +78,9 @@ module _ (h : Bytes) (x : History) (s : Stands h x) where
   pub prefixes-held : length (x .prefixes) ≡ wordAt h 0 2
   prefixes-held = ap (λ (y : History). length (y .prefixes)) (sym (s .decodes)) ∙ prefixes-read h
 
-  pub findings-held : length (x .findings) ≡ wordAt h 7 1
-  findings-held = ap (λ (y : History). length (y .findings)) (sym (s .decodes)) ∙ findings-read h
-
   pub empty-is : (p : ℕ) → p ≤ wordAt h 0 2 → at p ≡ [] → p ≡ 0
   empty-is p l e =
       known .distinct p 0 (number p l) (omega arith) (ap (λ (ps : List Prefix). prefixAt ps p) resolves ∙ e)
-
-  pub index-is : (p : ℕ) → p ≤ wordAt h 0 2 → indexOf (rowsOf h) p ≡ length (at p)
-  unfolding numberIndex
-  index-is p l = number-length h x s p l
 
   same-is : (p q : ℕ) → p ≤ wordAt h 0 2 → q ≤ wordAt h 0 2 → sameFrom (rowsOf h) p p q ≡ same (at p) (at q)
   same-is p q l m =
@@ -111,14 +93,6 @@ module _ (h : Bytes) (x : History) (s : Stands h x) where
   -- ---- two stored prefixes compared
 
   module _ (c p : ℕ) (lc : c ≤ wordAt h 0 2) (lp : p ≤ wordAt h 0 2) where
-    pub longer-means : longerIn h c p ≡ ltb (length (at c)) (length (at p))
-    unfolding longerIn
-    longer-means = λ j. ltb (index-is c lc j) (index-is p lp j)
-
-    pub end-means : endIn h c p ≡ min (length (at c)) (length (at p))
-    unfolding endIn longerIn
-    end-means = lesser (indexOf (rowsOf h) c) (indexOf (rowsOf h) p) ∙ (λ j. min (index-is c lc j) (index-is p lp j))
-
     -- through an index that both reach, and through one that the first does not
     pub agree-at : (i : ℕ) → i ≤ length (at c) → i ≤ length (at p) → agreeIn h c p i ≡ same (take i (at c)) (take i (at p))
     unfolding agreeIn
@@ -132,23 +106,8 @@ module _ (h : Bytes) (x : History) (s : Stands h x) where
     pub agree-beyond : (i : ℕ) → length (at c) < i → agreeIn h c p i ≡ false
     unfolding agreeIn
     agree-beyond i l =
-        ⊎-elim (λ b. ap (λ (y : Slice). sameSlices (rowsOf h) y (sliceOf (rowsOf h) p i)) (b .0) ∙ none-first (sliceOf (rowsOf h) p i))
+        ⊎-elim (λ b. ap (λ (y : Slice). sameSlices (rowsOf h) y (sliceOf (rowsOf h) p i)) (b .0) ∙ none-first (rowsOf h) (sliceOf (rowsOf h) p i))
         (λ b. absurd (let z = b .reaches in omega arith)) (slice-is h x s c i lc)
-      where
-        none-first : (y : Slice) → sameSlices (rowsOf h) Slice.Beyond y ≡ false
-        none-first (Slice.Prefix q) = refl
-        none-first Slice.Beyond = refl
-
-    pub agree-means : agreeIn h c p (endIn h c p) ≡ agree (at c) (at p)
-    unfolding agree
-    agree-means =
-        let e = end-means in
-        agree-at (endIn h c p) (omega arith) (omega arith) ∙ ap (λ (k : ℕ). same (take k (at c)) (take k (at p))) e
-
-    -- an end is an index
-    pub end-limit : endIn h c p ≤ 256
-    unfolding numberIndex
-    end-limit = (let e = end-means in let b = index-is c lc in let d = formed-index h facts c lc in omega arith)
 
   -- ---- what is written
 
@@ -176,14 +135,6 @@ module _ (h : Bytes) (x : History) (s : Stands h x) where
         findings = x .findings;
       })
       (node-written h x s n row l (record { front = r .front; last = r .last; unseen = b }))
-
-  -- the findings and their count
-  pub noted-written : (t : Bytes) (m : ℕ) (fs : List Finding) → length t ≡ 1024 → m ≤ 128 → findingRows t m ≡ fs → every findingRight fs ≡ true
-      → Stands (findingsKept h t m) (withNoted x fs)
-  unfolding findingsKept
-  noted-written t m fs lt lm e r =
-      subst (λ (gs : List Finding). Stands (findingsKept h t m) (withNoted x gs)) e
-      (findings-taken h x s t m lt lm (ap (every findingRight) e ∙ r))
 
 -- the committed prefix and its owner, with the mark cleared
 pub keep-written : (h : Bytes) (x : History) (s : Stands h x) (n p : ℕ) → n < 64 → p ≤ wordAt h 0 2

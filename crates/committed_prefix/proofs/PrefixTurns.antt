@@ -1,18 +1,12 @@
 -- What the steps on the committed prefix answer and leave, by what they read.
 -- Assumes nothing.
-use Prim.Native.Nat.{ℕ, _+_, _*_, _≤_, _<_, min}
-use native.Mathlib.Omega.{arith}
+use Prim.Native.Nat.{ℕ, _+_, _*_, _≤_}
 use mathlib.Core.Path.{_≡_, refl, sym, _∙_, ap, subst}
 use mathlib.Core.Bool.{Bool, false}
-use mathlib.Core.Logic.{⊎-elim}
-use lib.Dec.{ltb}
 use lib.ListN.{length}
-use borrow.Author.Tests.{ltb-true, ltb-false}
 use Rattle.model.specs.Sizes.{Bytes}
-use Rattle.model.proofs.Tests.{either, cond-true, cond-false}
 use Rattle.storage_bytes.specs.Words.{wordAt, wordBytes, putBytes}
-use Rattle.storage.specs.Tables.{NodeRow, nodeRow, prefixRow, nodesPart, prefixesPart}
-use Rattle.storage.specs.Values.{numberIndex}
+use Rattle.storage.specs.Tables.{PrefixRow, NodeRow, nodeRow, prefixRow, nodesPart, prefixesPart}
 use Rattle.storage.specs.Writes.{nodeBytes, committedSet}
 use Rattle.storage_bytes.proofs.WordLaws.{put-length}
 use Rattle.prefix_lookup.specs.Prefix.{storedOf, sliceOf}
@@ -22,7 +16,7 @@ use Rattle.prefix_lookup.specs.declared.lookup.Stored.{Stored}
 use Rattle.prefix_lookup.proofs.StoredLaws.{stored-number}
 use Rattle.prefix_lookup.proofs.TableLaws.{whole-table, slice-within}
 use Rattle.prefix_lookup.proofs.FrontLaws.{node-read}
-use Rattle.committed_prefix.specs.Prefix.{rowsOf, nodeOf, longerIn, endIn, sameSlices, agreeIn, unseenSet, keepBytes}
+use Rattle.committed_prefix.specs.Prefix.{rowsOf, nodeOf, sameSlices, agreeIn, unseenSet, keepBytes}
 use Rattle.units.specs.declared.LogPrefixWitness.{LogPrefixWitness}
 use Rattle.storage.proofs.WellFormed.{Formed}
 
@@ -44,37 +38,19 @@ unseen-is h n q eq x ex m u e =
 
 -- ---- compared
 
-module _ (h : Bytes) (a b : ℕ) (q : Bytes) (eq : q ≡ prefixesPart h) (i : ℕ) (ei : i ≡ numberIndex q a) (j : ℕ) (ej : j ≡ numberIndex q b) where
-  pub longer-is : ltb i j ≡ longerIn h a b
-  unfolding longerIn numberIndex
-  longer-is = (λ z. ltb (ei z) (ej z)) ∙ ap (λ (u : Bytes). ltb (numberIndex u a) (numberIndex u b)) eq
-
-  pub end-is : min i j ≡ endIn h a b
-  unfolding endIn numberIndex
-  end-is =
-      ⊎-elim
-      (λ t. min-first (ltb-true i j t) ∙ ei ∙ ap (λ (u : Bytes). numberIndex u a) eq ∙ sym (cond-true (longerIn h a b) _ _ (sym longer-is ∙ t)))
-      (λ f. min-second (ltb-false i j f) ∙ ej ∙ ap (λ (u : Bytes). numberIndex u b) eq ∙ sym (cond-false (longerIn h a b) _ _ (sym longer-is ∙ f)))
-      (either (ltb i j))
-    where
-      min-first : i < j → min i j ≡ i
-      min-first l = omega arith
-
-      min-second : j ≤ i → min i j ≡ j
-      min-second l = omega arith
+-- where the first is not there
+pub none-first : (row : ℕ → PrefixRow) (s : Slice) → sameSlices row Slice.Beyond s ≡ false
+none-first row (Slice.Prefix p) = refl
+none-first row Slice.Beyond = refl
 
 module _ (h : Bytes) (a b i : ℕ) (q : Bytes) (eq : q ≡ prefixesPart h) (r : Slice) (er : r ≡ sliceOf (prefixRow q) a i) where
   first-slice : sliceOf (rowsOf h) a i ≡ r
   first-slice = sym (er ∙ ap (λ (u : Bytes). sliceOf (prefixRow u) a i) eq)
 
-  none-first : (s : Slice) → sameSlices (rowsOf h) Slice.Beyond s ≡ false
-  none-first (Slice.Prefix p) = refl
-  none-first Slice.Beyond = refl
-
   pub agree-short : r ≡ Slice.Beyond → false ≡ agreeIn h a b i
   unfolding agreeIn
   agree-short e =
-      sym (ap (λ (x : Slice). sameSlices (rowsOf h) x (sliceOf (rowsOf h) b i)) (first-slice ∙ e) ∙ none-first (sliceOf (rowsOf h) b i))
+      sym (ap (λ (x : Slice). sameSlices (rowsOf h) x (sliceOf (rowsOf h) b i)) (first-slice ∙ e) ∙ none-first (rowsOf h) (sliceOf (rowsOf h) b i))
 
   pub slice-kept : (p : LogPrefixWitness) → Formed h → a ≤ wordAt h 0 2 → r ≡ Slice.Prefix p → p .0 ≤ wordAt h 0 2
   slice-kept p f l e = stored-within h a i p f l (first-slice ∙ e)
@@ -99,7 +75,11 @@ pub unseen-length : (h : Bytes) (n m : ℕ) → length (unseenSet h n m) ≡ len
 unfolding unseenSet
 unseen-length h n m = put-length h (9 + n * 6) (nodeBytes (record { front = nodeOf h n .front; last = nodeOf h n .last; unseen = m }))
 
+committed-length : (h : Bytes) (p o : ℕ) → length (committedSet h p o) ≡ length h
+unfolding committedSet
+committed-length h p o = put-length (putBytes h 4 (wordBytes 2 p)) 8 (wordBytes 1 o) ∙ put-length h 4 (wordBytes 2 p)
+
+-- whoever is the owner
 pub keep-length : (h : Bytes) (n p : ℕ) → length (keepBytes h n p) ≡ length h
-unfolding keepBytes committedSet
-keep-length h n p =
-    put-length (putBytes (unseenSet h n 0) 4 (wordBytes 2 p)) 8 (wordBytes 1 n) ∙ put-length (unseenSet h n 0) 4 (wordBytes 2 p) ∙ unseen-length h n 0
+unfolding keepBytes
+keep-length h n p = committed-length (unseenSet h n 0) p _ ∙ unseen-length h n 0

@@ -1,11 +1,9 @@
 -- The committed prefix on the bytes of a history, in the order of the code: how two prefixes compare, and what is kept.
 -- Assumes nothing.
 use Prim.Native.Nat.{ℕ, _+_, _*_}
-use mathlib.Core.Bool.{Bool, false, cond}
-use lib.Dec.{ltb}
+use mathlib.Core.Bool.{Bool, false}
 use Rattle.model.specs.Sizes.{Bytes}
 use Rattle.storage_bytes.specs.Words.{putBytes}
-use Rattle.storage.specs.Values.{indexOf}
 use Rattle.storage.specs.Tables.{PrefixRow, NodeRow, nodeRow, prefixRow, nodesPart, prefixesPart}
 use Rattle.storage.specs.Writes.{nodeBytes, committedSet}
 use Rattle.prefix_lookup.specs.Prefix.{sliceOf}
@@ -19,14 +17,6 @@ rowsOf h = prefixRow (prefixesPart h)
 
 abbrev pub nodeOf : Bytes → ℕ → NodeRow
 nodeOf h n = nodeRow (nodesPart h) n
-
--- "through the shorter end"
-unfoldable pub longerIn : Bytes → ℕ → ℕ → Bool
-longerIn h a b = ltb (indexOf (rowsOf h) a) (indexOf (rowsOf h) b)
-
-unfoldable pub endIn : Bytes → ℕ → ℕ → ℕ
-unfolding longerIn
-endIn h a b = cond (longerIn h a b) (indexOf (rowsOf h) a) (indexOf (rowsOf h) b)
 
 -- both parts are there and the same
 abbrev pub sameSlices : (ℕ → PrefixRow) → Slice → Slice → Bool

@@ -54,7 +54,7 @@ pub fn note(findings: &mut [u8], n: usize, f: Found) -> usize
     n + 1
 }
 
-// The finding is noted among the history's own, where there is room for it; whether there is. Else nothing is written.
+// The finding is noted among the history's own; whether there is room for it. Where there is none, nothing is written.
 pub fn note_in(history: &mut [u8], f: Found) -> bool
     requires { ⌜ (wordAt (now history) 7 1 ≤ 128) × (length (now history) ≡ 24137) ⌝ }
     ensures { λ r. ⌜ (r ≡ roomFor (now (history .entry)) (findingValue f)) × (now (history .exit) ≡ notedIn (now (history .entry)) (findingValue f)) ⌝ }

@@ -28,7 +28,8 @@ pub fn last_recorded(head: &[u8]) -> LogIndex
     LogIndex(get16(head, 2))
 }
 
-// The committed prefix; the empty one where none is kept.
+// The number stored for the committed prefix, as it stands: that of the empty one where none is kept. `committed_prefix` looks it
+// up.
 pub fn committed(head: &[u8]) -> LogPrefixWitness
     requires { ⌜ 9 ≤ length (now head) ⌝ }
     ensures { λ r. ⌜ Word (now (head .entry)) 4 2 (r .0) ⌝ }

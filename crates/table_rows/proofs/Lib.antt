@@ -1,1 +1,1 @@
-pub mod FoundLaws
+pub mod TermSearchLaws

@@ -26,7 +26,7 @@ use units::NodeId;
 use units::Term;
 
 // A place along a front: the bit where its next entry begins, how many entries are left, the index that is next, and the
-// prefix before it.
+// last prefix before it that is stored.
 pub struct Place {
     pub at: usize,
     pub left: usize,
@@ -66,7 +66,7 @@ fn first_place(entries: usize) -> Place
     }
 }
 
-// The place behind one entry more, which ends before the bit `at`; `prefix` is the one before it then.
+// The place one entry further, where the next one begins at bit `at` and `prefix` is the last stored one before it.
 pub fn place_after(here: Place, at: usize, prefix: LogPrefixWitness) -> Place
     requires { ⌜ (1 ≤ here .left) × (here .index .0 ≤ 257) ⌝ }
     ensures { λ r. ⌜ r ≡ placeAt at (here .left - 1) (here .index .0 + 1) (prefix .0) ⌝ }

@@ -1,7 +1,7 @@
 -- `certificate_judgement::judgement::judge` meets its contract.
 -- Assumes nothing.
 use Rattle.certificate_judgement.proofs.JudgementLaws.{noted-length, judged-none, judged-some}
-use Rattle.table_rows.proofs.FoundLaws.{index-told, nothing-told}
+use Rattle.table_rows.proofs.TermSearchLaws.{index-told, nothing-told}
 use Rattle.certificate_rows.specs.Values.{certificateValue}
 use mathlib.Core.Path.{refl, sym, _∙_}
 use borrow.Author.Needs.{needs}

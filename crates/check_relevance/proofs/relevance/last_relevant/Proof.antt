@@ -1,7 +1,7 @@
 -- `check_relevance::relevance::last_relevant` meets its contract. The invariant: the answer is that of the indexes that are left.
 -- Assumes nothing.
 use Rattle.check_relevance.proofs.RelevanceLaws.{relevant-next, relevant-found, relevant-none}
-use Rattle.table_rows.proofs.FoundLaws.{index-found, index-none}
+use Rattle.table_rows.proofs.TermSearchLaws.{index-found, index-none}
 use Rattle.check_relevance.specs.Relevance.{lastRelevant}
 use Rattle.storage.specs.Tables.{termRow}
 use Prim.Native.Nat.{_≤_}

@@ -1,10 +1,10 @@
 -- `check_relevance::relevance::relevant_index` meets its contract.
 -- Assumes nothing.
 use Rattle.check_relevance.proofs.RelevanceLaws.{relevant-not-passed, relevant-read}
-use Rattle.table_rows.specs.Found.{foundIndex}
-use Rattle.table_rows.proofs.FoundLaws.{index-none}
+use Rattle.table_rows.specs.TermSearch.{foundIndex}
+use Rattle.table_rows.proofs.TermSearchLaws.{index-none}
 use Rattle.certificate_rows.specs.Values.{certificateValue}
-use Rattle.storage.proofs.WellFormed.{formed}
+use Rattle.storage.proofs.WellFormed.{formed, end-small}
 use mathlib.Core.Path.{_∙_, ap}
 use native.Mathlib.Omega.{arith}
 use borrow.Author.Needs.{needs}
@@ -27,9 +27,10 @@ term-table-requires c κs = formed _ (c .before .before .before .before .before 
 
 last-relevant-requires : tie.Need-last-relevant-requires
 last-relevant-requires c κs =
+    let s = c .before .before .before .before .before .before .before in
     let e = c .before .earlier .ensures in
-    let n = c .before .before .last-recorded .ensures .is in
-    let t = formed _ (c .before .before .before .before .before .before .before .pre .0) .terms in
+    let m = s .pre .1 in
+    let b = end-small _ (s .pre .0) in
     (omega arith, c .term-table .ensures .long)
 
 returns-2 : tie.Need-returns-2

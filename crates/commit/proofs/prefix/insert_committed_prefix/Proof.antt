@@ -1,7 +1,8 @@
 -- `commit::prefix::insert_committed_prefix` meets its contract.
 -- Assumes nothing.
-use Rattle.committed_prefix.specs.Prefix.{endIn, longerIn}
-use Rattle.committed_prefix.proofs.PrefixTurns.{unseen-length, end-is, longer-is}
+use Rattle.committed_prefix.proofs.PrefixTurns.{unseen-length}
+use Rattle.commit.specs.Prefix.{longerIn, endIn}
+use Rattle.commit.proofs.Ends.{longer-is, end-is}
 use Rattle.commit.proofs.PrefixTurns.{insert-leaves-length, insert-differs, insert-longer, insert-shorter}
 use Rattle.commit.proofs.Difference.{note-leaves-length}
 use Rattle.storage.proofs.WellFormed.{formed}

@@ -2,7 +2,7 @@
 -- Assumes nothing.
 use Rattle.storage.proofs.WellFormed.{formed}
 use Rattle.commit_terms.proofs.TermTurns.{lengthened-length, lengthened-certificates, replace-all-length, replace-all-certificates, record-refused, record-unchanged, record-changed}
-use Rattle.table_rows.proofs.FoundLaws.{index-told}
+use Rattle.table_rows.proofs.TermSearchLaws.{index-told}
 use Rattle.storage_bytes.specs.Words.{wordAt}
 use Rattle.model.specs.Sizes.{Bytes}
 use lib.ListN.{length}

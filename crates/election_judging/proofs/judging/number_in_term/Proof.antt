@@ -25,7 +25,9 @@ held-of-requires : tie.Need-held-of-requires
 held-of-requires c κs =
     let p = c .before in
     let e = formed _ (p .before .before .before .pre) .certificates in
-    (place-fits _ _ _ _ (c .place-of .ensures) (omega (arith, p .before .certificate-count .ensures .is)), p .certificate-table .ensures .long)
+    let k = p .before .certificate-count .ensures .is in
+    let f = place-fits _ _ _ _ (c .place-of .ensures) (omega arith) in
+    (omega arith, p .certificate-table .ensures .long)
 
 is-taken-requires : tie.Need-is-taken-requires
 is-taken-requires c κs =

@@ -8,7 +8,7 @@ use lib.Dec.{eqb}
 use borrow.Author.Tests.{eq-eqb, ne-eqb, eqb-true, eqb-false}
 use Rattle.model.proofs.Tests.{tf, either, cond-true, cond-false}
 use Rattle.units.specs.declared.LogIndex.{LogIndex}
-use Rattle.table_rows.specs.Found.{foundIndex}
+use Rattle.table_rows.specs.TermSearch.{foundIndex}
 use Rattle.table_rows.specs.declared.terms.FoundIndex.{FoundIndex}
 
 of-some : (k : ℕ) → (k ≡ 0 → ⊥) → foundIndex k ≡ FoundIndex.At (record { 0 = k })
