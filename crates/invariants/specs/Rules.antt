@@ -1,7 +1,7 @@
 -- The first rule that a row fails, the walk over the rows, and what the code answers, in the model's words.
 -- Assumes nothing.
 use Prim.Native.Nat.{ℕ}
-use mathlib.Core.Bool.{cond}
+use mathlib.Core.Bool.{Bool, cond, not, _&&_, _||_}
 use mathlib.Core.List.{List, [], _∷_}
 use lib.Dec.{ltb, eqb}
 use Rattle.model.specs.Record as model
@@ -24,6 +24,14 @@ rowOf r =
       floorConfiguration = configurationOf (r .«floor_configuration»);
       actualConfiguration = configurationOf (r .«actual_configuration»);
     }
+
+-- rule 2 of a row's two configurations
+abbrev pub regressed : model.Configuration → model.Configuration → Bool
+regressed f a = f .present && (not (a .present) || ltb (a .index) (f .index))
+
+-- rule 3 of them
+abbrev pub changed : model.Configuration → model.Configuration → Bool
+changed f a = f .present && a .present && eqb (f .index) (a .index) && not (eqb (f .identity) (a .identity))
 
 -- in the place of a rule where none fails: it comes after all four
 abbrev pub noRule : ℕ

@@ -3,7 +3,8 @@
 ghost use mathlib.Core.Path.{_≡_};
 ghost use Rattle.model.specs.Rows as model;
 ghost use Rattle.record_scan.specs.Places as places;
-ghost use Rattle.invariants.specs.Rules.{rowOf, firstRule, verdictFor};
+ghost use Rattle.invariants.specs.Rules.{configurationOf, rowOf, regressed, changed, firstRule, verdictFor};
+use record_walk::walk::Configuration;
 use record_walk::walk::FIRST_ROW;
 use record_walk::walk::Row;
 use record_walk::walk::row_at;
@@ -33,24 +34,18 @@ const LOG_BOUNDS: u8 = 4;
 const NO_RULE: u8 = 5;
 
 // Rule 2 fails: there was a committed configuration, and there is none now or one of a lower index.
-fn configuration_regressed(r: Row) -> bool
-    ensures { λ b. ⌜ b ≡ model.rule2 (rowOf r) ⌝ }
+fn configuration_regressed(floor: Configuration, actual: Configuration) -> bool
+    ensures { λ b. ⌜ b ≡ regressed (configurationOf floor) (configurationOf actual) ⌝ }
 {
-    let floor = r.floor_configuration;
-    let actual = r.actual_configuration;
     floor.present && (!actual.present || actual.index.0 < floor.index.0)
 }
 
 // Rule 3 fails: the committed configuration has another identity at the same index.
-fn configuration_changed(r: Row) -> bool
-    ensures { λ b. ⌜ b ≡ model.rule3 (rowOf r) ⌝ }
+fn configuration_changed(floor: Configuration, actual: Configuration) -> bool
+    ensures { λ b. ⌜ b ≡ changed (configurationOf floor) (configurationOf actual) ⌝ }
 {
-    let floor = r.floor_configuration;
-    let actual = r.actual_configuration;
-    floor.present
-        && actual.present
-        && floor.index.0 == actual.index.0
-        && floor.identity != actual.identity
+    let both = floor.present && actual.present;
+    both && floor.index.0 == actual.index.0 && floor.identity != actual.identity
 }
 
 // The first rule that the row fails, or NO_RULE.
@@ -60,10 +55,12 @@ fn first_rule(r: Row) -> u8
     if r.commit.0 < r.floor.0 {
         return COMMIT_MONOTONICITY;
     }
-    if configuration_regressed(r) {
+    let floor = r.floor_configuration;
+    let actual = r.actual_configuration;
+    if configuration_regressed(floor, actual) {
         return CONFIGURATION_MONOTONICITY;
     }
-    if configuration_changed(r) {
+    if configuration_changed(floor, actual) {
         return CONFIGURATION_IDENTITY;
     }
     if r.last.0 < r.commit.0 {

@@ -4,21 +4,20 @@ use mathlib.Core.Path.{_≡_, _∙_}
 use mathlib.Core.Bool.{Bool, _&&_}
 use mathlib.Core.Logic.{⊎-elim}
 use lib.Dec.{eqb}
-use Rattle.model.specs.Record as model
-use Rattle.invariants.specs.Rules.{rowOf}
+use Rattle.record_walk.specs.declared.walk.Configuration.{Configuration}
 use Rattle.invariants.proofs.commit_safety.configuration_changed.Statement.{statement}
 use Rattle.invariants.proofs.commit_safety.configuration_changed.Tie as tie
 
-abbrev bothPresent : model.Row → Bool
-bothPresent r = r .floorConfiguration .present && r .actualConfiguration .present
+abbrev bothPresent : Configuration → Configuration → Bool
+bothPresent f a = f .present && a .present
 
-abbrev sameIndex : model.Row → Bool
-sameIndex r = bothPresent r && eqb (r .floorConfiguration .index) (r .actualConfiguration .index)
+abbrev sameIndex : Configuration → Configuration → Bool
+sameIndex f a = bothPresent f a && eqb (f .index .0) (a .index .0)
 
-both-present : (c : tie.Joined1) → c .if1 .if2 ≡ bothPresent (rowOf (c .before .before .before .args .r))
+both-present : (c : tie.Joined1) → c .if1 .both ≡ bothPresent (c .before .args .floor) (c .before .args .actual)
 both-present c = ⊎-elim (λ w. rw (w .0 .taken) (w .1)) (λ w. rw (w .0 .left) (w .1 ∙ w .0 .left)) (c .if1 .came)
 
-same-index : (c : tie.Joined2) → c .if2 .if3 ≡ sameIndex (rowOf (c .before .before .before .before .args .r))
+same-index : (c : tie.Joined2) → c .if2 .if3 ≡ sameIndex (c .before .before .args .floor) (c .before .before .args .actual)
 same-index c =
     rw (← both-present (c .before))
     (⊎-elim (λ w. rw (w .0 .taken) (w .3)) (λ w. rw (w .0 .left) (w .1 ∙ w .0 .left)) (c .if2 .came))

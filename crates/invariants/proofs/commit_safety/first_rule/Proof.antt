@@ -21,10 +21,12 @@ configuration-regressed-requires : tie.Need-configuration-regressed-requires
 configuration-regressed-requires c κs = search needs
 
 returns-2 : tie.Need-returns-2
-returns-2 c = let a = c .before .before in first-2 (rowOf (a .before .before .args .r)) (kept-1 a) (flag-says (c .if2 .taken) (search needs))
+returns-2 c =
+    let a = c .before .before .before .before in
+    first-2 (rowOf (a .before .before .args .r)) (kept-1 a) (flag-says (c .if2 .taken) (c .before .configuration-regressed .ensures))
 
-kept-2 : (c : tie.Else2) → rule2 (rowOf (c .before .before .before .before .args .r)) ≡ false
-kept-2 c = flag-says (c .if2 .left) (search needs)
+kept-2 : (c : tie.Else2) → rule2 (rowOf (c .before .before .before .before .before .before .args .r)) ≡ false
+kept-2 c = flag-says (c .if2 .left) (c .before .configuration-regressed .ensures)
 
 configuration-changed-requires : tie.Need-configuration-changed-requires
 configuration-changed-requires c κs = search needs
@@ -32,24 +34,24 @@ configuration-changed-requires c κs = search needs
 returns-3 : tie.Need-returns-3
 returns-3 c =
     let b = c .before .before in
-    let a = b .before .before in
-    first-3 (rowOf (a .before .before .args .r)) (kept-1 a) (kept-2 b) (flag-says (c .if3 .taken) (search needs))
+    let a = b .before .before .before .before in
+    first-3 (rowOf (a .before .before .args .r)) (kept-1 a) (kept-2 b) (flag-says (c .if3 .taken) (c .before .configuration-changed .ensures))
 
-kept-3 : (c : tie.Else3) → rule3 (rowOf (c .before .before .before .before .before .before .args .r)) ≡ false
-kept-3 c = flag-says (c .if3 .left) (search needs)
+kept-3 : (c : tie.Else3) → rule3 (rowOf (c .before .before .before .before .before .before .before .before .args .r)) ≡ false
+kept-3 c = flag-says (c .if3 .left) (c .before .configuration-changed .ensures)
 
 returns-4 : tie.Need-returns-4
 returns-4 c =
     let d = c .before .before in
     let b = d .before .before in
-    let a = b .before .before in
+    let a = b .before .before .before .before in
     first-4 (rowOf (a .before .before .args .r)) (kept-1 a) (kept-2 b) (kept-3 d) (lt-ltb _ _ (c .if4 .taken))
 
 returns-5 : tie.Need-returns-5
 returns-5 c =
     let d = c .before .before in
     let b = d .before .before in
-    let a = b .before .before in
+    let a = b .before .before .before .before in
     first-none (rowOf (a .before .before .args .r)) (kept-1 a) (kept-2 b) (kept-3 d) (le-ltb _ _ (c .if4 .left))
 
 pub first-rule-spec : {M : Type 1} → statement M
