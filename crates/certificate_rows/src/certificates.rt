@@ -109,6 +109,15 @@ pub fn put_certificate(certificates: &mut [u8], k: usize, c: Certificate)
     put_leader(&mut certificates[..], o, c);
 }
 
+// The mark of row k alone, written in the table.
+pub fn put_mark(certificates: &mut [u8], k: usize, mark: LogIndex)
+    requires { ⌜ (k < 64) × (length (now certificates) ≡ 704) ⌝ }
+    ensures { λ r. ⌜ now (certificates .exit) ≡ putBytes (now (certificates .entry)) (k * 11 + 6) (wordBytes 2 (mark .0)) ⌝ }
+{
+    let o = k * CERTIFICATE_WIDTH + CERTIFICATE_MARK;
+    put16(&mut certificates[..], o, mark.0);
+}
+
 // A row inserted at place k of a table of n: those from k on move up.
 pub fn insert_certificate(certificates: &mut [u8], n: usize, k: usize, c: Certificate)
     requires { ⌜ (k ≤ n) × (n < 64) × (length (now certificates) ≡ 704) ⌝ }

@@ -6,13 +6,12 @@ ghost use lib.ListN.{length};
 ghost use Rattle.storage_bytes.specs.Words.{wordAt};
 ghost use Rattle.term_marks.specs.Marks.{certificateOf, markSet, lowerBytes, lowerBack};
 use certificate_rows::certificates::mark_at;
+use certificate_rows::certificates::put_mark;
 use certificate_rows::certificates::term_at;
 use storage::head::certificate_count;
-use storage_bytes::layout::CERTIFICATE_MARK;
-use storage_bytes::layout::CERTIFICATE_WIDTH;
+use storage_bytes::layout::CERTIFICATES_LENGTH;
 use storage_bytes::layout::CERTIFICATES_START;
 use storage_bytes::layout::certificate_table;
-use storage_bytes::words::put16;
 use units::LogIndex;
 use units::Term;
 
@@ -32,13 +31,14 @@ pub fn checked_mark(history: &[u8], k: usize) -> LogIndex
     mark_at(certificate_table(history), k)
 }
 
-// The mark of certificate k, written.
+// The mark of certificate k, written. Only the table is lent.
 pub fn store_mark(history: &mut [u8], k: usize, mark: LogIndex)
     requires { ⌜ (k < 64) × (length (now history) ≡ 24137) ⌝ }
     ensures { λ r. ⌜ now (history .exit) ≡ markSet (now (history .entry)) k (mark .0) ⌝ }
 {
-    let o = k * CERTIFICATE_WIDTH + CERTIFICATE_MARK;
-    put16(&mut history[..], CERTIFICATES_START + o, mark.0);
+    let a = CERTIFICATES_START;
+    let e = a + CERTIFICATES_LENGTH;
+    put_mark(&mut history[a..e], k, mark);
 }
 
 // Where the mark of certificate k is at or past the first changed index, it goes before that.
