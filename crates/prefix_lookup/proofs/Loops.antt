@@ -88,9 +88,8 @@ unfolding numberIndex
 index-is t p r e = e
 
 -- only a prefix that is not empty passes an index
-pub passes-some : (t : Bytes) (p i r : ℕ) → r ≡ numberIndex t p → i < r → p ≡ 0 → ⊥
-unfolding numberIndex
-passes-some t p i r e h z = let x = e ∙ cond-true (eqb p 0) 0 (prefixRow t (p - 1) .index) (eq-eqb p 0 z) in omega arith
+pub passes-some : (row : ℕ → PrefixRow) (p i r : ℕ) → r ≡ indexOf row p → i < r → p ≡ 0 → ⊥
+passes-some row p i r e h z = let x = e ∙ cond-true (eqb p 0) 0 (row (p - 1) .index) (eq-eqb p 0 z) in omega arith
 
 -- r is what is left to slice
 pub record Sliced (row : ℕ → PrefixRow) (i r q : ℕ) : Type 0 where

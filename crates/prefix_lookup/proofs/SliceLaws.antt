@@ -1,6 +1,6 @@
 -- What a slice means: the first entries of the prefix.
 -- Assumes nothing.
-use Prim.Native.Nat.{ℕ, zero, suc, _-_, _<_, _≤_}
+use Prim.Native.Nat.{ℕ, zero, suc, _+_, _-_, _<_, _≤_}
 use native.Mathlib.Omega.{arith}
 use native.Mathlib.Numerals.{add-one}
 use mathlib.Core.Path.{_≡_, refl, sym, _∙_, ap, subst}
@@ -30,15 +30,30 @@ module _ (row : ℕ → PrefixRow) (rs : List PrefixRow) (f : Facts rs) (at : Ro
       ∙ sym (row-index rs f k h)
       ∙ ap (λ (j : ℕ). length (prefixAt (resolve rs) j)) (add-one k)
 
+  -- a row's prefix is its parent's and one entry more
+  extended : (k : ℕ) → suc k ≤ length rs → prefixAt (resolve rs) (suc k) ≡ prefixAt (resolve rs) (row k .parent) ++ (entryOf (rowAt rs k) ∷ [])
+  extended k h =
+      ap (λ (j : ℕ). prefixAt (resolve rs) j) (sym (add-one k)) ∙ f .entry k h
+      ∙ ap (λ (r : PrefixRow). prefixAt (resolve rs) (r .parent) ++ (entryOf (rowAt rs k) ∷ [])) (sym (at k h))
+
+  earlier : (k : ℕ) → suc k ≤ length rs → row k .parent ≤ k
+  earlier k h = subst (λ (r : PrefixRow). r .parent ≤ k) (sym (at k h)) (f .parent k h)
+
+  -- its index is one more
+  pub index-after : (k : ℕ) → suc k ≤ length rs → indexOf row (suc k) ≡ indexOf row (row k .parent) + 1
+  index-after k h =
+      let l = earlier k h in
+      index-length (suc k) h ∙ ap length (extended k h)
+      ∙ length-append (prefixAt (resolve rs) (row k .parent)) (entryOf (rowAt rs k) ∷ [])
+      ∙ ap (λ (n : ℕ). n + 1) (sym (index-length (row k .parent) (omega arith)))
+
   abbrev Cut : ℕ → ℕ → ℕ → Type 0
   Cut i p q = (q ≤ length rs) × (prefixAt (resolve rs) q ≡ take i (prefixAt (resolve rs) p))
 
   -- one parent back
   back : (i k q : ℕ) → suc k ≤ length rs → i < length (prefixAt (resolve rs) (suc k)) → Cut i (row k .parent) q → Cut i (suc k) q
   back i k q h l c =
-      let s : prefixAt (resolve rs) (suc k) ≡ prefixAt (resolve rs) (row k .parent) ++ (entryOf (rowAt rs k) ∷ []) =
-      ap (λ (j : ℕ). prefixAt (resolve rs) j) (sym (add-one k)) ∙ f .entry k h
-      ∙ ap (λ (r : PrefixRow). prefixAt (resolve rs) (r .parent) ++ (entryOf (rowAt rs k) ∷ [])) (sym (at k h)) in
+      let s = extended k h in
       let n = ap length s ∙ length-append (prefixAt (resolve rs) (row k .parent)) (entryOf (rowAt rs k) ∷ []) in
       (c .0, c .1 ∙ sym (ap (take i) s ∙ take-append-le i (prefixAt (resolve rs) (row k .parent)) (entryOf (rowAt rs k) ∷ []) (omega arith)))
 
@@ -57,7 +72,7 @@ module _ (row : ℕ → PrefixRow) (rs : List PrefixRow) (f : Facts rs) (at : Ro
       (λ t.
       let a = leb-false (indexOf row (suc k)) i t in
       let b = index-length (suc k) h in
-      let par : row k .parent ≤ k = subst (λ (r : PrefixRow). r .parent ≤ k) (sym (at k h)) (f .parent k h) in
+      let par = earlier k h in
       let same : row (suc k - 1) .parent ≡ row k .parent = ap (λ (j : ℕ). row j .parent) (let z : suc k - 1 ≡ k = omega arith in z) in
       subst (Cut i (suc k)) (sym (cond-false (leb (indexOf row (suc k)) i) (suc k) _ t ∙ ap (sliceFrom row i fuel) same))
       (back i k (sliceFrom row i fuel (row k .parent)) h (omega arith) (sliced i fuel (row k .parent) (omega arith) (omega arith))))

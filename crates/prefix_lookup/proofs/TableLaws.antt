@@ -1,6 +1,6 @@
 -- What the storage rules say of a lent table of prefixes: its rows by place, and the facts about them.
 -- Assumes nothing.
-use Prim.Native.Nat.{ℕ, _+_, _*_, _<_, _≤_}
+use Prim.Native.Nat.{ℕ, suc, _+_, _-_, _*_, _<_, _≤_}
 use native.Mathlib.Omega.{arith}
 use mathlib.Core.Path.{_≡_, sym, _∙_, ap, subst, subst₂}
 use mathlib.Core.Logic.{⊎-elim}
@@ -8,6 +8,7 @@ use lib.ListN.{length}
 use Rattle.model.specs.Sizes.{Bytes}
 use Rattle.storage_bytes.specs.Words.{wordAt}
 use Rattle.storage.specs.Tables.{PrefixRow, prefixRow, prefixRows, prefixesPart}
+use Rattle.storage.specs.Values.{indexOf}
 use Rattle.storage_bytes.proofs.ListLaws.{tabulate-length, tabulate-at}
 use Rattle.storage_bytes.proofs.PartLaws.{part-length}
 use Rattle.storage.proofs.WellFormed.{Formed}
@@ -17,7 +18,7 @@ use Rattle.units.specs.declared.LogPrefixWitness.{LogPrefixWitness}
 use Rattle.prefix_lookup.specs.Prefix.{witness, sliceOf}
 use Rattle.prefix_lookup.specs.declared.lookup.Slice.{Slice}
 use Rattle.prefix_lookup.proofs.PrefixLaws.{Rows}
-use Rattle.prefix_lookup.proofs.SliceLaws.{slice-cases}
+use Rattle.prefix_lookup.proofs.SliceLaws.{index-after, slice-cases}
 
 pub rows-length : (t : Bytes) (n : ℕ) → length (prefixRows t n) ≡ n
 rows-length t n = tabulate-length (prefixRow t) 0 n
@@ -60,3 +61,14 @@ pub table-size : (t : Bytes) (n k : ℕ) → Table t n → k < n → wordAt t (k
 table-size t n k h l =
     let m : k < length (prefixRows t n) = subst (λ (j : ℕ). k < j) (sym (rows-length t n)) l in
     subst (λ (r : PrefixRow). r .size ≤ 32) (sym (rows-at t n k m)) (table-facts t n h .small k m .1)
+
+-- where number p goes through index x, its parent a goes through one less
+pub table-index : (t : Bytes) (n p : ℕ) → Table t n → p ≤ n → (p ≡ 0 → ⊥) → (a : ℕ) → a ≡ wordAt t ((p - 1) * 41) 2
+    → (x : ℕ) → x ≡ indexOf (prefixRow t) p → x - 1 ≡ indexOf (prefixRow t) a
+table-index t n p h l z a e x ex =
+    let m : suc (p - 1) ≤ length (prefixRows t n) = omega (arith, rows-length t n) in
+    let y : x ≡ indexOf (prefixRow t) a + 1 =
+    ex ∙ ap (indexOf (prefixRow t)) (let q : p ≡ suc (p - 1) = omega arith in q)
+    ∙ index-after (prefixRow t) (prefixRows t n) (table-facts t n h) (rows-at t n) (p - 1) m
+    ∙ ap (λ (w : ℕ). indexOf (prefixRow t) w + 1) (sym e) in
+    omega arith

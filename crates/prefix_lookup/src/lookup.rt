@@ -89,17 +89,20 @@ pub fn first_of(prefixes: &[u8], count: usize, index: LogIndex, term: Term) -> S
     Stored::Nothing
 }
 
-// The prefix through the index: nothing beyond its end, the empty prefix at zero.
+// The prefix through the index: nothing beyond its end, the empty prefix at zero. Each prefix goes through one index more than the
+// one it extends, so its end is read once.
 pub fn slice_through(prefixes: &[u8], p: LogPrefixWitness, index: LogIndex) -> Slice
     requires { ⌜ ((n : ℕ) × Table (now prefixes) n × (p .0 ≤ n)) ⌝ }
     ensures { λ r. ⌜ r ≡ sliceOf (prefixRow (now (prefixes .entry))) (p .0) (index .0) ⌝ }
 {
-    if through(prefixes, p).0 < index.0 {
+    let mut end = through(prefixes, p).0;
+    if end < index.0 {
         return Slice::Beyond;
     }
     let mut q = p;
-    while index.0 < through(prefixes, q).0 {
+    while index.0 < end {
         q = parent_at(prefixes, q.0 - 1);
+        end -= 1;
     }
     Slice::Prefix(q)
 }
