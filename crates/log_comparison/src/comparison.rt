@@ -18,35 +18,27 @@ pub fn same_prefix(prefixes: &[u8], a: LogPrefixWitness, b: LogPrefixWitness) ->
     requires { ⌜ ((n : ℕ) × Table (now prefixes) n × (a .0 ≤ n) × (b .0 ≤ n)) ⌝ }
     ensures { λ r. ⌜ r ≡ sameFrom (prefixRow (now (prefixes .entry))) (a .0) (a .0) (b .0) ⌝ }
 {
-    let mut p = a.0;
-    let mut q = b.0;
-    'entries: while p != q {
-        if p == 0 {
+    let mut p = a;
+    let mut q = b;
+    'entries: while p.0 != q.0 {
+        if p.0 == 0 || q.0 == 0 {
             break 'entries;
         }
-        if q == 0 {
-            break 'entries;
-        }
-        let i = p - 1;
-        let j = q - 1;
-        if term_at(prefixes, i).0 != term_at(prefixes, j).0 {
-            break 'entries;
-        }
+        let i = p.0 - 1;
+        let j = q.0 - 1;
         let n = size_at(prefixes, i);
-        if n != size_at(prefixes, j) {
+        if term_at(prefixes, i).0 != term_at(prefixes, j).0 || n != size_at(prefixes, j) {
             break 'entries;
         }
         let x = i * PREFIX_WIDTH + PREFIX_CONTENT;
         let y = j * PREFIX_WIDTH + PREFIX_CONTENT;
-        let mut k = 0;
-        while k < n {
+        for k in 0..n {
             if prefixes[x + k] != prefixes[y + k] {
                 break 'entries;
             }
-            k += 1;
         }
-        p = parent_at(prefixes, i).0;
-        q = parent_at(prefixes, j).0;
+        p = parent_at(prefixes, i);
+        q = parent_at(prefixes, j);
     }
-    p == q
+    p.0 == q.0
 }

@@ -5,8 +5,9 @@ use mathlib.Core.Path.{_≡_, refl, sym, _∙_, subst}
 use mathlib.Core.Logic.{⊎-elim}
 use lib.ListN.{length}
 use borrow.Author.Count.{falls}
-use borrow.Author.Tests.{eq-eqb, ne-eqb}
+use borrow.Author.Tests.{eq-eqb, ne-eqb, eqb-true, eqb-false, not-true, not-false}
 use borrow.Author.Needs.{needs}
+use native.Mathlib.Omega.{arith}
 use native.Mathlib.Nat.{le-refl}
 use native.Mathlib.Numerals.{add-one-le}
 use Rattle.storage_bytes.specs.Words.{bytesAt, sameBytes}
@@ -30,10 +31,10 @@ abbrev μ-loop : tie.MeasureT-loop
 
 abbrev Inv-entries : tie.InvT-entries
 Inv-entries prefixes p₀ q₀ p q =
-    (n : ℕ) × Table prefixes n × (p ≤ n) × (q ≤ n) × Compared (prefixRow prefixes) (sameFrom (prefixRow prefixes) p₀ p₀ q₀) p q
+    (n : ℕ) × Table prefixes n × (p .0 ≤ n) × (q .0 ≤ n) × Compared (prefixRow prefixes) (sameFrom (prefixRow prefixes) (p₀ .0) (p₀ .0) (q₀ .0)) (p .0) (q .0)
 
 abbrev μ-entries : tie.MeasureT-entries
-μ-entries prefixes p₀ q₀ p q = p
+μ-entries prefixes p₀ q₀ p q = p .0
 
 entries-holds : tie.Need-entries-holds Inv-loop μ-loop Inv-entries μ-entries
 entries-holds c =
@@ -44,16 +45,19 @@ sub-i : tie.Need-sub-i Inv-loop μ-loop Inv-entries μ-entries
 sub-i c = search needs
 
 sub-j : tie.Need-sub-j Inv-loop μ-loop Inv-entries μ-entries
-sub-j c = search needs
+sub-j c =
+    let e3 = c .before .before in
+    let z = eqb-false (e3 .before .before .before .before .before .before .before .entries .q .0) 0 (e3 .if3 .left) in
+    omega arith
+
+size-at-requires : tie.Need-size-at-requires Inv-loop μ-loop Inv-entries μ-entries
+size-at-requires c κs = search needs
 
 term-at-requires : tie.Need-term-at-requires Inv-loop μ-loop Inv-entries μ-entries
 term-at-requires c κs = search needs
 
 term-at-requires-2 : tie.Need-term-at-requires-2 Inv-loop μ-loop Inv-entries μ-entries
 term-at-requires-2 c κs = search needs
-
-size-at-requires : tie.Need-size-at-requires Inv-loop μ-loop Inv-entries μ-entries
-size-at-requires c κs = search needs
 
 size-at-requires-2 : tie.Need-size-at-requires-2 Inv-loop μ-loop Inv-entries μ-entries
 size-at-requires-2 c κs = search needs
@@ -72,31 +76,32 @@ add-y c = search needs
 
 loop-holds : tie.Need-loop-holds Inv-loop μ-loop Inv-entries μ-entries
 loop-holds c =
-    let e3 = c .before .before .before in
-    let e2 = e3 .before .before .before .before .before in
-    let l = e2 .before .before .before in
-    let s = l .before .before in
-    let short : c .before .before .size-at .result ≤ 32 =
-    subst (λ (m : ℕ). m ≤ 32) (sym (c .before .before .size-at .ensures .is))
-    (table-size (s .args .prefixes .now) (l .entries .inv .0) (l .entries .p - 1) (l .entries .inv .1) (place-before (l .entries .inv .2) (e2 .before .if1 .left))) in (
+    let e4 = c .before .before in
+    let t2 = e4 .before .before .before in
+    let z = t2 .before .before in
+    let e3 = z .before .before .before in
+    let l = e3 .before .before .before .before .before .before .before in
+    let t = l .before .before .args .prefixes .now in
+    let first = place-before (l .entries .inv .2) (e3 .before .before .if2 .left) in
+    let short : z .size-at .result ≤ 32 =
+    subst (λ (m : ℕ). m ≤ 32) (sym (z .size-at .ensures .is)) (table-size t (l .entries .inv .0) (l .entries .p .0 - 1) (l .entries .inv .1) first) in (
       search needs,
-      content-within (s .args .prefixes .now) (l .entries .inv .1 .long) (l .entries .inv .1 .fits) (place-before (l .entries .inv .2) (e2 .before .if1 .left)) short,
-      content-within (s .args .prefixes .now) (l .entries .inv .1 .long) (l .entries .inv .1 .fits) (place-before (l .entries .inv .3) (e2 .if2 .left)) short,
-      entry-content (s .args .prefixes .now) _ _ _ _ _ _ (e3 .before .before .before .before .term-at .ensures) (e3 .before .before .before .term-at2 .ensures) (e3 .if3 .left)
-          (c .before .before .size-at .ensures .is) (c .before .size-at2 .ensures .is) (c .if4 .left) short,
+      content-within t (l .entries .inv .1 .long) (l .entries .inv .1 .fits) first short,
+      content-within t (l .entries .inv .1 .long) (l .entries .inv .1 .fits) (place-before (l .entries .inv .3) (eqb-false _ _ (e3 .if3 .left))) short,
+      entry-content t _ _ _ _ _ _ (t2 .before .term-at .ensures) (t2 .term-at2 .ensures) (e4 .if4 .left) (z .size-at .ensures .is) (c .before .size-at2 .ensures .is) (eqb-true _ _ (not-false _ (c .if5 .left))) short,
     )
 
-add-if5 : tie.Need-add-if5 Inv-loop μ-loop Inv-entries μ-entries
-add-if5 c = search needs
+add-if6 : tie.Need-add-if6 Inv-loop μ-loop Inv-entries μ-entries
+add-if6 c = search needs
 
-shared-slice-read-if5 : tie.Need-shared-slice-read-if5 Inv-loop μ-loop Inv-entries μ-entries
-shared-slice-read-if5 c = search needs
+shared-slice-read-if6 : tie.Need-shared-slice-read-if6 Inv-loop μ-loop Inv-entries μ-entries
+shared-slice-read-if6 c = search needs
 
-add-if5-2 : tie.Need-add-if5-2 Inv-loop μ-loop Inv-entries μ-entries
-add-if5-2 c = search needs
+add-if6-2 : tie.Need-add-if6-2 Inv-loop μ-loop Inv-entries μ-entries
+add-if6-2 c = search needs
 
-shared-slice-read-if5-2 : tie.Need-shared-slice-read-if5-2 Inv-loop μ-loop Inv-entries μ-entries
-shared-slice-read-if5-2 c = search needs
+shared-slice-read-if6-2 : tie.Need-shared-slice-read-if6-2 Inv-loop μ-loop Inv-entries μ-entries
+shared-slice-read-if6-2 c = search needs
 
 add-k : tie.Need-add-k Inv-loop μ-loop Inv-entries μ-entries
 add-k c = search needs
@@ -107,11 +112,13 @@ loop-less c = falls _ _ (c .before .before .before .loop-test .taken)
 loop-again : tie.Need-loop-again Inv-loop μ-loop Inv-entries μ-entries
 loop-again c =
     let i = c .before .before .before .before in
-    let s = i .before .before .before .before .before .before .before .before .before .before .before .before .before .before .args in (
+    let e5 = i .before in
+    let e3 = e5 .before .before .before .before .before .before .before .before .before .before in
+    let t = e3 .before .before .before .before .before .before .before .before .before .args .prefixes .now in (
       add-one-le (c .before .before .before .loop-test .taken),
       i .loop .inv .1,
       i .loop .inv .2,
-      same-next (s .prefixes .now) (s .prefixes .now) _ _ _ (i .loop .k) (i .loop .inv .3) (c .before .before .before .loop-test .taken) (c .if5 .left),
+      same-next t t _ _ _ (i .loop .k) (i .loop .inv .3) (c .before .before .before .loop-test .taken) (c .if6 .left),
     )
 
 parent-at-requires : tie.Need-parent-at-requires Inv-loop μ-loop Inv-entries μ-entries
@@ -122,52 +129,51 @@ parent-at-requires-2 c κs = search needs
 
 entries-less : tie.Need-entries-less Inv-loop μ-loop Inv-entries μ-entries
 entries-less c =
-    let e2 = c .before .before .before .before .before .before .before .before .before .before .before .before in
-    let l = e2 .before .before .before in
-    let s = l .before .before in
-    let pa = table-parent (s .args .prefixes .now) (l .entries .inv .0) (l .entries .p - 1) (l .entries .inv .1) (place-before (l .entries .inv .2) (e2 .before .if1 .left)) in
-    parent-below _ (c .before .parent-at .ensures .is) pa (e2 .before .if1 .left)
+    let e5 = c .before .before .before .before in
+    let e3 = e5 .before .before .before .before .before .before .before .before .before .before in
+    let l = e3 .before .before .before .before .before .before .before in
+    let some = e3 .before .before .if2 .left in
+    let pa = table-parent (l .before .before .args .prefixes .now) (l .entries .inv .0) (l .entries .p .0 - 1) (l .entries .inv .1) (place-before (l .entries .inv .2) some) in
+    parent-below _ (c .before .parent-at .ensures .is) pa some
 
 entries-again : tie.Need-entries-again Inv-loop μ-loop Inv-entries μ-entries
 entries-again c =
     let i = c .before .before .before in
-    let e4 = i .before in
-    let e3 = e4 .before .before .before in
-    let e2 = e3 .before .before .before .before .before in
-    let l = e2 .before .before .before in
-    let s = l .before .before in
-    let t = s .args .prefixes .now in
-    let pa = table-parent t (l .entries .inv .0) (l .entries .p - 1) (l .entries .inv .1) (place-before (l .entries .inv .2) (e2 .before .if1 .left)) in
-    let qa = table-parent t (l .entries .inv .0) (l .entries .q - 1) (l .entries .inv .1) (place-before (l .entries .inv .3) (e2 .if2 .left)) in
+    let e3 = i .before .before .before .before .before .before .before .before .before .before .before in
+    let l = e3 .before .before .before .before .before .before .before in
+    let t = l .before .before .args .prefixes .now in
+    let some = e3 .before .before .if2 .left in
+    let some-2 = eqb-false _ _ (e3 .if3 .left) in
+    let pa = table-parent t (l .entries .inv .0) (l .entries .p .0 - 1) (l .entries .inv .1) (place-before (l .entries .inv .2) some) in
+    let qa = table-parent t (l .entries .inv .0) (l .entries .q .0 - 1) (l .entries .inv .1) (place-before (l .entries .inv .3) some-2) in
     let ea = c .before .parent-at .ensures .is in
     let eb = c .parent-at2 .ensures .is in (
       l .entries .inv .0,
       l .entries .inv .1,
       parent-within _ ea pa (l .entries .inv .2),
       parent-within _ eb qa (l .entries .inv .3),
-      compare-next (prefixRow t) _ _ (l .entries .inv .4) (e2 .before .before .entries-test .taken) (e2 .before .if1 .left) (e2 .if2 .left)
-          (same-none t t _ _ _ (i .loop .k) (i .loop .inv .3) (c .before .before .loop-test .left)) _ _ ea eb (parent-below _ ea pa (e2 .before .if1 .left)),
+      compare-next (prefixRow t) _ _ (l .entries .inv .4) (e3 .before .before .before .before .if1 .taken) some some-2
+          (same-none t t _ _ _ (i .loop .k) (i .loop .inv .3) (c .before .before .loop-test .left)) _ _ ea eb (parent-below _ ea pa some),
     )
 
 -- the two have met, or they were left at the first difference
 returns : tie.Need-returns Inv-loop μ-loop Inv-entries μ-entries
 returns c =
-    let l = c .before in
-    let s = l .before .before .args in
-    let t = s .prefixes .now in
-    let p = l .entries .p in
-    let q = l .entries .q in
+    let l = c .before .before .before .before .before in
+    let t = l .before .before .args .prefixes .now in
+    let p = l .entries .p .0 in
+    let q = l .entries .q .0 in
     let v = l .entries .inv .4 in
     ⊎-elim (λ w. eq-eqb p q (w .left) ∙ sym (compare-equal (prefixRow t) p q v (w .left)))
-    (⊎-elim (λ w. ne-eqb p q (w .0 .taken) ∙ sym (compare-first-empty (prefixRow t) p q v (w .0 .taken) (w .1 .taken)))
-    (⊎-elim (λ w. ne-eqb p q (w .0 .taken) ∙ sym (compare-second-empty (prefixRow t) p q v (w .0 .taken) (w .1 .left) (w .2 .taken)))
-    (⊎-elim (λ w. ne-eqb p q (w .0 .taken) ∙ sym (compare-differs (prefixRow t) p q v (w .0 .taken) (w .1 .left) (w .2 .left)
-    (entry-term t _ _ _ _ 0 0 (w .3 .ensures) (w .4 .ensures) (w .7 .taken))))
-    (⊎-elim (λ w. ne-eqb p q (w .0 .taken) ∙ sym (compare-differs (prefixRow t) p q v (w .0 .taken) (w .1 .left) (w .2 .left)
-    (entry-size t _ _ _ _ _ _ (w .3 .ensures) (w .4 .ensures) (w .7 .left) (w .8 .ensures .is) (w .9 .ensures .is) (w .10 .taken))))
-    (λ w. ne-eqb p q (w .0 .taken) ∙ sym (compare-differs (prefixRow t) p q v (w .0 .taken) (w .1 .left) (w .2 .left)
-    (same-stop t t _ _ _ (w .11 .k) (w .11 .inv .3) (w .12 .taken) (w .15 .taken))))))))
-    (c .entries-test .came)
+    (⊎-elim (λ w. ne-eqb p q (w .0 .taken) ∙ sym
+    (⊎-elim (λ u. compare-first-empty (prefixRow t) p q v (w .0 .taken) (u .taken))
+    (λ u. compare-second-empty (prefixRow t) p q v (w .0 .taken) (u .0 .left) (eqb-true _ _ (u .2 .taken))) (w .2 .came)))
+    (⊎-elim (λ w. ne-eqb p q (w .0 .taken) ∙ sym (compare-differs (prefixRow t) p q v (w .0 .taken) (w .2 .left) (eqb-false _ _ (w .4 .left))
+    (⊎-elim (λ u. entry-term t _ _ _ _ 0 0 (w .8 .ensures) (w .9 .ensures) (u .taken))
+    (λ u. entry-size t _ _ _ _ _ _ (w .8 .ensures) (w .9 .ensures) (u .0 .left) (w .7 .ensures .is) (u .1 .ensures .is) (eqb-false _ _ (not-true _ (u .2 .taken)))) (w .12 .came))))
+    (λ w. ne-eqb p q (w .0 .taken) ∙ sym (compare-differs (prefixRow t) p q v (w .0 .taken) (w .2 .left) (eqb-false _ _ (w .4 .left))
+    (same-stop t t _ _ _ (w .15 .k) (w .15 .inv .3) (w .16 .taken) (w .19 .taken))))))
+    (c .before .before .if1 .came)
 
 pub same-prefix-spec : {M : Type 1} → statement M
 same-prefix-spec =
@@ -180,19 +186,19 @@ same-prefix-spec =
     entries-holds
     sub-i
     sub-j
+    size-at-requires
     term-at-requires
     term-at-requires-2
-    size-at-requires
     size-at-requires-2
     mul-x
     add-x
     mul-y
     add-y
     loop-holds
-    add-if5
-    shared-slice-read-if5
-    add-if5-2
-    shared-slice-read-if5-2
+    add-if6
+    shared-slice-read-if6
+    add-if6-2
+    shared-slice-read-if6-2
     add-k
     loop-less
     loop-again
