@@ -20,7 +20,7 @@ use Rattle.storage_bytes.proofs.ListLaws.{tabulate-length}
 use Rattle.storage.proofs.DecodeLaws.{FindingNamed}
 use Rattle.storage.proofs.Meanings.{Stands, withNoted, findings-stored, findings-taken, findings-right, noted-right}
 use Rattle.storage.proofs.WellFormed.{formed}
-use Rattle.log_violation.specs.Violation.{noteHeld, noteBytes, findingsKept, roomFor, notedIn}
+use Rattle.log_violation.specs.Violation.{noteHeld, noteBytes, findingsWritten, roomFor, notedIn}
 use Rattle.log_violation.proofs.ViolationLaws.{Holds, note-holds, note-length, findings-long, in-length}
 use Rattle.committed_prefix.specs.Prefix.{unseenSet}
 use Rattle.committed_prefix.proofs.PrefixTurns.{unseen-length}
@@ -83,7 +83,7 @@ module _ (h : Bytes) (x : History) (s : Stands h x) (n i : ℕ) (here : n < 64) 
     pub stands : Stands (notedIn h (difference n i)) (withNoted x fs)
 
   in-room : held ≤ 128 → findingRows table held ≡ fs → Taken
-  unfolding roomFor notedIn findingsKept
+  unfolding roomFor notedIn findingsWritten
   in-room l e =
       let r = le-leb held 128 l in
       let long = note-length (findingsPart h) (wordAt h 7 1) (difference n i) ∙ findings-long h (s .right) in
@@ -92,7 +92,7 @@ module _ (h : Bytes) (x : History) (s : Stands h x) (n i : ℕ) (here : n < 64) 
         few = (let count = sym (ap length e) ∙ tabulate-length (findingRow table) 0 held in omega arith);
         stands =
             subst (λ (u : Bytes). Stands u (withNoted x fs)) (sym (cond-true (roomFor h (difference n i)) _ h r))
-            (subst (λ (gs : List Finding). Stands (findingsKept h table held) (withNoted x gs)) e
+            (subst (λ (gs : List Finding). Stands (findingsWritten h table held) (withNoted x gs)) e
             (findings-taken h x s table held long l (ap (every findingRight) e ∙ noted-fit)));
       }
 

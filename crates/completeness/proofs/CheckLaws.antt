@@ -10,7 +10,7 @@ use Rattle.model.proofs.Tests.{cond-true, cond-false}
 use Rattle.storage_bytes.specs.Words.{wordAt}
 use Rattle.storage.specs.Tables.{findingsPart, prefixesPart}
 use Rattle.log_violation.specs.Violation.{heldAll, bytesAll, findingsKept}
-use Rattle.log_violation.proofs.ViolationLaws.{kept-length}
+use Rattle.log_violation.proofs.Kept.{kept-length}
 use Rattle.completeness.specs.declared.leader_completeness.Checked.{Checked}
 use Rattle.storage.specs.Values.{certificatesOf, numberIndex, committedEnd}
 use Rattle.units.specs.declared.LogPrefixWitness.{LogPrefixWitness}

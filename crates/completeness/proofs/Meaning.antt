@@ -25,9 +25,9 @@ use Rattle.storage.specs.Decode.{prefixAt}
 use Rattle.storage.specs.Rules.{findingRight}
 use Rattle.storage_bytes.proofs.ListLaws.{tabulate-length}
 use Rattle.storage.proofs.DecodeLaws.{CertificateNamed}
-use Rattle.storage.proofs.Meanings.{Stands, withElections, withNoted, certificates-stored, findings-stored, committed-stored, findings-taken, findings-right, noted-right, end-is}
+use Rattle.storage.proofs.Meanings.{Stands, withElections, withNoted, certificates-stored, findings-stored, committed-stored, findings-right, noted-right, end-is}
 use Rattle.storage.proofs.Answered.{Means, accepts, refuses}
-use Rattle.log_violation.specs.Violation.{findingsKept}
+use Rattle.log_violation.proofs.Kept.{findings-kept}
 use Rattle.log_violation.proofs.ViolationLaws.{Holds, all-hold, all-length, findings-long}
 use Rattle.completeness.specs.declared.leader_completeness.Checked.{Checked}
 use Rattle.storage.specs.Values.{certificatesOf, committedEnd}
@@ -101,12 +101,12 @@ module _ (h : Bytes) (x : History) (s : Stands h x) where
     table-kept = all-length (lackingsIn h (certificatesOf h)) (findingsPart h) (wordAt h 7 1) ∙ findings-long h (s .right)
 
     written : Stands (judgedBytes h) (checkEffect x)
-    unfolding judgedBytes checkWritten findingsKept checkEffect
+    unfolding judgedBytes checkWritten checkFindings checkEffect
     written =
         subst (λ (u : Bytes). Stands u (checkEffect x)) (sym (cond-false (ltb 128 (checkHeld h)) h _ (le-ltb 128 _ few)))
         (subst (λ (fs : List Finding). Stands (checkWritten h (checkTable h) (checkHeld h) (committedEnd h)) (withNoted (withElections x (map (moved (x .committed)) (x .certificates))) fs)) e
-        (findings-taken (marksMoved h (committedEnd h) 0 (wordAt h 6 1)) (withElections x (map (moved (x .committed)) (x .certificates))) marks
-        (checkTable h) (checkHeld h) table-kept few (ap (every findingRight) e ∙ found-right)))
+        (findings-kept (marksMoved h (committedEnd h) 0 (wordAt h 6 1)) (withElections x (map (moved (x .committed)) (x .certificates))) marks
+        (checkTable h) (checkHeld h) (lackings (x .committed) (x .terms) (x .certificates)) table-kept few (ap (every findingRight) e ∙ found-right) e))
 
     accepted-means : Means h x check (checkReply (judgedAnswer h)) (judgedBytes h)
     accepted-means = accepts h x check _ (judgedBytes h) model-accepts (ap checkReply accepted) written

@@ -1,1 +1,2 @@
 pub mod ViolationLaws
+pub mod Kept

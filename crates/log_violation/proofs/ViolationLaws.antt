@@ -1,5 +1,5 @@
 -- Findings are noted once: what the tests of the code say of a row, what noting means of the list of findings, and the history's
--- findings copied and written back.
+-- findings copied and noted in place.
 -- Assumes nothing.
 use Prim.Native.Nat.{ℕ, zero, suc, _+_, _-_, _*_, _<_, _≤_}
 use native.Mathlib.Omega.{arith}
@@ -14,7 +14,7 @@ use Rattle.model.specs.Sizes.{Bytes}
 use Rattle.model.specs.Entry.{with, withAll}
 use Rattle.model.specs.History.{Finding, sameFinding, noted}
 use Rattle.model.proofs.Tests.{tf, either, cond-cases, cond-true, cond-false, and-left, and-right, and-both}
-use Rattle.model.proofs.Members.{with-there, with-fresh, member}
+use Rattle.model.proofs.Members.{with-there, with-fresh, with-longer}
 use Rattle.storage_bytes.specs.Lists.{tabulate}
 use Rattle.storage_bytes.specs.Words.{wordAt, putBytes, wordBytes}
 use Rattle.storage.specs.Tables.{findingRow, findingRows, findingsPart}
@@ -26,7 +26,7 @@ use Rattle.storage_bytes.proofs.PartLaws.{part-length, part-lent, put-whole}
 use Rattle.storage.proofs.WellFormed.{formed}
 use Rattle.storage.proofs.WriteLaws.{part-written}
 use Rattle.storage.proofs.RowLaws.{rows-append, finding-own, finding-length, finding-back}
-use Rattle.log_violation.specs.Violation.{sameNumbers, notedFrom, isNoted, noteHeld, noteBytes, heldAll, bytesAll, findingsKept, roomFor, notedIn}
+use Rattle.log_violation.specs.Violation.{sameNumbers, notedFrom, isNoted, noteHeld, noteBytes, heldAll, bytesAll, findingsWritten, roomFor, notedIn}
 
 -- ---- a row held against a finding, number by number: a is the flag of the first two tests, b that of the first three
 
@@ -117,12 +117,6 @@ module _ (t : Bytes) (f : Finding) (k n : ℕ) {r : Bool} (inv : r ≡ notedFrom
 abbrev pub Holds : Bytes → ℕ → List Finding → Type 0
 Holds t n fs = ((n ≤ 128) × (findingRows t n ≡ fs)) ⊎ ((n ≡ 129) × (128 < length fs))
 
-with-longer : (fs : List Finding) (f : Finding) → length fs ≤ length (with sameFinding fs f)
-with-longer fs f =
-    ⊎-elim (λ m. subst (λ (l : List Finding). length fs ≤ length l) (sym (with-there sameFinding fs f m)) (omega arith))
-    (λ m. subst (λ (l : List Finding). length fs ≤ length l) (sym (with-fresh sameFinding fs f m)) (omega (arith, length-append fs (f ∷ []))))
-    (member sameFinding f fs)
-
 module _ (t : Bytes) (n : ℕ) (f : Finding) (fs : List Finding) (long : length t ≡ 1024) (fits : FindingFits f) where
   abbrev After : ℕ → Bytes → Type 0
   After m u = Holds u m (with sameFinding fs f)
@@ -131,7 +125,7 @@ module _ (t : Bytes) (n : ℕ) (f : Finding) (fs : List Finding) (long : length 
   over : n ≡ 129 → 128 < length fs → After (noteHeld t n f) (noteBytes t n f)
   unfolding noteHeld noteBytes
   over e h =
-      inr (cond-true (ltb 128 n) n _ (lt-ltb 128 n (omega arith)) ∙ e, (let z = with-longer fs f in omega arith))
+      inr (cond-true (ltb 128 n) n _ (lt-ltb 128 n (omega arith)) ∙ e, (let z = with-longer sameFinding fs f in omega arith))
 
   -- noted before
   again : n ≤ 128 → findingRows t n ≡ fs → isNoted t n f ≡ true → After (noteHeld t n f) (noteBytes t n f)
@@ -277,7 +271,7 @@ module _ (t : Bytes) (n : ℕ) (f : Finding) where
             ∙ cond-false (isNoted t n f) t (putBytes t (n * 8) (findingBytes f)) nowhere),
       )
 
--- ---- the history's findings, copied and written back
+-- ---- the history's findings, copied and written
 
 pub findings-long : (h : Bytes) → wellFormed h ≡ true → length (findingsPart h) ≡ 1024
 findings-long h right = part-length h 2121 1024 (omega (arith, formed h right .long))
@@ -286,9 +280,9 @@ findings-long h right = part-length h 2121 1024 (omega (arith, formed h right .l
 pub copied : (h t t′ : Bytes) → length t ≡ 1024 → (q : Bytes) → q ≡ findingsPart h → length q ≡ 1024 → t′ ≡ putBytes t 0 q → t′ ≡ findingsPart h
 copied h t t′ l q eq lq e = e ∙ put-whole t q (lq ∙ sym l) ∙ eq
 
-pub kept-length : (h : Bytes) (t : Bytes) (n : ℕ) → length (findingsKept h t n) ≡ length h
-unfolding findingsKept
-kept-length h t n = put-length (putBytes h 2121 t) 7 (wordBytes 1 n) ∙ put-length h 2121 t
+pub written-length : (h : Bytes) (t : Bytes) (n : ℕ) → length (findingsWritten h t n) ≡ length h
+unfolding findingsWritten
+written-length h t n = put-length (putBytes h 2121 t) 7 (wordBytes 1 n) ∙ put-length h 2121 t
 
 -- ---- a finding noted in the history itself
 
@@ -314,11 +308,11 @@ module _ (h : Bytes) (f : Finding) (long : length h ≡ 24137) (held : ℕ) (eh 
 
   -- counted
   pub in-room : n ≤ 128 → (v : Bytes) → v ≡ putBytes (take 2121 h ++ (t ++ drop 1024 (drop 2121 h))) 7 (wordBytes 1 n) → (true ≡ roomFor h f) × (v ≡ notedIn h f)
-  unfolding roomFor notedIn findingsKept
+  unfolding roomFor notedIn findingsWritten
   in-room r v ev =
       let room = le-leb (noteHeld Table (wordAt h 7 1) f) 128 (subst (λ (x : ℕ). x ≤ 128) in-held r) in (
         sym room,
-        ev ∙ ap (λ (u : Bytes). putBytes u 7 (wordBytes 1 n)) whole ∙ (λ i. findingsKept h (in-table i) (in-held i)) ∙ sym (cond-true _ _ h room),
+        ev ∙ ap (λ (u : Bytes). putBytes u 7 (wordBytes 1 n)) whole ∙ (λ i. findingsWritten h (in-table i) (in-held i)) ∙ sym (cond-true _ _ h room),
       )
 
   -- there are too many: the table was full and is as it was
@@ -343,4 +337,4 @@ module _ (h : Bytes) (f : Finding) (long : length h ≡ 24137) (held : ℕ) (eh 
 
 pub in-length : (h : Bytes) (f : Finding) → length (notedIn h f) ≡ length h
 unfolding notedIn
-in-length h f = cond-cases (λ (u : Bytes). length u ≡ length h) (roomFor h f) _ h (λ _. kept-length h _ _) (λ _. refl)
+in-length h f = cond-cases (λ (u : Bytes). length u ≡ length h) (roomFor h f) _ h (λ _. written-length h _ _) (λ _. refl)

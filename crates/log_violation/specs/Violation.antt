@@ -46,9 +46,14 @@ unfolding noteHeld noteBytes
 bytesAll t n [] = t
 bytesAll t n (f ∷ fs) = bytesAll (noteBytes t n f) (noteHeld t n f) fs
 
--- a table written back as the history's, with how many it holds
+-- a table written as the history's, with how many it holds
+unfoldable pub findingsWritten : Bytes → Bytes → ℕ → Bytes
+findingsWritten h t n = putBytes (putBytes h 2121 t) 7 (wordBytes 1 n)
+
+-- a table that was made from the history's by noting: as many as the history holds are its own, and nothing is written
 unfoldable pub findingsKept : Bytes → Bytes → ℕ → Bytes
-findingsKept h t n = putBytes (putBytes h 2121 t) 7 (wordBytes 1 n)
+unfolding wordAt findingsWritten
+findingsKept h t n = cond (eqb n (wordAt h 7 1)) h (findingsWritten h t n)
 
 -- there is room for the finding among the history's own
 unfoldable pub roomFor : Bytes → Finding → Bool
@@ -57,6 +62,6 @@ roomFor h f = leb (noteHeld (findingsPart h) (wordAt h 7 1) f) 128
 
 -- a finding noted among the history's own; where there is no room, nothing is written
 unfoldable pub notedIn : Bytes → Finding → Bytes
-unfolding roomFor noteHeld noteBytes findingsKept
+unfolding roomFor noteHeld noteBytes findingsWritten
 notedIn h f =
-    cond (roomFor h f) (findingsKept h (noteBytes (findingsPart h) (wordAt h 7 1) f) (noteHeld (findingsPart h) (wordAt h 7 1) f)) h
+    cond (roomFor h f) (findingsWritten h (noteBytes (findingsPart h) (wordAt h 7 1) f) (noteHeld (findingsPart h) (wordAt h 7 1) f)) h

@@ -79,11 +79,14 @@ pub fn copy_findings(history: &[u8], findings: &mut [u8]) -> usize
     finding_count(history)
 }
 
-// The findings that were gathered become the history's.
+// The findings that were gathered become the history's. As many as it holds are its own: then nothing is written.
 pub fn keep_findings(history: &mut [u8], findings: &[u8], held: usize)
     requires { ⌜ (length (now history) ≡ 24137) × (length (now findings) ≡ 1024) ⌝ }
     ensures { λ r. ⌜ now (history .exit) ≡ findingsKept (now (history .entry)) (now (findings .entry)) held ⌝ }
 {
+    if held == finding_count(&history[..]) {
+        return;
+    }
     put_bytes(&mut history[..], FINDINGS_START, findings);
     set_finding_count(&mut history[..], held);
 }

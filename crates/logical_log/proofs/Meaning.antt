@@ -31,19 +31,20 @@ use Rattle.storage_bytes.proofs.ListLaws.{tabulate-length, tabulate-at, every-a
 use Rattle.storage.proofs.DecodeLaws.{NodeNamed, node-named, FindingNamed}
 use Rattle.storage.proofs.RowFacts.{resolve-count}
 use Rattle.storage.proofs.WellFormed.{rows-count, formed}
-use Rattle.storage.proofs.Meanings.{Stands, withPrefixes, withFront, withNoted, prefixes-is, findings-stored, findings-right, noted-right, kept, unseen-read, node-written, findings-taken}
+use Rattle.storage.proofs.Meanings.{Stands, withPrefixes, withFront, withNoted, prefixes-is, findings-stored, findings-right, noted-right, kept, unseen-read, node-written}
 use Rattle.storage.proofs.Answered.{Means, accepts, refuses}
 use Rattle.view_writing.specs.Observation.{viewReplaced}
 use Rattle.logical_log.specs.Observation.{viewWritten, observed, observedBytes}
 use Rattle.view_judging.specs.Judging.{other, isRemembered, noteOf, lackNotes, frontAt, endsAt, placeFrom, storedNotes, notesFrom, placeIn, missingIn, notesIn, heldIn, tableIn}
 use Rattle.log_prefix.specs.Extension.{writtenBytes, writtenCount, writtenNumber}
-use Rattle.log_violation.specs.Violation.{heldAll, bytesAll, findingsKept}
+use Rattle.log_violation.specs.Violation.{heldAll, bytesAll}
 use Rattle.logical_log.specs.declared.observation.Observed.{Observed}
 use Rattle.log_prefix.proofs.Extend.{Fits, extendAll, extends-all}
 use Rattle.view_judging.proofs.Places.{Turn, gap, lost, more, turn, next, ends-gap, ends-lost, goes-on, stored-stays, stored-goes, walk-more}
 use Rattle.view_judging.proofs.Judge.{missing-made, notes-are}
 use Rattle.view_judging.proofs.Judged.{place-in-stands}
 use Rattle.log_violation.proofs.ViolationLaws.{Holds, all-hold, findings-long}
+use Rattle.log_violation.proofs.Kept.{findings-kept}
 use Rattle.logical_log.proofs.Whole.{front-count, table-length}
 use Rattle.view_writing.proofs.Stored.{rows-good, rows-by-place}
 use Rattle.logical_log.proofs.Stored.{Sound, front-sound, Whole, front-stands}
@@ -300,10 +301,10 @@ module _ (limit : ℕ) (h : Bytes) (x : History) (s : Bytes) (m node : ℕ) (st 
 
     third : Stands (viewWritten h (wordAt h 0 2) s m node (tableIn h s m node) (heldIn h s m node))
         (withNoted (withFront x₁ node (prefixAt (x₁ .prefixes) p₁) (lastIndex E) (nodeRow (nodesPart h₁) node .unseen)) (findingRows (tableIn h s m node) (heldIn h s m node)))
-    unfolding viewWritten findingsKept
+    unfolding viewWritten viewFindings
     third =
-        findings-taken (viewReplaced h₁ node p₁ (lastIndex E)) _ second (tableIn h s m node) (heldIn h s m node)
-        (table-length h s m node (st .right)) (held-few .0) all-right
+        findings-kept (viewReplaced h₁ node p₁ (lastIndex E)) _ second (tableIn h s m node) (heldIn h s m node)
+        (mismatches (x .prefixes) node (begunBy F)) (table-length h s m node (st .right)) (held-few .0) all-right (held-few .1)
 
     same-history : withNoted (withFront x₁ node (prefixAt (x₁ .prefixes) p₁) (lastIndex E) (nodeRow (nodesPart h₁) node .unseen)) (findingRows (tableIn h s m node) (heldIn h s m node))
         ≡ viewEffect x node E

@@ -22,13 +22,14 @@ use Rattle.prefix_lookup.specs.Prefix.{searchFrom, find}
 use Rattle.log_violation.specs.Violation.{findingsKept}
 use Rattle.view_writing.specs.Observation.{Storing, viewReplaced, restWritten}
 use Rattle.logical_log.specs.Observation.{viewWritten, observed, observedBytes}
-use Rattle.view_judging.specs.Judging.{nextNumber, frontAt, Stand, placeIn, missingIn, notesIn, heldIn, tableIn, Observing, ViewJudged}
-use Rattle.log_prefix.specs.Extension.{nextIndex, extensionIn, extendedBytes, extendedCount, extendedNumber, writtenCount}
+use Rattle.view_judging.specs.Judging.{nextNumber, frontAt, lastAt, Stand, placeIn, missingIn, notesIn, heldIn, tableIn, Observing, ViewJudged}
+use Rattle.log_prefix.specs.Extension.{nextIndex, extensionIn, extendedBytes, extendedCount, extendedNumber, writtenBytes, writtenCount, writtenNumber}
 use Rattle.view_judging.proofs.Places.{Ended}
 use Rattle.view_judging.proofs.Rest.{Rest, rest-of}
 use Rattle.view_judging.proofs.Judged.{place-in-ended, place-in-stands, missing-most}
 use Rattle.log_prefix.proofs.Written.{number-made, count-made, written-same}
-use Rattle.log_violation.proofs.ViolationLaws.{all-length, findings-long, kept-length}
+use Rattle.log_violation.proofs.ViolationLaws.{all-length, findings-long}
+use Rattle.log_violation.proofs.Kept.{kept-length}
 use Rattle.logical_log.specs.declared.observation.Observed.{Observed}
 use Rattle.view_judging.specs.declared.judging.Place.{Place}
 use Rattle.view_writing.proofs.Whole.{replaced-length}
@@ -158,4 +159,8 @@ table-length h s m node right = all-length (notesIn h s m node) (findingsPart h)
 
 pub written-length : (h : Bytes) (n : ℕ) (s : Bytes) (r : Place) (node : ℕ) (t : Bytes) (held : ℕ) → length (restWritten h n s r node t held) ≡ length h
 unfolding restWritten
-written-length h n s r node t held = kept-length _ t held ∙ replaced-length _ node _ _ ∙ written-same (frontAt s r) h n (r .prefix .0) (r .index .0)
+written-length h n s r node t held =
+    let a = writtenBytes h n (r .prefix .0) (r .index .0) (frontAt s r) in
+    let p = writtenNumber h n (r .prefix .0) (r .index .0) (frontAt s r) in
+    kept-length (viewReplaced a node p (lastAt s r)) t held ∙ replaced-length a node p (lastAt s r)
+    ∙ written-same (frontAt s r) h n (r .prefix .0) (r .index .0)

@@ -6,7 +6,8 @@ use mathlib.Core.Path.{_≡_, refl, sym, _∙_, ap, subst}
 use mathlib.Core.Bool.{true, false, cond}
 use mathlib.Core.Logic.{_⊎_, inl, inr, ⊎-elim}
 use mathlib.Core.List.{List, [], _∷_, _++_, List·Memᴰ, List·Memᴰ·head, List·Memᴰ·tail, List·Memᴰ·not-nil, List·Memᴰ·cases-cons, Memᴰ·cast, Memᴰ·append-left, Memᴰ·append-right, List·Memᴰ·append-cases, List·Memᴰ·eq-of-singleton}
-use lib.ListN.{length}
+use native.Mathlib.Omega.{arith}
+use lib.ListN.{length, length-append}
 use Rattle.model.specs.Entry.{holds, isIn, with, withAll}
 use Rattle.model.proofs.Tests.{tf, either, holds-yes, yes-holds, holds-no, or-cases, or-left, or-right, cond-cases}
 
@@ -67,6 +68,12 @@ module _ {A : Type 0} (d : Discrete A) where
   with-fresh xs x m =
       cond-cases (λ zs. zs ≡ xs ++ (x ∷ [])) (isIn d x xs) xs (xs ++ (x ∷ [])) (λ t. absurd (m (isIn-yes x xs t))) (λ _. refl)
 
+  pub with-longer : (xs : List A) (x : A) → length xs ≤ length (with d xs x)
+  with-longer xs x =
+      ⊎-elim (λ m. subst (λ (l : List A). length xs ≤ length l) (sym (with-there xs x m)) (omega arith))
+      (λ m. subst (λ (l : List A). length xs ≤ length l) (sym (with-fresh xs x m)) (omega (arith, length-append xs (x ∷ []))))
+      (member x xs)
+
   distinct-snoc : (xs : List A) (x : A) → Distinct xs → (List·Memᴰ x xs → ⊥) → Distinct (xs ++ (x ∷ []))
   distinct-snoc [] x u n = (λ m. List·Memᴰ·not-nil m, tt)
   distinct-snoc (y ∷ ys) x u n = (
@@ -104,6 +111,26 @@ module _ {A : Type 0} (d : Discrete A) where
   unfolding withAll
   all-distinct xs [] u = u
   all-distinct xs (z ∷ zs) u = all-distinct (with d xs z) zs (with-distinct xs z u)
+
+  all-longer : (xs ys : List A) → length xs ≤ length (withAll d xs ys)
+  unfolding withAll
+  all-longer xs [] = omega arith
+  all-longer xs (z ∷ zs) = let a = with-longer xs z in let b = all-longer (with d xs z) zs in omega arith
+
+  -- as many as before: none is new
+  pub all-there : (xs ys : List A) → length (withAll d xs ys) ≡ length xs → withAll d xs ys ≡ xs
+  unfolding withAll
+  all-there xs [] e = refl
+  all-there xs (z ∷ zs) e =
+      ⊎-elim
+      (λ m.
+      let s = with-there xs z m in
+      ap (λ (l : List A). withAll d l zs) s ∙ all-there xs zs (sym (ap (λ (l : List A). length (withAll d l zs)) s) ∙ e))
+      (λ m.
+      let a = ap length (with-fresh xs z m) ∙ length-append xs (z ∷ []) in
+      let b = all-longer (with d xs z) zs in
+      absurd (omega arith))
+      (member z xs)
 
   -- ---- counting
 
