@@ -84,10 +84,11 @@ fn is_other(prefixes: &[u8], count: usize, index: LogIndex, term: Term, p: LogPr
     requires { ⌜ Table (now prefixes) count × (1 ≤ index .0) × (p .0 ≤ count) ⌝ }
     ensures { λ r. ⌜ r ≡ other (prefixRow (now (prefixes .entry))) count (index .0) (term .0) (p .0) ⌝ }
 {
-    let Stored::Prefix(remembered) = first_of(prefixes, count, index, term) else {
-        return false;
-    };
-    !same_prefix(prefixes, remembered, p)
+    let remembered = first_of(prefixes, count, index, term);
+    match remembered {
+        Stored::Prefix(q) => !same_prefix(prefixes, q, p),
+        Stored::Nothing => false,
+    }
 }
 
 // A prefix is remembered for the index and term: another one than any that is not stored.

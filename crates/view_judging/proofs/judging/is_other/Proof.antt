@@ -16,26 +16,36 @@ first-of-requires c κs = search needs
 enum-known-remembered : tie.Need-enum-known-remembered
 enum-known-remembered c = search needs
 
+same-prefix-requires : tie.Need-same-prefix-requires
+same-prefix-requires c κs =
+    let f = c .before .before .before in
+    let s = f .before .before in
+    let x = stored-number _ _ (f .first-of .ensures) _ (c .before .remembered .given .1) in
+    (s .args .count, s .pre .0, subst (λ (k : ℕ). k ≤ s .args .count) (sym (x .0)) (first-within _ _ _ _), s .pre .2)
+
 enum-told : tie.Need-enum-told
 enum-told c = search needs
 
 returns : tie.Need-returns
 returns c =
-    let s = c .before .before .before .before .args in
-    other-none (prefixRow (s .prefixes .now)) (s .count) (s .index .0) (s .term .0) _ (c .before .before .first-of .ensures) (s .p .0) (c .enum-told .given .1)
-
-same-prefix-requires : tie.Need-same-prefix-requires
-same-prefix-requires c κs =
-    let s = c .before .before .before .before .before in
-    let x = stored-number _ _ (c .before .before .before .first-of .ensures) _ (c .before .remembered .given .1) in
-    (s .args .count, s .pre .0, subst (λ (k : ℕ). k ≤ s .args .count) (sym (x .0)) (first-within _ _ _ _), s .pre .2)
+    let f = c .before .before .before .before in
+    let s = f .before .before .args in
+    other-same (prefixRow (s .prefixes .now)) (s .count) (s .index .0) (s .term .0) _ (f .first-of .ensures) _ (c .before .before .remembered .given .1)
+    (s .p .0) _ (c .same-prefix .ensures)
 
 returns-2 : tie.Need-returns-2
 returns-2 c =
-    let s = c .before .before .before .before .before .before .args in
-    other-same (prefixRow (s .prefixes .now)) (s .count) (s .index .0) (s .term .0) _ (c .before .before .before .before .first-of .ensures) _ (c .before .before .remembered .given .1)
-    (s .p .0) _ (c .same-prefix .ensures)
+    let f = c .before .before in
+    let s = f .before .before .args in
+    other-none (prefixRow (s .prefixes .now)) (s .count) (s .index .0) (s .term .0) _ (f .first-of .ensures) (s .p .0) (c .enum-told .given .1)
 
 pub is-other-spec : {M : Type 1} → statement M
 is-other-spec =
-    tie.close (tie.spec first-of-requires enum-known-remembered enum-told returns same-prefix-requires returns-2)
+    tie.close
+    (tie.spec
+    first-of-requires
+    enum-known-remembered
+    same-prefix-requires
+    enum-told
+    returns
+    returns-2)
