@@ -15,12 +15,12 @@ use Rattle.storage.specs.Values.{certificatesOf}
 use Rattle.storage_bytes.specs.Words.{wordAt}
 use Rattle.storage.specs.Tables.{CertificateRow, certificateRow, certificatesPart}
 use Rattle.storage_bytes.proofs.ListLaws.{tabulate-cons, tabulate-none}
-use Rattle.log_violation.specs.Violation.{noteHeld, noteBytes, heldAll, bytesAll}
-use Rattle.log_violation.proofs.ViolationLaws.{all-length, Room, held-then, bytes-then, room-then}
+use Rattle.log_violation.specs.Violation.{heldAll, bytesAll, noteWhere}
+use Rattle.log_violation.proofs.ViolationLaws.{Room, held-then, bytes-then, room-then}
 use Rattle.storage.proofs.WellFormed.{Formed}
 use Rattle.check_relevance.specs.Relevance.{relevantIn}
 use Rattle.committed_prefix.specs.Prefix.{agreeIn}
-use Rattle.certificate_judgement.specs.Judgement.{lacksThrough, lackingOf, lackingAt, lackingIn, flagIn, NotedAs, JudgedAs, lackingsIn, flagsIn, JudgedAll}
+use Rattle.certificate_judgement.specs.Judgement.{lacksThrough, lackingOf, lackingAt, lackingIn, flagIn, JudgedAs, lackingsIn, flagsIn, JudgedAll}
 
 -- a certificate as it is read, and its log, which is stored
 pub row-here : (h p : Bytes) (k : ℕ) (c : CertificateRow) → p ≡ certificatesPart h → c ≡ certificateRow p k → c ≡ certificateRow (certificatesPart h) k
@@ -46,29 +46,6 @@ module _ (h : Bytes) (c : CertificateRow) (i : ℕ) where
 -- ---- one certificate
 
 module _ (h : Bytes) (c : CertificateRow) where
-  module _ (i : ℕ) (t : Bytes) (held : ℕ) (b : Bool) (e : b ≡ lacksThrough h c i) where
-    lacking-none : b ≡ false → lackingAt h c i ≡ []
-    unfolding lackingAt
-    lacking-none f = cond-false (lacksThrough h c i) _ [] (sym e ∙ f)
-
-    lacking-one : b ≡ true → lackingAt h c i ≡ lackingOf c i ∷ []
-    unfolding lackingAt
-    lacking-one f = cond-true (lacksThrough h c i) _ [] (sym e ∙ f)
-
-    pub noted-none : b ≡ false → NotedAs h c i t held held t
-    unfolding heldAll bytesAll
-    noted-none f =
-        record { holds = sym (ap (heldAll t held) (lacking-none f)); table = sym (ap (bytesAll t held) (lacking-none f)) }
-
-    pub noted-one : b ≡ true → (held′ : ℕ) (t′ : Bytes) → (held′ ≡ noteHeld t held (lackingOf c i)) × (t′ ≡ noteBytes t held (lackingOf c i))
-        → NotedAs h c i t held held′ t′
-    unfolding heldAll bytesAll
-    noted-one f held′ t′ w =
-        record { holds = w .0 ∙ sym (ap (heldAll t held) (lacking-one f)); table = w .1 ∙ sym (ap (bytesAll t held) (lacking-one f)) }
-
-  pub noted-length : (i : ℕ) (t : Bytes) (held held′ : ℕ) (t′ : Bytes) → NotedAs h c i t held held′ t′ → length t′ ≡ length t
-  noted-length i t held held′ t′ w = ap length (w .table) ∙ all-length (lackingAt h c i) t held
-
   module _ (t : Bytes) (b held r : ℕ) (e : r ≡ relevantIn h c) where
     irrelevant : r ≡ 0 → eqb (relevantIn h c) 0 ≡ true
     irrelevant z = eq-eqb (relevantIn h c) 0 (sym e ∙ z)
@@ -83,15 +60,19 @@ module _ (h : Bytes) (c : CertificateRow) where
           table = sym (ap (bytesAll t held) n);
         }
 
-    pub judged-some : (r ≡ 0 → ⊥) → (held′ : ℕ) (t′ : Bytes) → NotedAs h c r t held held′ t′ → JudgedAs h c t b held 4 held′ t′
-    unfolding flagIn lackingIn
-    judged-some z held′ t′ w =
+    -- l: its log lacks the committed prefix through r
+    pub judged-some : (r ≡ 0 → ⊥) → (l : Bool) → l ≡ lacksThrough h c r → (held′ : ℕ) (t′ : Bytes)
+        → (held′ ≡ heldAll t held (noteWhere l (lackingOf c r))) × (t′ ≡ bytesAll t held (noteWhere l (lackingOf c r)))
+        → JudgedAs h c t b held 4 held′ t′
+    unfolding flagIn lackingIn lackingAt
+    judged-some z l el held′ t′ w =
         let f : eqb (relevantIn h c) 0 ≡ false = ne-eqb (relevantIn h c) 0 (λ q. z (e ∙ q)) in
-        let n : lackingAt h c r ≡ lackingIn h c = ap (lackingAt h c) e ∙ sym (cond-false (eqb (relevantIn h c) 0) [] _ f) in
+        let n : noteWhere l (lackingOf c r) ≡ lackingIn h c =
+        ap (λ (x : Bool). noteWhere x (lackingOf c r)) el ∙ ap (lackingAt h c) e ∙ sym (cond-false (eqb (relevantIn h c) 0) [] _ f) in
         record {
           flag = sym (cond-false (eqb (relevantIn h c) 0) b 4 f);
-          holds = w .holds ∙ ap (heldAll t held) n;
-          table = w .table ∙ ap (bytesAll t held) n;
+          holds = w .0 ∙ ap (heldAll t held) n;
+          table = w .1 ∙ ap (bytesAll t held) n;
         }
 
 -- ---- the walk over all of them

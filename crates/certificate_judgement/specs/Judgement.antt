@@ -13,7 +13,7 @@ use Rattle.storage.specs.Tables.{CertificateRow}
 use Rattle.storage.specs.Values.{certificatesOf}
 use Rattle.storage.specs.Rules.{wellFormed}
 use Rattle.committed_prefix.specs.Prefix.{agreeIn}
-use Rattle.log_violation.specs.Violation.{heldAll, bytesAll}
+use Rattle.log_violation.specs.Violation.{heldAll, bytesAll, noteWhere}
 use Rattle.check_relevance.specs.Relevance.{relevantIn}
 
 -- ---- one certificate
@@ -29,7 +29,7 @@ lackingOf c i = record { name = 5; node = c .leader; index = i; term = c .term }
 
 unfoldable pub lackingAt : Bytes → CertificateRow → ℕ → List Finding
 unfolding lacksThrough
-lackingAt h c i = cond (lacksThrough h c i) (lackingOf c i ∷ []) []
+lackingAt h c i = noteWhere (lacksThrough h c i) (lackingOf c i)
 
 -- what judging the certificate notes
 unfoldable pub lackingIn : Bytes → CertificateRow → List Finding
@@ -48,10 +48,6 @@ pub record Noting (h : Bytes) (p : ℕ) (c : CertificateRow) (t : Bytes) (held :
   pub stored : c .log ≤ wordAt h 0 2
   pub long : length t ≡ 1024
   pub few : held ≤ 129
-
-pub record NotedAs (h : Bytes) (c : CertificateRow) (i : ℕ) (t : Bytes) (held held′ : ℕ) (t′ : Bytes) : Type 0 where
-  pub holds : held′ ≡ heldAll t held (lackingAt h c i)
-  pub table : t′ ≡ bytesAll t held (lackingAt h c i)
 
 pub record JudgedAs (h : Bytes) (c : CertificateRow) (t : Bytes) (b held b′ held′ : ℕ) (t′ : Bytes) : Type 0 where
   pub flag : b′ ≡ flagIn h c b

@@ -3,11 +3,13 @@
 ghost use mathlib.Core.Path.{_≡_};
 ghost use Prim.Native.Nat.{_≤_};
 ghost use mathlib.Core.Bool.{true};
+ghost use lib.ListN.{length};
 ghost use Rattle.storage_bytes.specs.Words.{wordAt};
 ghost use Rattle.storage.specs.Rules.{wellFormed};
 ghost use Rattle.storage.specs.Values.{committedEnd};
 ghost use Rattle.certificate_rows.specs.Values.{certificateValue};
-ghost use Rattle.certificate_judgement.specs.Judgement.{lacksThrough, Noting, NotedAs, Judging, JudgedAs, JudgedAll};
+ghost use Rattle.log_violation.specs.Violation.{heldAll, bytesAll, noteWhere};
+ghost use Rattle.certificate_judgement.specs.Judgement.{lacksThrough, lackingOf, Noting, Judging, JudgedAs, JudgedAll};
 use certificate_rows::certificates::Certificate;
 use certificate_rows::certificates::LOG_ABSENT;
 use certificate_rows::certificates::certificate_at;
@@ -50,18 +52,17 @@ fn lacks_through(
 
 // LG-05 is noted where the log lacks the committed prefix through the index.
 fn note_lacking(
-    history: &[u8],
-    committed: LogPrefixWitness,
+    findings: &mut [u8],
+    n: usize,
+    lacks: bool,
     c: Certificate,
     index: LogIndex,
-    findings: &mut [u8],
-    held: usize,
 ) -> usize
-    requires { ⌜ Noting (now history) (committed .0) (certificateValue c) (now findings) held ⌝ }
-    ensures { λ r. ⌜ NotedAs (now (history .entry)) (certificateValue c) (index .0) (now (findings .entry)) held r (now (findings .exit)) ⌝ }
+    requires { ⌜ (n ≤ 129) × (length (now findings) ≡ 1024) ⌝ }
+    ensures { λ r. ⌜ (r ≡ heldAll (now (findings .entry)) n (noteWhere lacks (lackingOf (certificateValue c) (index .0)))) × (now (findings .exit) ≡ bytesAll (now (findings .entry)) n (noteWhere lacks (lackingOf (certificateValue c) (index .0)))) ⌝ }
 {
-    if !lacks_through(history, committed, c, index) {
-        return held;
+    if !lacks {
+        return n;
     }
     let node = c.leader;
     let term = c.term;
@@ -71,7 +72,7 @@ fn note_lacking(
         index,
         term,
     };
-    note(&mut findings[..], held, lg05)
+    note(&mut findings[..], n, lg05)
 }
 
 // One certificate, by the committed prefix and its end.
@@ -89,14 +90,8 @@ pub fn judge(
     let FoundIndex::At(index) = relevant_index(history, end, c) else {
         return earlier;
     };
-    let held = note_lacking(
-        history,
-        committed,
-        c,
-        index,
-        &mut findings[..],
-        earlier.held,
-    );
+    let lacks = lacks_through(history, committed, c, index);
+    let held = note_lacking(&mut findings[..], earlier.held, lacks, c, index);
     Judged {
         flags: RELEVANT_INDEX,
         held,

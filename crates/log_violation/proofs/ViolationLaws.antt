@@ -26,7 +26,7 @@ use Rattle.storage_bytes.proofs.PartLaws.{part-length, part-lent, put-whole}
 use Rattle.storage.proofs.WellFormed.{formed}
 use Rattle.storage.proofs.WriteLaws.{part-written}
 use Rattle.storage.proofs.RowLaws.{rows-append, finding-own, finding-length, finding-back}
-use Rattle.log_violation.specs.Violation.{sameNumbers, notedFrom, isNoted, noteHeld, noteBytes, heldAll, bytesAll, findingsWritten, roomFor, notedIn}
+use Rattle.log_violation.specs.Violation.{sameNumbers, notedFrom, isNoted, noteHeld, noteBytes, heldAll, bytesAll, noteWhere, findingsWritten, roomFor, notedIn}
 
 -- ---- a row held against a finding, number by number: a is the flag of the first two tests, b that of the first three
 
@@ -270,6 +270,21 @@ module _ (t : Bytes) (n : ℕ) (f : Finding) where
         w ∙ sym (cond-false (leb 128 n) t _ (lt-leb 128 n q)
             ∙ cond-false (isNoted t n f) t (putBytes t (n * 8) (findingBytes f)) nowhere),
       )
+
+-- ---- a finding that is noted where b is true
+
+module _ (b : Bool) (f : Finding) (t : Bytes) (n : ℕ) where
+  abbrev NotedWhere : ℕ → Bytes → Type 0
+  NotedWhere r u = (r ≡ heldAll t n (noteWhere b f)) × (u ≡ bytesAll t n (noteWhere b f))
+
+  pub where-not : b ≡ false → NotedWhere n t
+  unfolding heldAll bytesAll
+  where-not e = let z : noteWhere b f ≡ [] = cond-false b (f ∷ []) [] e in (sym (ap (heldAll t n) z), sym (ap (bytesAll t n) z))
+
+  pub where-noted : b ≡ true → (r : ℕ) (u : Bytes) → Noted t n f r u → NotedWhere r u
+  unfolding heldAll bytesAll
+  where-noted e r u w =
+      let z : noteWhere b f ≡ f ∷ [] = cond-true b (f ∷ []) [] e in (w .0 ∙ sym (ap (heldAll t n) z), w .1 ∙ sym (ap (bytesAll t n) z))
 
 -- ---- the history's findings, copied and written
 

@@ -46,6 +46,10 @@ unfolding noteHeld noteBytes
 bytesAll t n [] = t
 bytesAll t n (f ∷ fs) = bytesAll (noteBytes t n f) (noteHeld t n f) fs
 
+-- a finding that is noted where b is true
+abbrev pub noteWhere : Bool → Finding → List Finding
+noteWhere b f = cond b (f ∷ []) []
+
 -- a table written as the history's, with how many it holds
 unfoldable pub findingsWritten : Bytes → Bytes → ℕ → Bytes
 findingsWritten h t n = putBytes (putBytes h 2121 t) 7 (wordBytes 1 n)

@@ -17,11 +17,10 @@ use Rattle.record_scan.specs.Places.{Walk, firstEntry, indexAt, termAt, lengthA
 use Rattle.record_walk.specs.Values.{shownEntry}
 use Rattle.bit_fields.proofs.Widths.{bytes-length}
 use Rattle.record_walk.proofs.Walks.{next-walk, walk-entered, here, entry-content}
-use Rattle.model.proofs.Tests.{tf}
 use Rattle.storage.specs.Tables.{PrefixRow, prefixRow}
 use Rattle.storage.proofs.RowLaws.{bytes-take}
 use Rattle.prefix_lookup.specs.Table.{entryValue}
-use Rattle.log_violation.specs.Violation.{noteHeld, noteBytes, heldAll, bytesAll}
+use Rattle.log_violation.specs.Violation.{heldAll, bytesAll}
 use Rattle.prefix_lookup.specs.Prefix.{storedOf, first}
 use Rattle.prefix_lookup.specs.declared.lookup.Stored.{Stored}
 use Rattle.units.specs.declared.LogPrefixWitness.{LogPrefixWitness}
@@ -101,20 +100,6 @@ front-shown s k n i e w h q g =
     ∙ (let a = sym (entry-read s k e q (here s k n w h .short)) in
     let b = sym (ap (λ (x : ShownEntry). x .next) q) in
     λ z. a z ∷ frontFrom (i + 1) (entriesAt s (b z) (n - 1)))
-
--- ---- a note, or none
-
-pub note-one : (b : Bool) (n i t held : ℕ) (u : Bytes) → b ≡ false
-    → (held ≡ heldAll u held (noteOf b n i t)) × (u ≡ bytesAll u held (noteOf b n i t))
-note-one true n i t held u e = absurd (tf e)
-note-one false n i t held u e = (unfold heldAll in refl, unfold bytesAll in refl)
-
-pub note-other-one : (b : Bool) (n i t held r : ℕ) (u v : Bytes) → b ≡ true
-    → (r ≡ noteHeld u held (record { name = 3; node = n; index = i; term = t })) × (v ≡ noteBytes u held (record { name = 3; node = n; index = i; term = t }))
-    → (r ≡ heldAll u held (noteOf b n i t)) × (v ≡ bytesAll u held (noteOf b n i t))
-unfolding heldAll bytesAll
-note-other-one true n i t held r u v e w = w
-note-other-one false n i t held r u v e w = absurd (tf (sym e))
 
 -- ---- an entry of a walk
 

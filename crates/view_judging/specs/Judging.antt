@@ -17,7 +17,7 @@ use Rattle.storage.specs.Rules.{wellFormed}
 use Rattle.view_judging.specs.declared.judging.Place.{Place}
 use Rattle.prefix_lookup.specs.Prefix.{rowOf, find, first}
 use Rattle.log_comparison.specs.Comparison.{sameFrom}
-use Rattle.log_violation.specs.Violation.{heldAll, bytesAll}
+use Rattle.log_violation.specs.Violation.{heldAll, bytesAll, noteWhere}
 
 -- the remembered prefix of number r, if there is one, is another than that of number k
 unfoldable pub differs : (ℕ → PrefixRow) → ℕ → ℕ → Bool
@@ -35,7 +35,7 @@ isRemembered row count i t = not (eqb (first row count i t) 0)
 
 -- LG-03 of an entry for which another prefix is remembered
 abbrev pub noteOf : Bool → ℕ → ℕ → ℕ → List Finding
-noteOf b n i t = cond b (record { name = 3; node = n; index = i; term = t } ∷ []) []
+noteOf b n i t = noteWhere b (record { name = 3; node = n; index = i; term = t })
 
 -- LG-03 of entries whose prefixes are not stored, from index i on
 unfoldable pub lackNotes : (ℕ → PrefixRow) → ℕ → ℕ → ℕ → List Entry → List Finding

@@ -1,9 +1,11 @@
 -- `certificate_judgement::judgement::judge` meets its contract.
 -- Assumes nothing.
-use Rattle.certificate_judgement.proofs.JudgementLaws.{noted-length, judged-none, judged-some}
+use Rattle.certificate_judgement.proofs.JudgementLaws.{judged-none, judged-some}
+use Rattle.log_violation.proofs.ViolationLaws.{all-length}
 use Rattle.table_rows.proofs.TermSearchLaws.{index-told, nothing-told}
 use Rattle.certificate_rows.specs.Values.{certificateValue}
-use mathlib.Core.Path.{refl, sym, _∙_}
+use mathlib.Core.Path.{refl, sym, ap, _∙_}
+use lib.ListN.{length}
 use borrow.Author.Needs.{needs}
 use Rattle.certificate_judgement.proofs.judgement.judge.Statement.{statement}
 use Rattle.certificate_judgement.proofs.judgement.judge.Tie as tie
@@ -23,18 +25,28 @@ returns c =
     judged-none (s .history .now) (certificateValue (s .c)) (s .findings .now) (s .earlier .flags) (s .earlier .held) _ refl
     (nothing-told _ _ (c .before .before .relevant-index .ensures) (c .enum-told .given .1))
 
+lacks-through-requires : tie.Need-lacks-through-requires
+lacks-through-requires c κs =
+    let n = c .before .before .before .before .before .before .pre .0 in
+    (n .right, n .committed, n .stored)
+
 note-lacking-requires : tie.Need-note-lacking-requires
-note-lacking-requires c κs = c .before .before .before .before .before .before .before .pre .0
+note-lacking-requires c κs =
+    let n = c .before .before .before .before .before .before .before .before .pre .0 in
+    (n .few, n .long)
 
 same-length : tie.Need-same-length
-same-length c = noted-length _ _ _ _ _ _ _ (c .before .before .note-lacking .ensures)
+same-length c = ap length (c .before .before .note-lacking .ensures .1) ∙ all-length _ _ _
 
 returns-2 : tie.Need-returns-2
 returns-2 c =
-    let s = c .before .before .before .before .before .before .before .before .before .before .args in
-    let x = index-told _ _ (c .before .before .before .before .before .before .before .relevant-index .ensures) _ (c .before .before .before .before .before .index .given .1) in
-    judged-some (s .history .now) (certificateValue (s .c)) (s .findings .now) (s .earlier .flags) (s .earlier .held) _ (x .0) (λ z. x .1 (sym (x .0) ∙ z)) _ _
-    (c .before .before .note-lacking .ensures)
+    let l = c .before .before .before .before in
+    let i = l .before .before in
+    let f = i .before .before in
+    let s = f .before .before .before .args in
+    let x = index-told _ _ (f .relevant-index .ensures) _ (i .index .given .1) in
+    judged-some (s .history .now) (certificateValue (s .c)) (s .findings .now) (s .earlier .flags) (s .earlier .held) _ (x .0) (λ z. x .1 (sym (x .0) ∙ z)) _
+    (l .lacks-through .ensures) _ _ (c .before .before .note-lacking .ensures)
 
 pub judge-spec : {M : Type 1} → statement M
 judge-spec =
@@ -44,6 +56,7 @@ judge-spec =
     enum-known-index
     enum-told
     returns
+    lacks-through-requires
     note-lacking-requires
     same-length
     returns-2)
