@@ -1,7 +1,7 @@
 -- The first rule that a row fails, the walk over the rows, and what the code answers, in the model's words.
 -- Assumes nothing.
 use Prim.Native.Nat.{ℕ}
-use mathlib.Core.Bool.{Bool, cond, not, _&&_, _||_}
+use mathlib.Core.Bool.{cond}
 use mathlib.Core.List.{List, [], _∷_}
 use lib.Dec.{ltb, eqb}
 use Rattle.model.specs.Record as model
@@ -25,13 +25,17 @@ rowOf r =
       actualConfiguration = configurationOf (r .«actual_configuration»);
     }
 
--- rule 2 of a row's two configurations
-abbrev pub regressed : model.Configuration → model.Configuration → Bool
-regressed f a = f .present && (not (a .present) || ltb (a .index) (f .index))
-
--- rule 3 of them
-abbrev pub changed : model.Configuration → model.Configuration → Bool
-changed f a = f .present && a .present && eqb (f .index) (a .index) && not (eqb (f .identity) (a .identity))
+-- a row with these configurations: rules 2 and 3 look at nothing else of it
+abbrev pub configured : Configuration → Configuration → model.Row
+configured f a =
+    record {
+      node = 0;
+      floor = 0;
+      commit = 0;
+      last = 0;
+      floorConfiguration = configurationOf f;
+      actualConfiguration = configurationOf a;
+    }
 
 -- in the place of a rule where none fails: it comes after all four
 abbrev pub noRule : ℕ

@@ -3,7 +3,7 @@
 ghost use mathlib.Core.Path.{_≡_};
 ghost use Rattle.model.specs.Rows as model;
 ghost use Rattle.record_scan.specs.Places as places;
-ghost use Rattle.invariants.specs.Rules.{configurationOf, rowOf, regressed, changed, firstRule, verdictFor};
+ghost use Rattle.invariants.specs.Rules.{rowOf, configured, firstRule, verdictFor};
 use record_walk::walk::Configuration;
 use record_walk::walk::FIRST_ROW;
 use record_walk::walk::Row;
@@ -35,14 +35,14 @@ const NO_RULE: u8 = 5;
 
 // Rule 2 fails: there was a committed configuration, and there is none now or one of a lower index.
 fn configuration_regressed(floor: Configuration, actual: Configuration) -> bool
-    ensures { λ b. ⌜ b ≡ regressed (configurationOf floor) (configurationOf actual) ⌝ }
+    ensures { λ b. ⌜ b ≡ model.rule2 (configured floor actual) ⌝ }
 {
     floor.present && (!actual.present || actual.index.0 < floor.index.0)
 }
 
 // Rule 3 fails: the committed configuration has another identity at the same index.
 fn configuration_changed(floor: Configuration, actual: Configuration) -> bool
-    ensures { λ b. ⌜ b ≡ changed (configurationOf floor) (configurationOf actual) ⌝ }
+    ensures { λ b. ⌜ b ≡ model.rule3 (configured floor actual) ⌝ }
 {
     let both = floor.present && actual.present;
     both && floor.index.0 == actual.index.0 && floor.identity != actual.identity
