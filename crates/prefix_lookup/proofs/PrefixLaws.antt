@@ -18,7 +18,7 @@ use Rattle.model.proofs.Tests.{tf, either, cond-true, cond-false, and-left}
 use Rattle.storage.specs.Tables.{PrefixRow}
 use Rattle.storage.specs.Decode.{prefixAt, entryOf, resolve}
 use Rattle.storage.specs.Rules.{sameRow}
-use Rattle.storage.proofs.RowFacts.{Facts, rowAt, emptyRow, nil≢snoc, snoc-injective, same-row-true, resolve-count}
+use Rattle.storage.proofs.RowFacts.{Facts, rowAt, emptyRow, entry-after, nil≢snoc, snoc-injective, same-row-true, resolve-count}
 use Rattle.storage.proofs.PrefixLaws.{found-is}
 use Rattle.prefix_lookup.specs.Prefix.{rowOf, searchFrom, find, isOf, first}
 
@@ -118,7 +118,7 @@ module _ (row : ℕ → PrefixRow) (rs : List PrefixRow) (f : Facts rs) (at : Ro
           → (q : ℕ) → q ≤ length rs → prefixAt (resolve rs) q ≡ Next → ⊥
       gone m zero l w = nil≢snoc (prefixAt (resolve rs) p) e w
       gone m (suc k) l w =
-          let s = ap (λ (j : ℕ). prefixAt (resolve rs) j) (sym (add-one k)) ∙ f .entry k l in
+          let s = entry-after rs f k l in
           let both = snoc-injective (prefixAt (resolve rs) (rowAt rs k .parent)) (prefixAt (resolve rs) p) (sym s ∙ w) in
           let below = f .parent k l in
           let par : rowAt rs k .parent ≡ p = f .distinct _ _ (omega arith) h (both .0) in
@@ -175,7 +175,7 @@ module _ (rs : List PrefixRow) (f : Facts rs) where
   bound-step (suc k) ih h =
       let par = f .parent k h in
       let below = ih (rowAt rs k .parent) (suc-le-suc par) (omega arith) in
-      let e = ap length (ap (λ (j : ℕ). prefixAt (resolve rs) j) (sym (add-one k)) ∙ f .entry k h)
+      let e = ap length (entry-after rs f k h)
       ∙ length-append (prefixAt (resolve rs) (rowAt rs k .parent)) (entryOf (rowAt rs k) ∷ []) in
       omega arith
 

@@ -13,8 +13,8 @@ use borrow.Author.Tests.{le-leb, leb-true, leb-false, ltb-true, ltb-false, ne-eq
 use Rattle.model.proofs.Tests.{either, cond-true, cond-false}
 use Rattle.storage.specs.Tables.{PrefixRow}
 use Rattle.storage.specs.Values.{indexOf}
-use Rattle.storage.specs.Decode.{prefixAt, entryOf, resolve}
-use Rattle.storage.proofs.RowFacts.{Facts, rowAt}
+use Rattle.storage.specs.Decode.{prefixAt, entryOf, extended, resolve}
+use Rattle.storage.proofs.RowFacts.{Facts, entry-after}
 use Rattle.prefix_lookup.specs.Prefix.{witness, sliceFrom, sliceOf}
 use Rattle.prefix_lookup.specs.declared.lookup.Slice.{Slice}
 use Rattle.prefix_lookup.proofs.PrefixLaws.{Rows, row-index}
@@ -30,21 +30,18 @@ module _ (row : ℕ → PrefixRow) (rs : List PrefixRow) (f : Facts rs) (at : Ro
       ∙ sym (row-index rs f k h)
       ∙ ap (λ (j : ℕ). length (prefixAt (resolve rs) j)) (add-one k)
 
-  -- a row's prefix is its parent's and one entry more
-  extended : (k : ℕ) → suc k ≤ length rs → prefixAt (resolve rs) (suc k) ≡ prefixAt (resolve rs) (row k .parent) ++ (entryOf (rowAt rs k) ∷ [])
-  extended k h =
-      ap (λ (j : ℕ). prefixAt (resolve rs) j) (sym (add-one k)) ∙ f .entry k h
-      ∙ ap (λ (r : PrefixRow). prefixAt (resolve rs) (r .parent) ++ (entryOf (rowAt rs k) ∷ [])) (sym (at k h))
+  -- a row's prefix is its parent's and one entry more, and its parent comes before it
+  row-entry : (k : ℕ) → suc k ≤ length rs → prefixAt (resolve rs) (suc k) ≡ extended (resolve rs) (row k)
+  row-entry k h = entry-after rs f k h ∙ ap (extended (resolve rs)) (sym (at k h))
 
-  earlier : (k : ℕ) → suc k ≤ length rs → row k .parent ≤ k
-  earlier k h = subst (λ (r : PrefixRow). r .parent ≤ k) (sym (at k h)) (f .parent k h)
+  pub row-parent : (k : ℕ) → suc k ≤ length rs → row k .parent ≤ k
+  row-parent k h = subst (λ (r : PrefixRow). r .parent ≤ k) (sym (at k h)) (f .parent k h)
 
-  -- its index is one more
+  -- its index is one more than its parent's
   pub index-after : (k : ℕ) → suc k ≤ length rs → indexOf row (suc k) ≡ indexOf row (row k .parent) + 1
   index-after k h =
-      let l = earlier k h in
-      index-length (suc k) h ∙ ap length (extended k h)
-      ∙ length-append (prefixAt (resolve rs) (row k .parent)) (entryOf (rowAt rs k) ∷ [])
+      let l = row-parent k h in
+      index-length (suc k) h ∙ ap length (row-entry k h) ∙ length-append (prefixAt (resolve rs) (row k .parent)) (entryOf (row k) ∷ [])
       ∙ ap (λ (n : ℕ). n + 1) (sym (index-length (row k .parent) (omega arith)))
 
   abbrev Cut : ℕ → ℕ → ℕ → Type 0
@@ -53,9 +50,9 @@ module _ (row : ℕ → PrefixRow) (rs : List PrefixRow) (f : Facts rs) (at : Ro
   -- one parent back
   back : (i k q : ℕ) → suc k ≤ length rs → i < length (prefixAt (resolve rs) (suc k)) → Cut i (row k .parent) q → Cut i (suc k) q
   back i k q h l c =
-      let s = extended k h in
-      let n = ap length s ∙ length-append (prefixAt (resolve rs) (row k .parent)) (entryOf (rowAt rs k) ∷ []) in
-      (c .0, c .1 ∙ sym (ap (take i) s ∙ take-append-le i (prefixAt (resolve rs) (row k .parent)) (entryOf (rowAt rs k) ∷ []) (omega arith)))
+      let s = row-entry k h in
+      let n = ap length s ∙ length-append (prefixAt (resolve rs) (row k .parent)) (entryOf (row k) ∷ []) in
+      (c .0, c .1 ∙ sym (ap (take i) s ∙ take-append-le i (prefixAt (resolve rs) (row k .parent)) (entryOf (row k) ∷ []) (omega arith)))
 
   whole : (i p : ℕ) → p ≤ length rs → length (prefixAt (resolve rs) p) ≤ i → Cut i p p
   whole i p h l = (h, sym (take-all i (prefixAt (resolve rs) p) l))
@@ -72,7 +69,7 @@ module _ (row : ℕ → PrefixRow) (rs : List PrefixRow) (f : Facts rs) (at : Ro
       (λ t.
       let a = leb-false (indexOf row (suc k)) i t in
       let b = index-length (suc k) h in
-      let par = earlier k h in
+      let par = row-parent k h in
       let same : row (suc k - 1) .parent ≡ row k .parent = ap (λ (j : ℕ). row j .parent) (let z : suc k - 1 ≡ k = omega arith in z) in
       subst (Cut i (suc k)) (sym (cond-false (leb (indexOf row (suc k)) i) (suc k) _ t ∙ ap (sliceFrom row i fuel) same))
       (back i k (sliceFrom row i fuel (row k .parent)) h (omega arith) (sliced i fuel (row k .parent) (omega arith) (omega arith))))

@@ -18,7 +18,7 @@ use Rattle.units.specs.declared.LogPrefixWitness.{LogPrefixWitness}
 use Rattle.prefix_lookup.specs.Prefix.{witness, sliceOf}
 use Rattle.prefix_lookup.specs.declared.lookup.Slice.{Slice}
 use Rattle.prefix_lookup.proofs.PrefixLaws.{Rows}
-use Rattle.prefix_lookup.proofs.SliceLaws.{index-after, slice-cases}
+use Rattle.prefix_lookup.proofs.SliceLaws.{row-parent, index-after, slice-cases}
 
 pub rows-length : (t : Bytes) (n : ℕ) → length (prefixRows t n) ≡ n
 rows-length t n = tabulate-length (prefixRow t) 0 n
@@ -54,8 +54,7 @@ slice-within t n p i q w l e =
 -- a row's parent is a smaller number than its own
 pub table-parent : (t : Bytes) (n k : ℕ) → Table t n → k < n → wordAt t (k * 41) 2 ≤ k
 table-parent t n k h l =
-    let m : k < length (prefixRows t n) = subst (λ (j : ℕ). k < j) (sym (rows-length t n)) l in
-    subst (λ (r : PrefixRow). r .parent ≤ k) (sym (rows-at t n k m)) (table-facts t n h .parent k m)
+    row-parent (prefixRow t) (prefixRows t n) (table-facts t n h) (rows-at t n) k (subst (λ (j : ℕ). k < j) (sym (rows-length t n)) l)
 
 pub table-size : (t : Bytes) (n k : ℕ) → Table t n → k < n → wordAt t (k * 41 + 8) 1 ≤ 32
 table-size t n k h l =

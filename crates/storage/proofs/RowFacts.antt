@@ -91,6 +91,10 @@ pub record Facts (rows : List PrefixRow) : Type 0 where
   -- equal prefixes have equal numbers
   pub distinct : (p q : ℕ) → p ≤ length rows → q ≤ length rows → prefixAt (resolve rows) p ≡ prefixAt (resolve rows) q → p ≡ q
 
+-- the same of the number as a successor
+pub entry-after : (rows : List PrefixRow) → Facts rows → (k : ℕ) → k < length rows → prefixAt (resolve rows) (suc k) ≡ extended (resolve rows) (rowAt rows k)
+entry-after rows f k l = ap (λ (n : ℕ). prefixAt (resolve rows) n) (sym (add-one k)) ∙ f .entry k l
+
 -- every index is within the limit
 pub index-small : (rows : List PrefixRow) → Facts rows → (p : ℕ) → p ≤ length rows → indexAmong rows p ≤ 256
 index-small rows f zero l = omega arith
@@ -259,8 +263,7 @@ module _ (rows : List PrefixRow) (r : PrefixRow) (f : Facts rows) (right : RowRi
   not-old (suc j) h e =
       let l : j < length rows = omega arith in
       let s = rowAt rows j in
-      let up : prefixAt P (suc j) ≡ prefixAt P (s .parent) ++ (entryOf s ∷ [])
-      = ap (λ (n : ℕ). prefixAt P n) (sym (add-one j)) ∙ f .entry j l in
+      let up = entry-after rows f j l in
       let same = snoc-injective (prefixAt P (s .parent)) (prefixAt P (r .parent)) (sym up ∙ e) in
       let p : s .parent ≡ r .parent = f .distinct (s .parent) (r .parent) (omega (arith, f .parent j l)) (right .parent) (same .0) in
       let c : s .content ≡ r .content = ap (λ (x : Entry). x .content) (same .1) in

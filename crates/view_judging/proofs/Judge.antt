@@ -2,7 +2,6 @@
 -- Assumes nothing.
 use Prim.Native.Nat.{ℕ, zero, suc, _+_, _-_, _<_, _≤_}
 use native.Mathlib.Omega.{arith}
-use native.Mathlib.Numerals.{add-one}
 use mathlib.Core.Path.{_≡_, refl, sym, _∙_, ap, subst}
 use mathlib.Core.Bool.{Bool, true, false, cond, not, _&&_}
 use mathlib.Core.List.{List, [], _∷_, _++_}
@@ -19,7 +18,7 @@ use Rattle.record_scan.specs.Places.{Walk, nextAt, shownAt, entriesAt, itemsAt}
 use Rattle.storage.specs.Tables.{PrefixRow}
 use Rattle.storage.specs.Decode.{prefixAt, resolve}
 use Rattle.storage.specs.Rules.{sameRow}
-use Rattle.storage.proofs.RowFacts.{Facts, rowAt, nil≢snoc, snoc-injective}
+use Rattle.storage.proofs.RowFacts.{Facts, rowAt, entry-after, nil≢snoc, snoc-injective}
 use Rattle.prefix_lookup.specs.Prefix.{rowOf, searchFrom, find, first}
 use Rattle.log_comparison.specs.Comparison.{sameFrom}
 use Rattle.view_judging.specs.Judging.{differs, other, isRemembered, noteOf, lackNotes, nextNumber, frontAt, endsAt, placeFrom, storedNotes, notesFrom}
@@ -134,7 +133,7 @@ module _ (row : ℕ → PrefixRow) (rs : List PrefixRow) (f : Facts rs) (at : Ro
   unstored-next : (q : Prefix) (e : Entry) → Unstored q → Unstored (q ++ (e ∷ []))
   unstored-next q e u zero l w = nil≢snoc q e w
   unstored-next q e u (suc k) l w =
-      let s = ap (λ (j : ℕ). prefixAt (resolve rs) j) (sym (add-one k)) ∙ f .entry k l in
+      let s = entry-after rs f k l in
       let par = f .parent k l in
       u (rowAt rs k .parent) (omega arith)
       (snoc-injective (prefixAt (resolve rs) (rowAt rs k .parent)) q (sym s ∙ w) .0)
