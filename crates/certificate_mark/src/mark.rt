@@ -9,14 +9,13 @@ use units::LogIndex;
 fn set_mark(c: &mut Certificate, through: LogIndex)
     ensures { λ _. ⌜ certificateValue (now (c .exit)) ≡ markedRow (certificateValue (now (c .entry))) (through .0) ⌝ }
 {
-    c.mark.0 = through.0;
+    c.mark = through;
 }
 
 // The same by value: only this function lends a certificate, so its callers need no walk by hand.
-pub fn with_mark(c: Certificate, through: LogIndex) -> Certificate
+pub fn with_mark(mut c: Certificate, through: LogIndex) -> Certificate
     ensures { λ r. ⌜ certificateValue r ≡ markedRow (certificateValue c) (through .0) ⌝ }
 {
-    let mut moved = c;
-    set_mark(&mut moved, through);
-    moved
+    set_mark(&mut c, through);
+    c
 }
