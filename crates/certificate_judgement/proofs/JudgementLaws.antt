@@ -15,7 +15,7 @@ use Rattle.storage.specs.Values.{certificatesOf}
 use Rattle.storage_bytes.specs.Words.{wordAt}
 use Rattle.storage.specs.Tables.{CertificateRow, certificateRow, certificatesPart}
 use Rattle.storage_bytes.proofs.ListLaws.{tabulate-cons, tabulate-none}
-use Rattle.log_violation.specs.Violation.{heldAll, bytesAll, noteWhere}
+use Rattle.log_violation.specs.Violation.{heldAll, bytesAll, NotedAll, noteWhere}
 use Rattle.log_violation.proofs.ViolationLaws.{Room, held-then, bytes-then, room-then}
 use Rattle.storage.proofs.WellFormed.{Formed}
 use Rattle.check_relevance.specs.Relevance.{relevantIn}
@@ -62,8 +62,7 @@ module _ (h : Bytes) (c : CertificateRow) where
 
     -- l: its log lacks the committed prefix through r
     pub judged-some : (r ≡ 0 → ⊥) → (l : Bool) → l ≡ lacksThrough h c r → (held′ : ℕ) (t′ : Bytes)
-        → (held′ ≡ heldAll t held (noteWhere l (lackingOf c r))) × (t′ ≡ bytesAll t held (noteWhere l (lackingOf c r)))
-        → JudgedAs h c t b held 4 held′ t′
+        → NotedAll t held (noteWhere l (lackingOf c r)) held′ t′ → JudgedAs h c t b held 4 held′ t′
     unfolding flagIn lackingIn lackingAt
     judged-some z l el held′ t′ w =
         let f : eqb (relevantIn h c) 0 ≡ false = ne-eqb (relevantIn h c) 0 (λ q. z (e ∙ q)) in

@@ -8,14 +8,14 @@ ghost use Rattle.storage_bytes.specs.Words.{wordAt};
 ghost use Rattle.storage.specs.Rules.{wellFormed};
 ghost use Rattle.storage.specs.Values.{committedEnd};
 ghost use Rattle.certificate_rows.specs.Values.{certificateValue};
-ghost use Rattle.log_violation.specs.Violation.{heldAll, bytesAll, noteWhere};
+ghost use Rattle.log_violation.specs.Violation.{NotedAll, noteWhere};
 ghost use Rattle.certificate_judgement.specs.Judgement.{lacksThrough, lackingOf, Noting, Judging, JudgedAs, JudgedAll};
 use certificate_rows::certificates::Certificate;
 use certificate_rows::certificates::LOG_ABSENT;
 use certificate_rows::certificates::certificate_at;
 use check_relevance::relevance::relevant_index;
 use committed_prefix::committed::agree_through;
-use log_violation::violation::note;
+use log_violation::violation::note_where;
 use storage::head::certificate_count;
 use storage_bytes::layout::certificate_table;
 use table_rows::findings::Found;
@@ -59,11 +59,8 @@ fn note_lacking(
     index: LogIndex,
 ) -> usize
     requires { ⌜ (n ≤ 129) × (length (now findings) ≡ 1024) ⌝ }
-    ensures { λ r. ⌜ (r ≡ heldAll (now (findings .entry)) n (noteWhere lacks (lackingOf (certificateValue c) (index .0)))) × (now (findings .exit) ≡ bytesAll (now (findings .entry)) n (noteWhere lacks (lackingOf (certificateValue c) (index .0)))) ⌝ }
+    ensures { λ r. ⌜ NotedAll (now (findings .entry)) n (noteWhere lacks (lackingOf (certificateValue c) (index .0))) r (now (findings .exit)) ⌝ }
 {
-    if !lacks {
-        return n;
-    }
     let node = c.leader;
     let term = c.term;
     let lg05 = Found {
@@ -72,7 +69,7 @@ fn note_lacking(
         index,
         term,
     };
-    note(&mut findings[..], n, lg05)
+    note_where(&mut findings[..], n, lacks, lg05)
 }
 
 // One certificate, by the committed prefix and its end.

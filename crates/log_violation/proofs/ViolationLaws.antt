@@ -26,7 +26,7 @@ use Rattle.storage_bytes.proofs.PartLaws.{part-length, part-lent, put-whole}
 use Rattle.storage.proofs.WellFormed.{formed}
 use Rattle.storage.proofs.WriteLaws.{part-written}
 use Rattle.storage.proofs.RowLaws.{rows-append, finding-own, finding-length, finding-back}
-use Rattle.log_violation.specs.Violation.{sameNumbers, notedFrom, isNoted, noteHeld, noteBytes, heldAll, bytesAll, noteWhere, findingsWritten, roomFor, notedIn}
+use Rattle.log_violation.specs.Violation.{sameNumbers, notedFrom, isNoted, noteHeld, noteBytes, heldAll, bytesAll, NotedAll, noteWhere, findingsWritten, roomFor, notedIn}
 
 -- ---- a row held against a finding, number by number: a is the flag of the first two tests, b that of the first three
 
@@ -216,7 +216,7 @@ pub record Room (t : Bytes) (n : ℕ) : Type 0 where
   pub long : length t ≡ 1024
 
 -- some notes are taken, with what they leave; the rest go on from there
-module _ (t : Bytes) (n : ℕ) (xs : List Finding) (n′ : ℕ) (t′ : Bytes) (e : (n′ ≡ heldAll t n xs) × (t′ ≡ bytesAll t n xs)) where
+module _ (t : Bytes) (n : ℕ) (xs : List Finding) (n′ : ℕ) (t′ : Bytes) (e : NotedAll t n xs n′ t′) where
   pub held-then : (ys : List Finding) → heldAll t n (xs ++ ys) ≡ heldAll t′ n′ ys
   held-then ys = held-append xs ys t n ∙ (λ i. heldAll (sym (e .1) i) (sym (e .0) i) ys)
 
@@ -274,14 +274,11 @@ module _ (t : Bytes) (n : ℕ) (f : Finding) where
 -- ---- a finding that is noted where b is true
 
 module _ (b : Bool) (f : Finding) (t : Bytes) (n : ℕ) where
-  abbrev NotedWhere : ℕ → Bytes → Type 0
-  NotedWhere r u = (r ≡ heldAll t n (noteWhere b f)) × (u ≡ bytesAll t n (noteWhere b f))
-
-  pub where-not : b ≡ false → NotedWhere n t
+  pub where-not : b ≡ false → NotedAll t n (noteWhere b f) n t
   unfolding heldAll bytesAll
   where-not e = let z : noteWhere b f ≡ [] = cond-false b (f ∷ []) [] e in (sym (ap (heldAll t n) z), sym (ap (bytesAll t n) z))
 
-  pub where-noted : b ≡ true → (r : ℕ) (u : Bytes) → Noted t n f r u → NotedWhere r u
+  pub where-noted : b ≡ true → (r : ℕ) (u : Bytes) → Noted t n f r u → NotedAll t n (noteWhere b f) r u
   unfolding heldAll bytesAll
   where-noted e r u w =
       let z : noteWhere b f ≡ f ∷ [] = cond-true b (f ∷ []) [] e in (w .0 ∙ sym (ap (heldAll t n) z), w .1 ∙ sym (ap (bytesAll t n) z))

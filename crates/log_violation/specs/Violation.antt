@@ -2,6 +2,7 @@
 -- limit means that there are too many: from then on nothing is noted.
 -- Assumes nothing.
 use Prim.Native.Nat.{ℕ, zero, suc, _+_, _*_}
+use mathlib.Core.Path.{_≡_}
 use mathlib.Core.Bool.{Bool, false, cond, _&&_, _||_}
 use mathlib.Core.List.{List, [], _∷_}
 use lib.Dec.{leb, ltb, eqb}
@@ -45,6 +46,10 @@ unfoldable pub bytesAll : Bytes → ℕ → List Finding → Bytes
 unfolding noteHeld noteBytes
 bytesAll t n [] = t
 bytesAll t n (f ∷ fs) = bytesAll (noteBytes t n f) (noteHeld t n f) fs
+
+-- the findings fs noted in a table of n: how many it holds then, and the table
+abbrev pub NotedAll : Bytes → ℕ → List Finding → ℕ → Bytes → Type 0
+NotedAll t n fs held after = (held ≡ heldAll t n fs) × (after ≡ bytesAll t n fs)
 
 -- a finding that is noted where b is true
 abbrev pub noteWhere : Bool → Finding → List Finding

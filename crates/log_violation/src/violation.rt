@@ -6,7 +6,7 @@ ghost use lib.ListN.{length};
 ghost use Rattle.storage_bytes.specs.Words.{wordAt};
 ghost use Rattle.storage.specs.Tables.{findingRow, findingsPart};
 ghost use Rattle.table_rows.specs.Values.{findingValue};
-ghost use Rattle.log_violation.specs.Violation.{sameNumbers, isNoted, noteHeld, noteBytes, findingsKept, roomFor, notedIn};
+ghost use Rattle.log_violation.specs.Violation.{sameNumbers, isNoted, noteHeld, noteBytes, NotedAll, noteWhere, findingsKept, roomFor, notedIn};
 use storage::head::finding_count;
 use storage::head::set_finding_count;
 use storage_bytes::layout::FINDINGS_LENGTH;
@@ -52,6 +52,17 @@ pub fn note(findings: &mut [u8], n: usize, f: Found) -> usize
         put_finding(&mut findings[..], n, f);
     }
     n + 1
+}
+
+// The finding is noted among n where it is told, and nothing is noted where not; how many are held then.
+pub fn note_where(findings: &mut [u8], n: usize, told: bool, f: Found) -> usize
+    requires { ⌜ (n ≤ 129) × (length (now findings) ≡ 1024) ⌝ }
+    ensures { λ r. ⌜ NotedAll (now (findings .entry)) n (noteWhere told (findingValue f)) r (now (findings .exit)) ⌝ }
+{
+    if !told {
+        return n;
+    }
+    note(&mut findings[..], n, f)
 }
 
 // The finding is noted among the history's own; whether there is room for it. Where there is none, nothing is written.

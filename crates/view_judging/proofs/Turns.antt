@@ -20,7 +20,7 @@ use Rattle.record_walk.proofs.Walks.{next-walk, walk-entered, here, entry-conte
 use Rattle.storage.specs.Tables.{PrefixRow, prefixRow}
 use Rattle.storage.proofs.RowLaws.{bytes-take}
 use Rattle.prefix_lookup.specs.Table.{entryValue}
-use Rattle.log_violation.specs.Violation.{heldAll, bytesAll}
+use Rattle.log_violation.specs.Violation.{heldAll, bytesAll, NotedAll}
 use Rattle.prefix_lookup.specs.Prefix.{storedOf, first}
 use Rattle.prefix_lookup.specs.declared.lookup.Stored.{Stored}
 use Rattle.units.specs.declared.LogPrefixWitness.{LogPrefixWitness}
@@ -191,7 +191,7 @@ module _ (ps : Bytes) (count : ℕ) (s : Bytes) (entries node : ℕ) (t₀ : Byt
 
           pub judging-next : (k : ℕ) → k ≡ nextNumber (prefixRow ps) count (x .prefix .0) (entryValue e) → (nextNumber (prefixRow ps) count (x .prefix .0) (entryValue e) ≡ 0 → ⊥)
               → (b : Bool) → b ≡ other (prefixRow ps) count (e .index .0) (e .term .0) k
-              → (n′ : ℕ) (t′ : Bytes) → (n′ ≡ heldAll t n (noteOf b node (e .index .0) (e .term .0))) × (t′ ≡ bytesAll t n (noteOf b node (e .index .0) (e .term .0)))
+              → (n′ : ℕ) (t′ : Bytes) → NotedAll t n (noteOf b node (e .index .0) (e .term .0)) n′ t′
               → (y : Place) → y ≡ placeAt (e .next) (x .left - 1) (x .index .0 + 1) k
               → Judging ps count s entries node t₀ held t′ y n′
           judging-next k ek z b eb n′ t′ en y ey =
@@ -268,7 +268,7 @@ module _ (ps : Bytes) (count : ℕ) (s : Bytes) (r : Place) (node : ℕ) (t₀ :
 
     pub lacking-next : 0 < x .left → (e : ShownEntry) → e ≡ shownEntry s (x .at) → e .index .0 ≡ x .index .0
         → (b : Bool) → b ≡ isRemembered (prefixRow ps) count (e .index .0) (e .term .0)
-        → (n′ : ℕ) (t′ : Bytes) → (n′ ≡ heldAll t n (noteOf b node (e .index .0) (e .term .0))) × (t′ ≡ bytesAll t n (noteOf b node (e .index .0) (e .term .0)))
+        → (n′ : ℕ) (t′ : Bytes) → NotedAll t n (noteOf b node (e .index .0) (e .term .0)) n′ t′
         → (y : Place) → y ≡ placeAt (e .next) (x .left - 1) (x .index .0 + 1) (x .prefix .0)
         → Lacking ps count s r node t₀ held t′ y (missing + 1) n′
     lacking-next h e q g b eb n′ t′ en y ey =

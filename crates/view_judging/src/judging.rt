@@ -6,11 +6,11 @@ ghost use lib.ListN.{length};
 ghost use Rattle.record_scan.specs.Places.{Walk, firstEntry};
 ghost use Rattle.storage.specs.Tables.{prefixRow};
 ghost use Rattle.prefix_lookup.specs.Table.{Table};
-ghost use Rattle.log_violation.specs.Violation.{heldAll, bytesAll};
+ghost use Rattle.log_violation.specs.Violation.{NotedAll};
 ghost use Rattle.view_judging.specs.Judging.{other, isRemembered, noteOf, placeAt, Stand, ReachedAs, LackingAs, Observing, ViewJudged};
 use log_comparison::comparison::same_prefix;
 use log_violation::violation::copy_findings;
-use log_violation::violation::note;
+use log_violation::violation::note_where;
 use prefix_lookup::lookup::Stored;
 use prefix_lookup::lookup::find_extension;
 use prefix_lookup::lookup::first_of;
@@ -113,18 +113,15 @@ fn note_other(
     term: Term,
 ) -> usize
     requires { ⌜ (n ≤ 129) × (length (now findings) ≡ 1024) ⌝ }
-    ensures { λ r. ⌜ (r ≡ heldAll (now (findings .entry)) n (noteOf differs (node .0) (index .0) (term .0))) × (now (findings .exit) ≡ bytesAll (now (findings .entry)) n (noteOf differs (node .0) (index .0) (term .0))) ⌝ }
+    ensures { λ r. ⌜ NotedAll (now (findings .entry)) n (noteOf differs (node .0) (index .0) (term .0)) r (now (findings .exit)) ⌝ }
 {
-    if !differs {
-        return n;
-    }
     let lg03 = Found {
         name: LG_03,
         node,
         index,
         term,
     };
-    note(&mut findings[..], n, lg03)
+    note_where(&mut findings[..], n, differs, lg03)
 }
 
 // The walk along the front of a view of `entries` entries as far as its prefixes are stored, and its LG-03 there, noted among the
