@@ -2,7 +2,7 @@
 use bit_fields::bits::Fault;
 use units::NodeId;
 
-#[derive(Drop)]
+#[derive(Clone, Copy)]
 pub enum Answer {
     // With its value, and the node of a failing row or 0.
     Accepted { value: usize, node: NodeId },

@@ -6,7 +6,7 @@ use crate::answer::Answer;
 use bit_fields::bits::fault_number;
 
 #[repr(C)]
-#[derive(Drop)]
+#[derive(Clone, Copy)]
 pub struct Reply {
     // 1 to 12, or 0 where the record is accepted.
     pub refusal: u8,

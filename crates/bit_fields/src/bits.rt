@@ -5,7 +5,7 @@ ghost use Rattle.model.specs.Refusal as refusal;
 ghost use Rattle.bit_fields.specs.Answers.{refusal_of, number_part};
 
 // Why a record is unreadable.
-#[derive(Drop)]
+#[derive(Clone, Copy)]
 pub enum Fault {
     // The kind is none of 1 to 6.
     UnknownKind,
@@ -33,7 +33,7 @@ pub fn fault_number(f: Fault) -> u8
 }
 
 // A field: its number, or its first fault.
-#[derive(Drop)]
+#[derive(Clone, Copy)]
 pub enum Number {
     Is(u64),
     Not(Fault),

@@ -22,7 +22,7 @@ use units::{LogIndex, LogPrefixWitness};
 const RELEVANT_INDEX: usize = 4;
 
 // How far the judging has come: the sum of the flags, and how many findings are held.
-#[derive(Drop)]
+#[derive(Clone, Copy)]
 pub struct Judged {
     pub flags: usize,
     pub held: usize,

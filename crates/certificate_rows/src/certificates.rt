@@ -18,7 +18,7 @@ pub const LOG_ABSENT: usize = 0;
 // A certificate with its log.
 pub const LOG_PRESENT: usize = 1;
 
-#[derive(Drop)]
+#[derive(Clone, Copy)]
 pub struct Certificate {
     pub term: Term,
     pub log: LogPrefixWitness,

@@ -1,2 +1,4 @@
 // The rows of certificates, read, written and inserted. Stands on storage.
+#![tactic(auto)]
+
 pub mod certificates;

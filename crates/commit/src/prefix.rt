@@ -15,7 +15,7 @@ use table_rows::findings::{Found, LG_04};
 use units::{LogIndex, LogPrefixWitness, NodeId, Term};
 
 // What observing a node's commit index answers.
-#[derive(Drop)]
+#[derive(Clone, Copy)]
 pub enum CommitAnswer {
     // The sum of its flags: 1 for agreement with the committed prefix, 2 where its owner is another node.
     Accepted(usize),

@@ -14,7 +14,7 @@ use term_marks::marks::lower_marks;
 use units::{LogIndex, Term};
 
 // What recording commit terms answers.
-#[derive(Drop)]
+#[derive(Clone, Copy)]
 pub enum TermsAnswer {
     Recorded,
     // Old exceeds new: refusal 8.

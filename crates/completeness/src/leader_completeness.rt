@@ -12,7 +12,7 @@ use prefix_rows::prefixes::through;
 use storage_bytes::layout::{FINDINGS_LENGTH, prefix_table};
 use units::FINDING_LIMIT;
 
-#[derive(Drop)]
+#[derive(Clone, Copy)]
 pub enum Checked {
     // Accepted, with its value: 4 where an index was relevant, else 0.
     Accepted(usize),

@@ -12,7 +12,7 @@ use storage::head::certificate_count;
 use units::{CERTIFICATE_LIMIT, LogIndex, LogPrefixWitness, NodeId, Term};
 
 // Accepted, or why not.
-#[derive(Drop)]
+#[derive(Clone, Copy)]
 pub enum ElectionAnswer {
     // The certificate is kept.
     Accepted,

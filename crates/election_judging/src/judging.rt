@@ -10,7 +10,7 @@ use storage_bytes::layout::certificate_table;
 use units::Term;
 
 // The place of a new certificate of a term and its number within the term, or that one of the term has that number.
-#[derive(Drop)]
+#[derive(Clone, Copy)]
 pub enum Numbering {
     Next { place: usize, number: usize },
     Taken,

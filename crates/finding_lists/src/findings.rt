@@ -11,7 +11,7 @@ use storage::head::finding_count;
 use storage_bytes::layout::finding_table;
 use table_rows::findings::{Found, finding_at as row_at};
 
-#[derive(Drop)]
+#[derive(Clone, Copy)]
 pub enum FindingAnswer {
     // The finding asked for.
     Finding(Found),

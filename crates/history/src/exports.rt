@@ -50,7 +50,7 @@ pub extern "C" fn gamiwhoru_submit(history: &mut [u8], s: &[u8]) -> Reply
 }
 
 #[repr(C)]
-#[derive(Drop)]
+#[derive(Clone, Copy)]
 pub struct FindingReply {
     pub state: u8,
     // 3, 4 or 5.
@@ -100,7 +100,7 @@ pub extern "C" fn gamiwhoru_finding(history: &[u8], n: usize) -> FindingReply
 }
 
 #[repr(C)]
-#[derive(Drop)]
+#[derive(Clone, Copy)]
 pub struct LeaderReply {
     pub state: u8,
     pub term: u32,
@@ -140,7 +140,7 @@ pub extern "C" fn gamiwhoru_leader(history: &[u8], n: usize) -> LeaderReply
 }
 
 #[repr(C)]
-#[derive(Drop)]
+#[derive(Clone, Copy)]
 pub struct UnseenReply {
     pub state: u8,
     pub node: u8,
@@ -180,7 +180,7 @@ pub extern "C" fn gamiwhoru_unseen(history: &[u8], n: usize) -> UnseenReply
 }
 
 #[repr(C)]
-#[derive(Drop)]
+#[derive(Clone, Copy)]
 pub struct UnknownReply {
     pub state: u8,
     pub index: usize,
@@ -216,7 +216,7 @@ pub extern "C" fn gamiwhoru_unknown(history: &[u8], n: usize) -> UnknownReply
 }
 
 #[repr(C)]
-#[derive(Drop)]
+#[derive(Clone, Copy)]
 pub struct CommittedReply {
     pub state: u8,
     pub length: usize,

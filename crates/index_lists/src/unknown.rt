@@ -9,7 +9,7 @@ use storage_bytes::layout::term_table;
 use table_rows::terms::term_at;
 use units::LogIndex;
 
-#[derive(Drop)]
+#[derive(Clone, Copy)]
 pub enum UnknownAnswer {
     // The index asked for.
     Index(LogIndex),

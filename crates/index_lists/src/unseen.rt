@@ -7,7 +7,7 @@ use storage_bytes::layout::node_table;
 use table_rows::nodes::node_at;
 use units::{LogIndex, NodeId};
 
-#[derive(Drop)]
+#[derive(Clone, Copy)]
 pub enum UnseenAnswer {
     // The mark asked for.
     Mark { node: NodeId, index: LogIndex },

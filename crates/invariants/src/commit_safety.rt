@@ -9,7 +9,7 @@ use record_walk::walk::{Configuration, FIRST_ROW, Row, row_at};
 use units::NodeId;
 
 // What the rows show.
-#[derive(Drop)]
+#[derive(Clone, Copy)]
 pub enum Verdict {
     // No row fails a rule.
     Holds,

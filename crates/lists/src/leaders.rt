@@ -11,7 +11,7 @@ use storage_bytes::layout::finding_table;
 use table_rows::findings::{Found, LG_05, finding_at as row_at};
 use units::{NodeId, Term};
 
-#[derive(Drop)]
+#[derive(Clone, Copy)]
 pub enum LeaderAnswer {
     // The leader asked for.
     Leader { term: Term, leader: NodeId },

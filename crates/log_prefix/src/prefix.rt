@@ -10,7 +10,7 @@ use storage_bytes::layout::prefix_table;
 use units::LogPrefixWitness;
 
 // An extension, and how many prefixes are stored with it.
-#[derive(Drop)]
+#[derive(Clone, Copy)]
 pub struct Extended {
     pub prefix: LogPrefixWitness,
     pub count: usize,
@@ -30,7 +30,7 @@ fn make(history: &mut [u8], count: usize, p: LogPrefixWitness, e: ShownEntry) ->
 }
 
 // A prefix that was extended, or that the entry's index is not the next one.
-#[derive(Drop)]
+#[derive(Clone, Copy)]
 pub enum Extension {
     Prefix(Extended),
     NotNext,

@@ -1,2 +1,4 @@
 // Findings noted once (types/violation.rs). Stands on table_rows.
+#![tactic(auto)]
+
 pub mod violation;

@@ -10,7 +10,7 @@ use view_judging::judging::judge_view;
 use view_writing::writing::write_view;
 
 // What becomes of a view.
-#[derive(Drop)]
+#[derive(Clone, Copy)]
 pub enum Observed {
     Accepted,
     // The stored prefixes would exceed their limit.

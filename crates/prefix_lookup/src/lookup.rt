@@ -13,14 +13,14 @@ use table_rows::nodes::node_at;
 use units::{LogIndex, LogPrefixWitness, NodeId, Term};
 
 // What a search among the stored prefixes gives.
-#[derive(Drop)]
+#[derive(Clone, Copy)]
 pub enum Stored {
     Prefix(LogPrefixWitness),
     Nothing,
 }
 
 // A prefix through an index, or that the index is beyond its end.
-#[derive(Drop)]
+#[derive(Clone, Copy)]
 pub enum Slice {
     Prefix(LogPrefixWitness),
     Beyond,

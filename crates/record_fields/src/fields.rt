@@ -8,7 +8,7 @@ ghost use Rattle.record_fields.specs.Limits.{flag_part, at_most};
 use bit_fields::bits::{Fault, Number, field};
 
 // A yes/no, or its first fault.
-#[derive(Drop)]
+#[derive(Clone, Copy)]
 pub enum Flag {
     Says(bool),
     Not(Fault),

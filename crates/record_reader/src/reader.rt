@@ -7,21 +7,21 @@ ghost use Rattle.bit_fields.specs.Answers.{number_part};
 use bit_fields::bits::{Number, field};
 
 // A record, and the next bit to read.
-#[derive(Drop)]
+#[derive(Clone, Copy)]
 pub struct RecordReader<'a> {
     pub bytes: &'a [u8],
     pub next: usize,
 }
 
 // A field, and the reader handed on after it.
-#[derive(Drop)]
+#[derive(Clone, Copy)]
 pub struct Taken<'a> {
     pub number: Number,
     pub rest: RecordReader<'a>,
 }
 
 // Two fields, the second right after the first.
-#[derive(Drop)]
+#[derive(Clone, Copy)]
 pub struct Pair {
     pub first: Number,
     pub second: Number,

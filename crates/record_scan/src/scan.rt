@@ -9,21 +9,21 @@ use bit_fields::bits::{Fault, Number, holds};
 use record_fields::fields::{Flag, entry_index, governed, index, limited, row_node, yes_no};
 
 // An item of a list: its key and the bit after it, or its first fault.
-#[derive(Drop)]
+#[derive(Clone, Copy)]
 pub enum Item {
     On { key: u64, next: usize },
     Not(Fault),
 }
 
 // A list of items: the bit after the last, or the first fault.
-#[derive(Drop)]
+#[derive(Clone, Copy)]
 pub enum End {
     At(usize),
     Not(Fault),
 }
 
 // A part of an item: that it is whole, or its first fault.
-#[derive(Drop)]
+#[derive(Clone, Copy)]
 pub enum Done {
     Whole,
     Not(Fault),

@@ -17,7 +17,7 @@ pub const FIRST_ROW: usize = 14;
 
 // An entry of a view, with the index it was shown under. Of the content's 32 bytes the first `length` count; the others
 // are zero.
-#[derive(Drop)]
+#[derive(Clone, Copy)]
 pub struct ShownEntry {
     pub index: LogIndex,
     pub term: Term,
@@ -27,7 +27,7 @@ pub struct ShownEntry {
 }
 
 // A row's configuration; where it is absent, its index and identity are zero.
-#[derive(Drop)]
+#[derive(Clone, Copy)]
 pub struct Configuration {
     pub present: bool,
     pub index: LogIndex,
@@ -35,7 +35,7 @@ pub struct Configuration {
 }
 
 // A row, with the bit after it.
-#[derive(Drop)]
+#[derive(Clone, Copy)]
 pub struct Row {
     pub node: NodeId,
     pub floor: LogIndex,

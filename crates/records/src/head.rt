@@ -10,7 +10,7 @@ use record_scan::scan::{End, scan_entries, scan_rows};
 use units::{LogIndex, NodeId, Term};
 
 // What a record says. A view's entries and the rows are walked where they are wanted (`record_walk`).
-#[derive(Drop)]
+#[derive(Clone, Copy)]
 pub enum Head {
     // The view of a node, with how many entries.
     View {

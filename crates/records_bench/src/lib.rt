@@ -1,4 +1,6 @@
 // What bench/ times: a view's record is read, and its entries are walked, with every content byte used.
+#![tactic(auto)]
+
 ghost use Rattle.std.specs.Prelude.{◌≡◌, ◌≤◌, length, take};
 ghost use Rattle.model.specs.Reading as reading;
 ghost use Rattle.record_scan.specs.Places as places;

@@ -1,5 +1,7 @@
 // Reads cases from standard input, a line each: a name, a space and a record in hexadecimal. Writes for each its name and
 // `ok`, or the number of its first fault. tests/record_limits.py wrote the cases and what is to come out.
+#![tactic(auto)]
+
 ghost use Rattle.std.specs.Prelude.{◌≤◌, length};
 ghost use Rattle.io.specs.Counts.{IsPrefixLen};
 

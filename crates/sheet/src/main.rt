@@ -1,6 +1,8 @@
 // The sheet of a recording: records from standard input, each behind a 16-bit byte length, high byte first; then the lists of
 // the history. What it prints is put together by `sheet_text` and `sheet_lists`, whose functions are proved to give it; the
 // functions here, which read and write, are proved to be safe and to end.
+#![tactic(auto)]
+
 ghost use Rattle.std.specs.Prelude.{◌≡◌, ◌≤◌, length};
 
 use libc::STDOUT_FILENO;
@@ -19,7 +21,7 @@ const INPUT: usize = 131072;
 const OUTPUT: usize = 65536;
 
 // How far the sheet is: the number of the next record, and where it begins in the block.
-#[derive(Drop)]
+#[derive(Clone, Copy)]
 struct Place {
     number: u64,
     from: usize,

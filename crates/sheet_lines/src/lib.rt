@@ -1,2 +1,4 @@
 // The lines of a sheet, put into lent bytes. Stands on sheet_numbers and answers.
+#![tactic(auto)]
+
 pub mod lines;

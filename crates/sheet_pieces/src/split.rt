@@ -5,7 +5,7 @@ ghost use Rattle.sheet_pieces.specs.Pieces.{Split, Moved};
 use storage_bytes::words::get16;
 
 // What the bytes from a place on begin with.
-#[derive(Drop)]
+#[derive(Clone, Copy)]
 pub enum Piece {
     // A record, perhaps of no bytes: where it begins, and its length.
     Whole { body: usize, size: usize },

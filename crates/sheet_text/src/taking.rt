@@ -13,7 +13,7 @@ use submission::submit::submit;
 pub const SOME: usize = 600;
 
 // How far the records are taken: how many, the number of the next, where it begins in the block, and where the lines end.
-#[derive(Drop)]
+#[derive(Clone, Copy)]
 pub struct Progress {
     pub count: usize,
     pub number: u64,

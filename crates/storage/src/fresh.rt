@@ -4,7 +4,7 @@ ghost use Rattle.storage.specs.Fresh.{zeros, FreshMade};
 
 use storage_bytes::layout::HISTORY_LENGTH;
 
-#[derive(Drop)]
+#[derive(Clone, Copy)]
 pub enum Made {
     // The buffer holds a fresh history.
     Fresh,

@@ -1,4 +1,6 @@
 // The history in lent bytes: which bytes stand for which history, its head, and the fresh history. The storage rules are defined
 // here (specs/Rules.antt) and tested by `rules`. docs/LAYOUT.md has the layout. Stands on storage_bytes.
+#![tactic(auto)]
+
 pub mod fresh;
 pub mod head;

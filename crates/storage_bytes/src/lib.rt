@@ -1,3 +1,5 @@
 // The lent bytes of a history: numbers in them, runs of them, and its regions (docs/LAYOUT.md). Stands on the model.
+#![tactic(auto)]
+
 pub mod layout;
 pub mod words;

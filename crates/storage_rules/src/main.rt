@@ -1,6 +1,8 @@
 // The storage rules shown at work: a history that holds something is accepted whole, and each rule, broken by one byte, is
 // answered 12 by the library. Bytes that stand for nothing may be anything. The cases come from standard input, which says its
 // own form.
+#![tactic(auto)]
+
 ghost use Rattle.std.specs.Prelude.{◌+◌, ◌≤◌, length};
 
 use history::exports::gamiwhoru_committed;
@@ -9,7 +11,7 @@ use libc::STDOUT_FILENO;
 const LENGTH: usize = 24137;
 
 // A piece of a line: the number that its digits make, and where it ends.
-#[derive(Drop)]
+#[derive(Clone, Copy)]
 struct Piece {
     number: usize,
     end: usize,

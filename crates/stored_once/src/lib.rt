@@ -1,2 +1,4 @@
 // No prefix is stored twice. Stands on prefix_rows.
+#![tactic(auto)]
+
 pub mod once;

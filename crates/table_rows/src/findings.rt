@@ -18,7 +18,7 @@ pub const LG_04: usize = 4;
 // A leader was elected without a committed entry.
 pub const LG_05: usize = 5;
 
-#[derive(Drop)]
+#[derive(Clone, Copy)]
 pub struct Found {
     pub name: usize,
     pub node: NodeId,

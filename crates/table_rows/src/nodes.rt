@@ -9,7 +9,7 @@ use storage_bytes::layout::{NODE_WIDTH, NODES_LENGTH, NODES_START};
 use storage_bytes::words::{get16, put16};
 use units::{LogIndex, LogPrefixWitness};
 
-#[derive(Drop)]
+#[derive(Clone, Copy)]
 pub struct Node {
     pub front: LogPrefixWitness,
     pub last: LogIndex,

@@ -8,7 +8,7 @@ use storage_bytes::words::{get32, put32};
 use units::{LogIndex, Term};
 
 // What a search among the commit terms gives.
-#[derive(Drop)]
+#[derive(Clone, Copy)]
 pub enum FoundIndex {
     At(LogIndex),
     Nothing,

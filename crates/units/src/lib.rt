@@ -1,5 +1,7 @@
 // The units of the log history: node, index and term, each a tuple struct over one number, as in the Rust, and the prefix, told by
 // its number. No unit converts into another. The limits are those of document 01, "Sizes of things".
+#![tactic(auto)]
+
 ghost use Rattle.std.specs.Prelude.{◌≡◌, min};
 ghost use Rattle.units.specs.Units.{node_of, index_of};
 
@@ -22,30 +24,30 @@ pub const CERTIFICATE_LIMIT: usize = 64;
 pub const FINDING_LIMIT: usize = 128;
 
 // A server of the cluster, 0 to 63.
-#[derive(Drop)]
+#[derive(Clone, Copy)]
 pub struct NodeId(pub u8);
 
 // A place in a log, 1 to 256; zero stands before the first entry.
-#[derive(Drop)]
+#[derive(Clone, Copy)]
 pub struct LogIndex(pub usize);
 
 // A term of the election clock. Every number of 32 bits is one.
-#[derive(Drop)]
+#[derive(Clone, Copy)]
 pub struct Term(pub u32);
 
 // A prefix of a log, by the number under which it is stored, 1 to 512 (the Rust's witness, a chain of shared nodes).
-#[derive(Drop)]
+#[derive(Clone, Copy)]
 pub struct LogPrefixWitness(pub usize);
 
 // A node, or that the number is above 63.
-#[derive(Drop)]
+#[derive(Clone, Copy)]
 pub enum NodeAnswer {
     Node(NodeId),
     OutOfLimit,
 }
 
 // An index, or that the number is above 256.
-#[derive(Drop)]
+#[derive(Clone, Copy)]
 pub enum IndexAnswer {
     Index(LogIndex),
     OutOfLimit,

@@ -18,7 +18,7 @@ use units::{LogIndex, LogPrefixWitness, NodeId, Term};
 
 // A place along a front: the bit where its next entry begins, how many entries are left, the index that is next, and the
 // last prefix before it that is stored.
-#[derive(Drop)]
+#[derive(Clone, Copy)]
 pub struct Place {
     pub at: usize,
     pub left: usize,
@@ -27,14 +27,14 @@ pub struct Place {
 }
 
 // How far the prefixes of a front are stored, and how many findings are held then.
-#[derive(Drop)]
+#[derive(Clone, Copy)]
 struct Reached {
     held: usize,
     rest: Place,
 }
 
 // How many prefixes are not stored, and how many findings are held then.
-#[derive(Drop)]
+#[derive(Clone, Copy)]
 struct Lacking {
     missing: usize,
     held: usize,
@@ -42,7 +42,7 @@ struct Lacking {
 
 // What judging gives: how many prefixes of the front are not stored, how many findings are held, and the place before the
 // first prefix that is not stored.
-#[derive(Drop)]
+#[derive(Clone, Copy)]
 pub struct JudgedView {
     pub missing: usize,
     pub held: usize,

@@ -1,0 +1,85 @@
+-- `commit::prefix::insert_committed_prefix` meets its contract.
+-- Assumes nothing.
+use Rattle.committed_prefix.proofs.PrefixTurns.{unseen_length}
+use Rattle.commit.specs.Prefix.{longer_in, end_in}
+use Rattle.commit.proofs.Ends.{longer_is, end_is}
+use Rattle.commit.proofs.PrefixTurns.{insert_leaves_length, insert_differs, insert_longer, insert_shorter}
+use Rattle.commit.proofs.Difference.{note_leaves_length}
+use Rattle.storage.proofs.WellFormed.{formed}
+use lib.Dec.{ltb}
+use lib.ListN.{length}
+use borrow.Author.Tests.{not-true, not-false, lt-ltb, le-ltb}
+use native.Mathlib.Omega.{arith}
+use mathlib.Core.Path.{◌≡◌, ap, sym, ◌∙◌}
+use Rattle.commit.proofs.prefix.insert_committed_prefix.Goals as goal
+
+-- the end that is compared through, and which of the two is longer
+is-end : (c : goal.After-agree_through) → let s = c.args in c.earlier-end.result.0 ≡ end_in s.history.now s.committed.0 s.seen.0
+is-end c =
+    let s = c.args in
+    c.earlier-end.ensures
+    ∙ end_is s.history.now s.committed.0 s.seen.0 _ c.prefix_table-prefixes.ensures.is _ c.through-committed_end.ensures.is _ c.through-seen_end.ensures.is
+
+is-longer : (c : goal.After-agree_through) → let s = c.args in ltb c.through-committed_end.result.0 c.through-seen_end.result.0 ≡ longer_in s.history.now s.committed.0 s.seen.0
+is-longer c =
+    let s = c.args in
+    longer_is s.history.now s.committed.0 s.seen.0 _ c.prefix_table-prefixes.ensures.is _ c.through-committed_end.ensures.is _ c.through-seen_end.ensures.is
+
+pub prefix_table-prefixes-requires : goal.prefix_table-prefixes-requires
+prefix_table-prefixes-requires c = (formed _ c.requires.0).long
+
+pub through-committed_end-requires : goal.through-committed_end-requires
+through-committed_end-requires c =
+    let m = (formed _ c.requires.0).prefixes in
+    let k = c.requires.2 in
+    (omega arith, c.prefix_table-prefixes.ensures.long)
+
+pub through-seen_end-requires : goal.through-seen_end-requires
+through-seen_end-requires c =
+    let m = (formed _ c.requires.0).prefixes in
+    let k = c.requires.3 in
+    (omega arith, c.prefix_table-prefixes.ensures.long)
+
+pub agree_through-requires : goal.agree_through-requires
+agree_through-requires c = let s = c in (s.requires.0, omega arith, omega arith)
+
+pub note_difference-requires : goal.note_difference-requires
+note_difference-requires c = let s = c in (s.requires.0, s.requires.1)
+
+pub shape_of-history-then-not-agree_through : goal.shape_of-history-then-not-agree_through
+shape_of-history-then-not-agree_through c = ap length c.note_difference.ensures.leaves ∙ note_leaves_length _ _ _
+
+pub returns-then-not-agree_through : goal.returns-then-not-agree_through
+returns-then-not-agree_through c =
+    let s = c.args in
+    insert_differs s.history.now s.node.0 s.committed.0 s.seen.0 _ (is-end c) _ c.agree_through.ensures (not-true _ c.if-not-agree_through.true) _ _ c.note_difference.ensures
+
+pub owner-former-requires : goal.owner-former-requires
+owner-former-requires c = let l = (formed _ c.requires.0).long in omega arith
+
+pub set_unseen-requires : goal.set_unseen-requires
+set_unseen-requires c = let s = c in (s.requires.1, (formed _ s.requires.0).long)
+
+pub set_committed-requires : goal.set_committed-requires
+set_committed-requires c =
+    let e = ap length c.set_unseen.ensures ∙ unseen_length _ _ _ in
+    let l = (formed _ c.requires.0).long in
+    omega arith
+
+pub returns-then-committed_end-seen_end : goal.returns-then-committed_end-seen_end
+returns-then-committed_end-seen_end c =
+    let s = c.args in
+    insert_longer s.history.now s.node.0 s.committed.0 s.seen.0 _ (is-end c) _ c.agree_through.ensures (not-false _ c.if-not-agree_through.false) _ _ c.owner-former.ensures.is c.flags-sum.ensures _ c.set_unseen.ensures
+    (sym (is-longer c) ∙ lt-ltb _ _ c.if-committed_end-seen_end.true) _ c.set_committed.ensures
+
+pub shape_of-history-then-committed_end-seen_end : goal.shape_of-history-then-committed_end-seen_end
+shape_of-history-then-committed_end-seen_end c = ap length (returns-2 c).leaves ∙ insert_leaves_length _ _ _ _
+
+pub returns-else-committed_end-seen_end : goal.returns-else-committed_end-seen_end
+returns-else-committed_end-seen_end c =
+    let s = c.args in
+    insert_shorter s.history.now s.node.0 s.committed.0 s.seen.0 _ (is-end c) _ c.agree_through.ensures (not-false _ c.if-not-agree_through.false) _ _ c.owner-former.ensures.is c.flags-sum.ensures _ c.set_unseen.ensures
+    (sym (is-longer c) ∙ le-ltb _ _ c.if-committed_end-seen_end.false)
+
+pub shape_of-history-else-committed_end-seen_end : goal.shape_of-history-else-committed_end-seen_end
+shape_of-history-else-committed_end-seen_end c = ap length (returns-3 c).leaves ∙ insert_leaves_length _ _ _ _

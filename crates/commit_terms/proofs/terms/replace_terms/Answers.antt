@@ -1,0 +1,33 @@
+-- `commit_terms::terms::replace_terms` meets its contract. The invariant: replacing the places that are left gives the rest.
+-- Assumes nothing.
+use Rattle.commit_terms.proofs.TermTurns.{replacing_starts, replacing_next, replacing_ends}
+use mathlib.Core.Path.{sym, ◌∙◌}
+use native.Mathlib.Omega.{arith}
+use borrow.Author.Count.{falls}
+use Rattle.commit_terms.proofs.terms.replace_terms.Goals as goal
+
+pub loop-k-init : goal.loop-k-init
+loop-k-init c =
+    replacing_starts c.args.history.now c.args.first.0 c.args.new.0 c.args.term.0 c.requires.2
+
+pub replace_term-requires : goal.replace_term-requires
+replace_term-requires c =
+    let t = c.loop-k-test.true in
+    (omega arith, omega (arith, c.requires.1), c.loop-k.invariant.long)
+
+pub loop-k-smaller : goal.loop-k-smaller
+loop-k-smaller c = falls _ _ c.loop-k-test.true
+
+pub loop-k-preserved : goal.loop-k-preserved
+loop-k-preserved c =
+    let l = c.loop-k in
+    let s = c.args in
+    replacing_next s.history.now s.first.0 s.new.0 s.term.0 l.history l.k l.invariant c.loop-k-test.true _ c.replace_term.ensures
+
+pub shape_of-history : goal.shape_of-history
+shape_of-history c = c.loop-k.invariant.long ∙ sym c.requires.2
+
+pub returns : goal.returns
+returns c =
+    let l = c.loop-k in
+    replacing_ends c.args.history.now c.args.first.0 c.args.new.0 c.args.term.0 l.history l.k l.invariant c.requires.0 c.loop-k-test.false

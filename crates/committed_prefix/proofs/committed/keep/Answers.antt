@@ -1,0 +1,25 @@
+-- `committed_prefix::committed::keep` meets its contract.
+-- Assumes nothing.
+use Rattle.committed_prefix.proofs.PrefixTurns.{unseen_length, keep_length}
+use lib.ListN.{length}
+use Rattle.model.specs.Sizes.{Bytes}
+use Rattle.storage.specs.Writes.{committed_set}
+use Rattle.committed_prefix.specs.Prefix.{keep_bytes}
+use native.Mathlib.Omega.{arith}
+use mathlib.Core.Path.{ap, ◌∙◌}
+use Rattle.committed_prefix.proofs.committed.keep.Goals as goal
+
+pub set_committed-requires : goal.set_committed-requires
+set_committed-requires c =
+    let e = ap length c.set_unseen.ensures ∙ unseen_length _ _ _ in
+    let l = c.requires.1 in
+    omega arith
+
+pub returns : goal.returns
+unfolding keep_bytes
+returns c =
+    let s = c.args in
+    c.set_committed.ensures ∙ ap (λ (u : Bytes). committed_set u s.p.0 s.node.0) c.set_unseen.ensures
+
+pub shape_of-history : goal.shape_of-history
+shape_of-history c = ap length (returns c) ∙ keep_length _ _ _

@@ -1,0 +1,7 @@
+-- `history::exports::gamiwhoru_submit` meets its contract.
+-- Assumes nothing.
+use Rattle.history.proofs.Handed.{handed}
+use Rattle.history.proofs.exports.gamiwhoru_submit.Goals as goal
+
+pub returns : goal.returns
+returns c = handed _ _ _ _ c.submit-a.ensures _ c.reply_of.ensures

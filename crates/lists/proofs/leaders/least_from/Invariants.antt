@@ -1,0 +1,15 @@
+-- `lists::leaders::least_from` meets its contract. The invariant: the best so far is the least of the rows passed, the last ones.
+-- Assumes nothing.
+use Prim.Native.Nat.{◌-◌, ◌≤◌}
+use mathlib.Core.Path.{◌≡◌}
+use Rattle.storage_bytes.specs.Lists.{tabulate}
+use Rattle.storage.specs.Tables.{finding_row}
+use Rattle.lists.specs.Leaders.{pair, least_in}
+use Rattle.lists.proofs.leaders.least_from.Given as goal
+
+abbrev pub invariant-loop-k : goal.invariant-loop-k
+invariant-loop-k l =
+    (l.k ≤ l.m) × (l.best ≡ least_in (pair l.t.0 l.l) (tabulate (finding_row l.findings) l.k (l.m - l.k)))
+
+abbrev pub decreases-loop-k : goal.decreases-loop-k
+decreases-loop-k l = l.k

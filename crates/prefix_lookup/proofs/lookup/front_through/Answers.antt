@@ -1,0 +1,37 @@
+-- `prefix_lookup::lookup::front_through` meets its contract.
+-- Assumes nothing.
+use Rattle.prefix_lookup.proofs.FrontLaws.{front_within, through_is}
+use Rattle.storage.proofs.WellFormed.{formed}
+use Rattle.prefix_lookup.proofs.TableLaws.{table_lent}
+use Rattle.table_rows.specs.Values.{node_value}
+use Rattle.storage_bytes.specs.Words.{word_at}
+use native.Mathlib.Omega.{arith}
+use mathlib.Core.Path.{refl}
+use Rattle.prefix_lookup.proofs.lookup.front_through.Goals as goal
+
+pub node_table-requires : goal.node_table-requires
+node_table-requires c =
+    let l = (formed _ c.requires.0).long in
+    omega arith
+
+pub prefix_table-requires : goal.prefix_table-requires
+prefix_table-requires c =
+    let l = (formed _ c.requires.0).long in
+    omega arith
+
+pub slice_through-requires : goal.slice_through-requires
+slice_through-requires c =
+    let h = c.args.history.now in
+    let f = formed h c.requires.0 in
+    let x = c.Node-at in (
+      word_at h 0 2,
+      table_lent h _ _ f c.prefix_table.ensures.is refl,
+      front_within h c.args.node.0 _ c.node_table.ensures.is (node_value x.result) x.ensures f c.requires.1,
+    )
+
+pub returns : goal.returns
+returns c =
+    let s = c.args in
+    let x = c.Node-at in
+    through_is s.history.now s.node.0 _ c.node_table.ensures.is (node_value x.result) x.ensures _ c.prefix_table.ensures.is s.index.0 _
+    c.slice_through.ensures

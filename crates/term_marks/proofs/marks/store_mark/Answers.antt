@@ -1,0 +1,17 @@
+-- `term_marks::marks::store_mark` meets its contract: a write in the lent table is that write in the whole.
+-- Assumes nothing.
+use Prim.Native.Nat.{◌+◌, ◌*◌}
+use native.Mathlib.Omega.{arith}
+use Rattle.storage_bytes.specs.Words.{word_bytes}
+use Rattle.storage_bytes.proofs.WordLaws.{word_bytes_length}
+use Rattle.storage.proofs.WriteLaws.{part_written}
+use Rattle.term_marks.specs.Marks.{mark_set}
+use Rattle.term_marks.proofs.marks.store_mark.Goals as goal
+
+pub returns : goal.returns
+unfolding mark_set
+returns c =
+    let p = c.put_mark in
+    let s = c.args in
+    let f = c.requires in
+    part_written s.history.now p.new.0 1417 704 (s.k * 11 + 6) (word_bytes 2 s.mark.0) p.ensures (omega arith) (omega (arith, word_bytes_length 2 s.mark.0))
