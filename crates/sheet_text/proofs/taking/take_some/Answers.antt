@@ -1,5 +1,6 @@
 -- `sheet_text::taking::take_some` meets its contract.
 -- Assumes nothing.
+use borrow.Enum.Refused.{opened}
 use mathlib.Core.Path.{refl, ap, ◌∙◌}
 use mathlib.Core.Logic.{⊎_elim}
 use native.Mathlib.Omega.{arith}
@@ -19,7 +20,7 @@ piece_at-requires c = c.loop-count.invariant.0.within
 pub returns-in_default : goal.returns-in_default
 returns-in_default c = taking_ends _ _ _ _ _ _ _ _ _ _ _ c.loop-count.invariant.0 c.loop-count.invariant.1 (λ l body size e.
     let tag = ap (tag_of the_type) (c.piece_at.ensures.answer ∙ e) in
-    ⊎_elim (λ one. omega arith) (λ two. omega arith) c.in-Whole.keys2)
+    ⊎_elim (λ one. omega arith) (λ two. omega arith) (opened c.in_default.in_default-own.keys2))
 
 pub part-s-requires : goal.part-s-requires
 part-s-requires c = (whole_within _ _ _ _ _ c.piece_at.ensures c.in-Whole.is).ends
@@ -42,7 +43,7 @@ loop-count-preserved c = (
       c.part-s.ensures.is
       c.hand_over-at.ensures,
   omega arith,
-  c.hand_over-at.auto.0 ∙ c.loop-count.invariant.2,
+  c.hand_over-at.auto.history ∙ c.loop-count.invariant.2,
 )
 
 pub returns : goal.returns
