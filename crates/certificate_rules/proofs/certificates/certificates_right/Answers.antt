@@ -2,7 +2,6 @@
 -- Assumes nothing.
 use Rattle.storage.specs.Rules.{certificate_right}
 use Rattle.storage.specs.Tables.{certificate_row}
-use borrow.Author.Tests.{not-true, not-false}
 use borrow.Author.Count.{falls}
 use Rattle.storage_bytes.proofs.ListLaws.{every_next, every_stop, every_none, from_zero}
 use Rattle.storage_bytes.specs.Lists.{every}
@@ -20,7 +19,7 @@ returns-then-not-certificate_right c =
     let s = c.args in
     sym
     (every_stop (certificate_right s.n) (certificate_row s.certificates.now) c.loop-k.k s.m c.loop-k.invariant.1 c.loop-k-test.true
-    (ap (certificate_right s.n) (sym c.certificate_at-c.ensures) ∙ sym c.certificate_right.ensures ∙ not-true _ c.if-not-certificate_right.true))
+    (ap (certificate_right s.n) (sym c.certificate_at-c.ensures) ∙ sym c.certificate_right.ensures ∙ c.if-not-certificate_right.true))
 
 pub loop-k-smaller : goal.loop-k-smaller
 loop-k-smaller c = falls _ _ c.loop-k-test.true
@@ -30,7 +29,7 @@ loop-k-preserved c =
     let s = c.args in (
       omega arith,
       every_next (certificate_right s.n) (certificate_row s.certificates.now) c.loop-k.k s.m c.loop-k.invariant.1 c.loop-k-test.true
-          (ap (certificate_right s.n) (sym c.certificate_at-c.ensures) ∙ sym c.certificate_right.ensures ∙ not-false _ c.if-not-certificate_right.false),
+          (ap (certificate_right s.n) (sym c.certificate_at-c.ensures) ∙ sym c.certificate_right.ensures ∙ c.if-not-certificate_right.false),
     )
 
 pub returns : goal.returns

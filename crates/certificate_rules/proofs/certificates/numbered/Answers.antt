@@ -3,7 +3,6 @@
 use Rattle.certificate_rules.proofs.Turns.{numbered_start, numbered_first, numbered_no_rows, numbered_next, numbered_stop, numbered_none}
 use Rattle.certificate_rows.specs.Values.{certificate_value}
 use Rattle.storage.specs.Tables.{certificate_row}
-use borrow.Author.Tests.{not-true, not-false}
 use borrow.Author.Count.{falls}
 use Prim.Native.Nat.{◌<◌}
 use mathlib.Core.Path.{sym, ◌∙◌}
@@ -34,7 +33,7 @@ returns-then-not-follows c =
     let s = c.args in
     sym
     (numbered_stop (certificate_row s.certificates.now) s.m (certificate_value c.loop-k.c) (certificate_value c.certificate_at-d.result) c.loop-k.k c.loop-k.invariant.1 c.certificate_at-d.ensures c.loop-k-test.true
-    (sym c.follows.ensures ∙ not-true _ c.if-not-follows.true))
+    (sym c.follows.ensures ∙ c.if-not-follows.true))
 
 pub loop-k-smaller : goal.loop-k-smaller
 loop-k-smaller c = falls _ _ c.loop-k-test.true
@@ -44,7 +43,7 @@ loop-k-preserved c =
     let s = c.args in (
       omega arith,
       numbered_next (certificate_row s.certificates.now) s.m (certificate_value c.loop-k.c) (certificate_value c.certificate_at-d.result) c.loop-k.k c.loop-k.invariant.1 c.certificate_at-d.ensures c.loop-k-test.true
-          (sym c.follows.ensures ∙ not-false _ c.if-not-follows.false),
+          (sym c.follows.ensures ∙ c.if-not-follows.false),
     )
 
 pub returns : goal.returns

@@ -2,7 +2,6 @@
 -- Assumes nothing.
 use Rattle.check_marks.proofs.MarkLaws.{moving_starts, moving_next, moving_ends}
 use borrow.Author.Count.{falls}
-use mathlib.Core.Path.{sym, ◌∙◌}
 use native.Mathlib.Omega.{arith}
 use Rattle.check_marks.proofs.marks.move_marks.Goals as goal
 
@@ -24,9 +23,6 @@ pub loop-k-preserved : goal.loop-k-preserved
 loop-k-preserved c =
     let s = c.args in
     moving_next s.history.now s.end.0 _ c.loop-k.history c.loop-k.k c.loop-k.invariant c.loop-k-test.true _ c.move_mark.ensures
-
-pub shape_of-history : goal.shape_of-history
-shape_of-history c = c.loop-k.invariant.long ∙ sym c.requires.1
 
 pub returns : goal.returns
 returns c =

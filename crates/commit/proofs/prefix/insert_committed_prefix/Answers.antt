@@ -3,12 +3,11 @@
 use Rattle.committed_prefix.proofs.PrefixTurns.{unseen_length}
 use Rattle.commit.specs.Prefix.{longer_in, end_in}
 use Rattle.commit.proofs.Ends.{longer_is, end_is}
-use Rattle.commit.proofs.PrefixTurns.{insert_leaves_length, insert_differs, insert_longer, insert_shorter}
-use Rattle.commit.proofs.Difference.{note_leaves_length}
+use Rattle.commit.proofs.PrefixTurns.{insert_differs, insert_longer, insert_shorter}
 use Rattle.storage.proofs.WellFormed.{formed}
 use lib.Dec.{ltb}
 use lib.ListN.{length}
-use borrow.Author.Tests.{not-true, not-false, lt-ltb, le-ltb}
+use borrow.Author.Tests.{lt-ltb, le-ltb}
 use native.Mathlib.Omega.{arith}
 use mathlib.Core.Path.{◌≡◌, ap, sym, ◌∙◌}
 use Rattle.commit.proofs.prefix.insert_committed_prefix.Goals as goal
@@ -46,13 +45,10 @@ agree_through-requires c = let s = c in (s.requires.0, omega arith, omega arith)
 pub note_difference-requires : goal.note_difference-requires
 note_difference-requires c = let s = c in (s.requires.0, s.requires.1)
 
-pub shape_of-history-then-not-agree_through : goal.shape_of-history-then-not-agree_through
-shape_of-history-then-not-agree_through c = ap length c.note_difference.ensures.leaves ∙ note_leaves_length _ _ _
-
 pub returns-then-not-agree_through : goal.returns-then-not-agree_through
 returns-then-not-agree_through c =
     let s = c.args in
-    insert_differs s.history.now s.node.0 s.committed.0 s.seen.0 _ (is-end c) _ c.agree_through.ensures (not-true _ c.if-not-agree_through.true) _ _ c.note_difference.ensures
+    insert_differs s.history.now s.node.0 s.committed.0 s.seen.0 _ (is-end c) _ c.agree_through.ensures (c.if-not-agree_through.true) _ _ c.note_difference.ensures
 
 pub owner-former-requires : goal.owner-former-requires
 owner-former-requires c = let l = (formed _ c.requires.0).long in omega arith
@@ -69,17 +65,11 @@ set_committed-requires c =
 pub returns-then-committed_end-seen_end : goal.returns-then-committed_end-seen_end
 returns-then-committed_end-seen_end c =
     let s = c.args in
-    insert_longer s.history.now s.node.0 s.committed.0 s.seen.0 _ (is-end c) _ c.agree_through.ensures (not-false _ c.if-not-agree_through.false) _ _ c.owner-former.ensures.is c.flags-sum.ensures _ c.set_unseen.ensures
+    insert_longer s.history.now s.node.0 s.committed.0 s.seen.0 _ (is-end c) _ c.agree_through.ensures (c.if-not-agree_through.false) _ _ c.owner-former.ensures.is c.flags-sum.ensures _ c.set_unseen.ensures
     (sym (is-longer c) ∙ lt-ltb _ _ c.if-committed_end-seen_end.true) _ c.set_committed.ensures
-
-pub shape_of-history-then-committed_end-seen_end : goal.shape_of-history-then-committed_end-seen_end
-shape_of-history-then-committed_end-seen_end c = ap length (returns-2 c).leaves ∙ insert_leaves_length _ _ _ _
 
 pub returns-else-committed_end-seen_end : goal.returns-else-committed_end-seen_end
 returns-else-committed_end-seen_end c =
     let s = c.args in
-    insert_shorter s.history.now s.node.0 s.committed.0 s.seen.0 _ (is-end c) _ c.agree_through.ensures (not-false _ c.if-not-agree_through.false) _ _ c.owner-former.ensures.is c.flags-sum.ensures _ c.set_unseen.ensures
+    insert_shorter s.history.now s.node.0 s.committed.0 s.seen.0 _ (is-end c) _ c.agree_through.ensures (c.if-not-agree_through.false) _ _ c.owner-former.ensures.is c.flags-sum.ensures _ c.set_unseen.ensures
     (sym (is-longer c) ∙ le-ltb _ _ c.if-committed_end-seen_end.false)
-
-pub shape_of-history-else-committed_end-seen_end : goal.shape_of-history-else-committed_end-seen_end
-shape_of-history-else-committed_end-seen_end c = ap length (returns-3 c).leaves ∙ insert_leaves_length _ _ _ _

@@ -2,10 +2,9 @@
 -- Assumes nothing.
 use mathlib.Core.Path.{ap, ◌∙◌}
 use lib.ListN.{length}
-use borrow.Author.Tests.{not-true, not-false}
 use Rattle.storage.proofs.WellFormed.{formed}
 use Rattle.log_violation.proofs.ViolationLaws.{in_length}
-use Rattle.commit.proofs.Difference.{note_full, note_so, note_leaves_length}
+use Rattle.commit.proofs.Difference.{note_full, note_so}
 use Rattle.commit.proofs.prefix.note_difference.Goals as goal
 
 pub note_in-requires : goal.note_in-requires
@@ -15,10 +14,7 @@ note_in-requires c =
 
 pub returns-then-not-note_in : goal.returns-then-not-note_in
 returns-then-not-note_in c =
-    note_full c.args.history.now c.args.node.0 c.args.end.0 _ _ c.note_in.ensures (not-true _ c.if-not-note_in.true)
-
-pub shape_of-history-then-not-note_in : goal.shape_of-history-then-not-note_in
-shape_of-history-then-not-note_in c = ap length (returns c).leaves ∙ note_leaves_length _ _ _
+    note_full c.args.history.now c.args.node.0 c.args.end.0 _ _ c.note_in.ensures (c.if-not-note_in.true)
 
 pub set_unseen-requires : goal.set_unseen-requires
 set_unseen-requires c =
@@ -26,7 +22,4 @@ set_unseen-requires c =
 
 pub returns : goal.returns
 returns c =
-    note_so c.args.history.now c.args.node.0 c.args.end.0 _ _ c.note_in.ensures (not-false _ c.if-not-note_in.false) _ c.set_unseen.ensures
-
-pub shape_of-history : goal.shape_of-history
-shape_of-history c = ap length (returns-2 c).leaves ∙ note_leaves_length _ _ _
+    note_so c.args.history.now c.args.node.0 c.args.end.0 _ _ c.note_in.ensures (c.if-not-note_in.false) _ c.set_unseen.ensures

@@ -1,20 +1,16 @@
 -- `commit::prefix::observe_committed_prefixes` meets its contract.
 -- Assumes nothing.
-use Rattle.committed_prefix.proofs.PrefixTurns.{unseen_length, keep_length, kept_within}
+use Rattle.committed_prefix.proofs.PrefixTurns.{kept_within}
 use Rattle.prefix_lookup.proofs.FrontLaws.{through_stored}
-use Rattle.commit.proofs.PrefixTurns.{insert_leaves_length, observe_unseen, observe_zero, observe_first, observe_later}
+use Rattle.commit.proofs.PrefixTurns.{observe_unseen, observe_zero, observe_first, observe_later}
 use Rattle.storage.proofs.WellFormed.{formed}
-use lib.ListN.{length}
 use native.Mathlib.Omega.{arith}
-use mathlib.Core.Path.{ap, sym, ◌∙◌}
+use mathlib.Core.Path.{sym, ◌∙◌}
 use Rattle.commit.proofs.prefix.observe_committed_prefixes.Goals as goal
 
 pub set_unseen-requires : goal.set_unseen-requires
 set_unseen-requires c =
     (c.requires.1, (formed _ c.requires.0).long)
-
-pub shape_of-history-in_default : goal.shape_of-history-in_default
-shape_of-history-in_default c = ap length c.set_unseen.ensures ∙ unseen_length _ _ _
 
 pub returns-in_default : goal.returns-in_default
 returns-in_default c =
@@ -23,9 +19,6 @@ returns-in_default c =
 pub set_unseen-requires-then-seen : goal.set_unseen-requires-then-seen
 set_unseen-requires-then-seen c =
     (c.requires.1, (formed _ c.requires.0).long)
-
-pub shape_of-history-then-seen : goal.shape_of-history-then-seen
-shape_of-history-then-seen c = ap length c.set_unseen-then-seen.ensures ∙ unseen_length _ _ _
 
 pub returns-then-seen : goal.returns-then-seen
 returns-then-seen c =
@@ -37,9 +30,6 @@ committed_prefix-requires c = let l = (formed _ c.requires.0).long in omega arit
 pub keep-requires : goal.keep-requires
 keep-requires c =
     (c.requires.1, (formed _ c.requires.0).long)
-
-pub shape_of-history-in_default-committed_prefix : goal.shape_of-history-in_default-committed_prefix
-shape_of-history-in_default-committed_prefix c = ap length c.keep.ensures ∙ keep_length _ _ _
 
 pub returns-in_default-committed_prefix : goal.returns-in_default-committed_prefix
 returns-in_default-committed_prefix c =
@@ -54,9 +44,6 @@ insert_committed_prefix-requires c =
       kept_within h f _ c.committed_prefix.ensures _ c.in-Prefix-committed_prefix.is,
       through_stored h c.args.node.0 c.args.index.0 _ f c.requires.1 (sym c.front_through.ensures ∙ c.in-Prefix.is),
     )
-
-pub shape_of-history : goal.shape_of-history
-shape_of-history c = ap length c.insert_committed_prefix.ensures.leaves ∙ insert_leaves_length _ _ _ _
 
 pub returns : goal.returns
 returns c =

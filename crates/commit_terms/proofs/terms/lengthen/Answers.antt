@@ -1,9 +1,7 @@
 -- `commit_terms::terms::lengthen` meets its contract: zeros in the lent places are zeros in the whole, then the count.
 -- Assumes nothing.
 use native.Mathlib.Omega.{arith}
-use mathlib.Core.Path.{ap, ◌∙◌}
-use lib.ListN.{length}
-use Rattle.commit_terms.proofs.TermTurns.{places_cleared, lengthen_not, lengthen_so, lengthened_length}
+use Rattle.commit_terms.proofs.TermTurns.{places_cleared, lengthen_not, lengthen_so}
 use Rattle.commit_terms.proofs.terms.lengthen.Goals as goal
 
 pub returns-then-new-recorded : goal.returns-then-new-recorded
@@ -18,6 +16,3 @@ returns c =
     let h = c.args.history.now in
     lengthen_so h c.args.new.0 _ r.ensures.is l _
     (places_cleared h _ r.result.0 c.args.new.0 (omega arith) c.requires.0 c.requires.1 c.clear.ensures) _ c.set_last_recorded.ensures
-
-pub shape_of-history : goal.shape_of-history
-shape_of-history c = ap length (returns-2 c) ∙ lengthened_length _ _

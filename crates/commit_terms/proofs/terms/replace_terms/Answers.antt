@@ -1,7 +1,6 @@
 -- `commit_terms::terms::replace_terms` meets its contract. The invariant: replacing the places that are left gives the rest.
 -- Assumes nothing.
 use Rattle.commit_terms.proofs.TermTurns.{replacing_starts, replacing_next, replacing_ends}
-use mathlib.Core.Path.{sym, ◌∙◌}
 use native.Mathlib.Omega.{arith}
 use borrow.Author.Count.{falls}
 use Rattle.commit_terms.proofs.terms.replace_terms.Goals as goal
@@ -23,9 +22,6 @@ loop-k-preserved c =
     let l = c.loop-k in
     let s = c.args in
     replacing_next s.history.now s.first.0 s.new.0 s.term.0 l.history l.k l.invariant c.loop-k-test.true _ c.replace_term.ensures
-
-pub shape_of-history : goal.shape_of-history
-shape_of-history c = c.loop-k.invariant.long ∙ sym c.requires.2
 
 pub returns : goal.returns
 returns c =

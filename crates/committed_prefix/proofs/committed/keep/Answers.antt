@@ -1,6 +1,6 @@
 -- `committed_prefix::committed::keep` meets its contract.
 -- Assumes nothing.
-use Rattle.committed_prefix.proofs.PrefixTurns.{unseen_length, keep_length}
+use Rattle.committed_prefix.proofs.PrefixTurns.{unseen_length}
 use lib.ListN.{length}
 use Rattle.model.specs.Sizes.{Bytes}
 use Rattle.storage.specs.Writes.{committed_set}
@@ -20,6 +20,3 @@ unfolding keep_bytes
 returns c =
     let s = c.args in
     c.set_committed.ensures ∙ ap (λ (u : Bytes). committed_set u s.p.0 s.node.0) c.set_unseen.ensures
-
-pub shape_of-history : goal.shape_of-history
-shape_of-history c = ap length (returns c) ∙ keep_length _ _ _

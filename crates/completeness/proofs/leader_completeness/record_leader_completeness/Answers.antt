@@ -1,6 +1,6 @@
 -- `completeness::leader_completeness::record_leader_completeness` meets its contract.
 -- Assumes nothing.
-use Rattle.completeness.proofs.CheckLaws.{checked_nothing, number_is, end_read, checked_kept, judged_refused, judged_accepted, written_as, written_length}
+use Rattle.completeness.proofs.CheckLaws.{checked_nothing, number_is, end_read, checked_kept, judged_refused, judged_accepted, written_as}
 use Rattle.storage.proofs.WellFormed.{formed}
 use Rattle.log_violation.proofs.ViolationLaws.{all_length, findings_long}
 use Rattle.check_marks.proofs.MarkLaws.{marks_length}
@@ -67,7 +67,3 @@ returns c =
     (judged_accepted h _ _ _ _ _ c.copy_findings-held.ensures c.judge_all-judged.ensures c.if-judged-gt-FINDING_LIMIT.false
     _ (end_read h _ c.committed_prefix.ensures _ c.in-Prefix.is _ c.prefix_table.ensures.is _ c.through-end.ensures.is)
     _ (written_as h _ _ _ _ c.move_marks.ensures _ c.keep_findings.ensures))
-
-pub shape_of-history : goal.shape_of-history
-shape_of-history c =
-    ap length (written_as _ _ _ _ _ c.move_marks.ensures _ c.keep_findings.ensures) ∙ written_length _ _ _ _

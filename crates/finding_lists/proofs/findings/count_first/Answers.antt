@@ -6,7 +6,6 @@ use mathlib.Core.Bool.{Bool, cond}
 use mathlib.Core.Logic.{⊎_elim}
 use native.Mathlib.Omega.{arith}
 use borrow.Author.Count.{falls}
-use borrow.Author.Tests.{not-true, not-false}
 use native.Mathlib.Nat.{zero-add, add-zero}
 use Rattle.storage.specs.Tables.{finding_row}
 use Rattle.table_rows.specs.Values.{finding_value}
@@ -27,8 +26,8 @@ loop-j-preserved c =
       ⊎_elim (λ w. let e = w.1 in omega arith) (λ w. let e = w.1 in omega arith) c.if-not-comes_before.branch,
       count_next (finding_value s.f) (finding_row s.findings.now) c.loop-j.count c.loop-j.j s.m c.loop-j.invariant.1 c.loop-j-test.true
           (⊎_elim
-          (λ w. w.1 ∙ sym (ap (λ (t : Bool). c.loop-j.count + cond {A = ℕ} t 0 1) (sym told ∙ not-true _ w.0.taken)))
-          (λ w. w.1 ∙ sym (ap (λ (t : Bool). c.loop-j.count + cond {A = ℕ} t 0 1) (sym told ∙ not-false _ w.0.left) ∙ add-zero _))
+          (λ w. w.1 ∙ sym (ap (λ (t : Bool). c.loop-j.count + cond {A = ℕ} t 0 1) (sym told ∙ w.0.taken)))
+          (λ w. w.1 ∙ sym (ap (λ (t : Bool). c.loop-j.count + cond {A = ℕ} t 0 1) (sym told ∙ w.0.left) ∙ add-zero _))
           c.if-not-comes_before.branch),
     )
 

@@ -13,7 +13,7 @@ committed_owner-requires c = sym c.well-formed-2.ensures ∙ c.if-well_formed.tr
 pub returns-then-well_formed : goal.returns-then-well_formed
 returns-then-well_formed c =
     committed_here _ (sym c.well-formed-2.ensures ∙ c.if-well_formed.true) _ _
-    c.committed_length_lem.ensures c.committed_owner.ensures
+    c.committed_length.ensures c.committed_owner.ensures
 
 pub returns : goal.returns
 returns c = is_broken _ _ _ (sym c.well-formed-2.ensures ∙ c.if-well_formed.false)

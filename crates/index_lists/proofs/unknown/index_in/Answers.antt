@@ -5,7 +5,6 @@ use mathlib.Core.Path.{◌≡◌, ap, sym, ◌∙◌}
 use mathlib.Core.Logic.{⊎_elim}
 use native.Mathlib.Omega.{arith}
 use borrow.Author.Count.{falls}
-use borrow.Author.Tests.{not-true, not-false}
 use Rattle.index_lists.specs.declared.unknown.UnknownAnswer.{UnknownAnswer}
 use Rattle.index_lists.specs.Picked.{pick_from}
 use Rattle.index_lists.specs.Unknown.{is_known, index_of, index_in}
@@ -24,7 +23,7 @@ pub returns-then-left-eq0 : goal.returns-then-left-eq0
 returns-then-left-eq0 c =
     let s = c.args in
     sym (pick_here (is_known s.terms.now s.count) (λ j. index_of (j + 1)) UnknownAnswer.NoMore c.loop-i.i s.m c.loop-i.left c.loop-i.invariant.1
-    c.loop-i-test.true (sym c.is_Known.ensures ∙ not-true _ c.if-not-is_known.true) c.if-left-eq0.true)
+    c.loop-i-test.true (sym c.is_Known.ensures ∙ c.if-not-is_known.true) c.if-left-eq0.true)
 
 pub loop-i-smaller : goal.loop-i-smaller
 loop-i-smaller c = falls _ _ c.loop-i-test.true
@@ -35,9 +34,9 @@ loop-i-preserved c =
       omega arith,
       ⊎_elim
           (λ w. pick_later (is_known s.terms.now s.count) (λ j. index_of (j + 1)) UnknownAnswer.NoMore c.loop-i.i s.m c.loop-i.left c.loop-i.invariant.1
-          c.loop-i-test.true (sym c.is_Known.ensures ∙ not-true _ w.0.taken) w.1.left w.2)
+          c.loop-i-test.true (sym c.is_Known.ensures ∙ w.0.taken) w.1.left w.2)
           (λ w. pick_over (is_known s.terms.now s.count) (λ j. index_of (j + 1)) UnknownAnswer.NoMore c.loop-i.i s.m c.loop-i.left c.loop-i.invariant.1
-          c.loop-i-test.true (sym c.is_Known.ensures ∙ not-false _ w.0.left) w.1)
+          c.loop-i-test.true (sym c.is_Known.ensures ∙ w.0.left) w.1)
           c.if-not-is_known.branch,
     )
 

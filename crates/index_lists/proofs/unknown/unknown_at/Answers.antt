@@ -16,9 +16,9 @@ index_in-requires c =
     let n = (formed c.args.history.now c.requires).terms in
     let m = end_small c.args.history.now c.requires in
     let e = c.last_recorded-count.ensures.is in
-    let f = c.committed_length_lem.ensures in
+    let f = c.committed_length-m.ensures in
     (omega arith, omega arith, c.term_table.ensures.long)
 
 pub returns : goal.returns
 returns c =
-    unknown_lent _ _ _ _ _ c.term_table.ensures.is c.last_recorded-count.ensures.is c.committed_length_lem.ensures c.index_in.ensures
+    unknown_lent _ _ _ _ _ c.term_table.ensures.is c.last_recorded-count.ensures.is c.committed_length-m.ensures c.index_in.ensures

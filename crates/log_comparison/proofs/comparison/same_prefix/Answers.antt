@@ -4,7 +4,7 @@ use Prim.Native.Nat.{ℕ, ◌-◌, ◌≤◌}
 use mathlib.Core.Path.{refl, sym, ◌∙◌, subst}
 use mathlib.Core.Logic.{⊎_elim}
 use borrow.Author.Count.{falls}
-use borrow.Author.Tests.{eq-eqb, ne_eqb, eqb-true, eqb-false, not-true, not-false}
+use borrow.Author.Tests.{eq-eqb, ne_eqb, eqb-true, eqb-false}
 use borrow.Author.Rules.{rules}
 use native.Mathlib.Omega.{arith}
 use native.Mathlib.Nat.{le_refl}
@@ -34,7 +34,7 @@ loop-k-init c =
       search rules,
       content_within t c.entries.invariant.1.long c.entries.invariant.1.fits first short,
       content_within t c.entries.invariant.1.long c.entries.invariant.1.fits (place_before c.entries.invariant.3 (eqb-false _ _ c.if-q-eq0.false)) short,
-      entry_content t _ _ _ _ _ _ c.term_at.ensures c.term_at-in-entries.ensures c.if-term_at.false c.size_at-n.ensures.is c.size_at.ensures.is (eqb-true _ _ (not-false _ c.if-n-size_at.false)) short,
+      entry_content t _ _ _ _ _ _ c.term_at.ensures c.term_at-in-entries.ensures c.if-term_at.false c.size_at-n.ensures.is c.size_at.ensures.is (eqb-true _ _ (c.if-n-size_at.false)) short,
     )
 
 pub loop-k-smaller : goal.loop-k-smaller
@@ -85,7 +85,7 @@ returns c =
     (λ u. compare_second_empty (prefix_row t) p q v w.0.taken u.0.left (eqb-true _ _ u.2.taken)) w.2.came))
     (⊎_elim (λ w. ne_eqb p q w.0.taken ∙ sym (compare_differs (prefix_row t) p q v w.0.taken w.2.left (eqb-false _ _ w.4.left)
     (⊎_elim (λ u. entry_term t _ _ _ _ 0 0 w.8.ensures w.9.ensures u.taken)
-    (λ u. entry_size t _ _ _ _ _ _ w.8.ensures w.9.ensures u.0.left w.7.ensures.is u.1.ensures.is (eqb-false _ _ (not-true _ u.2.taken))) w.12.came)))
+    (λ u. entry_size t _ _ _ _ _ _ w.8.ensures w.9.ensures u.0.left w.7.ensures.is u.1.ensures.is (eqb-false _ _ (u.2.taken))) w.12.came)))
     (λ w. ne_eqb p q w.0.taken ∙ sym (compare_differs (prefix_row t) p q v w.0.taken w.2.left (eqb-false _ _ w.4.left)
     (same_stop t t _ _ _ w.15.k w.15.inv.3 w.16.taken w.19.taken)))))
     c.entries-test.branch

@@ -1,11 +1,10 @@
 -- `log_violation::violation::note` meets its contract.
 -- Assumes nothing.
 use Prim.Native.Nat.{◌+◌}
-use mathlib.Core.Path.{ap, sym, subst, ◌∙◌}
+use mathlib.Core.Path.{sym, subst, ◌∙◌}
 use mathlib.Core.Logic.{⊎_elim}
-use lib.ListN.{length}
 use Rattle.table_rows.specs.Values.{finding_value}
-use Rattle.log_violation.proofs.ViolationLaws.{Noted, note_over, note_again, note_full, note_new, note_length}
+use Rattle.log_violation.proofs.ViolationLaws.{Noted, note_over, note_again, note_full, note_new}
 use Rattle.log_violation.proofs.violation.note.Goals as goal
 
 pub returns-then-n-gt-FINDING_LIMIT : goal.returns-then-n-gt-FINDING_LIMIT
@@ -25,6 +24,3 @@ returns c =
     ⊎_elim (λ w. note_new t s.n f c.if-n-gt-FINDING_LIMIT.false _ e z w.0.taken _ (w.5 ∙ w.2.ensures))
     (λ w. subst (Noted t s.n f (s.n + 1)) (sym w.1) (note_full t s.n f c.if-n-gt-FINDING_LIMIT.false _ e z w.0.left))
     c.if-n-lt-FINDING_LIMIT.branch
-
-pub shape_of-findings : goal.shape_of-findings
-shape_of-findings c = ap length (returns-2 c).1 ∙ note_length _ _ _

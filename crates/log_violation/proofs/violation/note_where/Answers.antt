@@ -1,19 +1,14 @@
 -- `log_violation::violation::note_where` meets its contract.
 -- Assumes nothing.
-use mathlib.Core.Path.{ap, ◌∙◌}
-use lib.ListN.{length}
 use borrow.Author.Tests.{not-true, not-false}
 use Rattle.table_rows.specs.Values.{finding_value}
-use Rattle.log_violation.proofs.ViolationLaws.{note_length, where_not, where_noted}
+use Rattle.log_violation.proofs.ViolationLaws.{where_not, where_noted}
 use Rattle.log_violation.proofs.violation.note_where.Goals as goal
 
 pub returns-then-not-told : goal.returns-then-not-told
 returns-then-not-told c =
     let s = c.args in
     where_not s.told (finding_value s.f) s.findings.now s.n (not-true s.told c.if-not-told.true)
-
-pub shape_of-findings : goal.shape_of-findings
-shape_of-findings c = ap length c.note.ensures.1 ∙ note_length _ _ _
 
 pub returns : goal.returns
 returns c =

@@ -5,7 +5,7 @@ use mathlib.Core.Path.{ap, ◌∙◌}
 use native.Mathlib.Omega.{arith}
 use lib.ListN.{length}
 use Rattle.storage.proofs.WellFormed.{formed}
-use Rattle.logical_log.proofs.Whole.{total_small, observed_six, observed_seven, observed_ok, observed_room, table_length, written_length}
+use Rattle.logical_log.proofs.Whole.{total_small, observed_six, observed_seven, observed_ok, observed_room, table_length}
 use Rattle.logical_log.proofs.observation.observe_prefixes.Goals as goal
 
 pub prefix_count-count-requires : goal.prefix_count-count-requires
@@ -38,6 +38,3 @@ pub returns : goal.returns
 returns c =
     observed_ok (min c.args.limit 512) c.args.history.now c.args.view.now c.args.entries c.args.node.0 _ _ _ _ _ c.requires c.judge_view-judged.ensures c.prefix_count-count.ensures.is _ c.most_stored-most.ensures c.if-most-total.false c.if-held-gt-FINDING_LIMIT.false
     _ c.write_view.ensures
-
-pub shape_of-history : goal.shape_of-history
-shape_of-history c = ap length c.write_view.ensures ∙ written_length _ _ _ _ _ _ _

@@ -26,7 +26,7 @@ returns-then-size_at-n c =
     c.size_at.ensures.is c.if-size_at-n.true
 
 pub same_bytes-requires : goal.same_bytes-requires
-same_bytes-requires c = (search rules, omega (arith, slice-aggregate-same-bytes c))
+same_bytes-requires c = (search rules, omega (arith, slice_bounds-same_bytes-end c))
 
 pub returns : goal.returns
 returns c =

@@ -12,4 +12,4 @@ returns c =
     let a = c.args in
     let p = c.put_prefix in
     let l = prefix_length a.parent.0 a.index.0 a.term.0 a.size a.content.now c.requires.2 in
-    part_written a.history.now p.new.0 3145 20992 (a.k * 41) (prefix_bytes a.parent.0 a.index.0 a.term.0 a.size a.content.now) p.ensures (omega arith) (omega arith)
+    part_written a.history.now p.new.prefixes 3145 20992 (a.k * 41) (prefix_bytes a.parent.0 a.index.0 a.term.0 a.size a.content.now) p.ensures (omega arith) (omega arith)

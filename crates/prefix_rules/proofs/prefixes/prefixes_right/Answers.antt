@@ -5,7 +5,6 @@ use Rattle.storage_bytes.proofs.ListLaws.{from_zero}
 use Rattle.storage.specs.Rules.{prefixes_right_after}
 use Rattle.storage.specs.Tables.{prefix_row}
 use Rattle.storage_bytes.specs.Lists.{tabulate}
-use borrow.Author.Tests.{not-true, not-false}
 use mathlib.Core.List.{[]}
 use borrow.Author.Count.{falls}
 use mathlib.Core.Path.{sym, ◌∙◌}
@@ -23,7 +22,7 @@ returns-then-not-prefix_right c =
     let s = c.args in
     sym
     (rows_stop (prefix_row s.prefixes.now) c.loop-k.k s.n c.loop-k.invariant.1 c.loop-k-test.true
-    (sym c.prefix_right.ensures ∙ not-true _ c.if-not-prefix_right.true))
+    (sym c.prefix_right.ensures ∙ c.if-not-prefix_right.true))
 
 pub loop-k-smaller : goal.loop-k-smaller
 loop-k-smaller c = falls _ _ c.loop-k-test.true
@@ -33,7 +32,7 @@ loop-k-preserved c =
     let s = c.args in (
       omega arith,
       rows_next (prefix_row s.prefixes.now) c.loop-k.k s.n c.loop-k.invariant.1 c.loop-k-test.true
-          (sym c.prefix_right.ensures ∙ not-false _ c.if-not-prefix_right.false),
+          (sym c.prefix_right.ensures ∙ c.if-not-prefix_right.false),
     )
 
 pub returns : goal.returns

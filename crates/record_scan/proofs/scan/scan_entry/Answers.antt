@@ -3,7 +3,7 @@
 use Prim.Native.Nat.{◌≤◌}
 use mathlib.Core.Path.{refl, sym, ◌∙◌}
 use native.Mathlib.Omega.{arith}
-use borrow.Author.Tests.{leb-true, leb-false, not-true, not-false}
+use borrow.Author.Tests.{leb-true, leb-false}
 use Rattle.model.specs.Reading.{shown}
 use Rattle.record_scan.proofs.Given.{number_is, limited_is}
 use Rattle.bit_fields.proofs.Readers.{field_got, field_missing, content_got, content_missing}
@@ -24,7 +24,7 @@ returns-then-not-holds c =
     rw (
       c.entry_index.ensures,
       c.in-Is.is,
-      field_missing _ _ 32 (leb-false _ _ (sym c.holds.ensures ∙ not-true _ c.if-not-holds.true)),
+      field_missing _ _ 32 (leb-false _ _ (sym c.holds.ensures ∙ c.if-not-holds.true)),
     )
 
 pub returns-in-Not-limited : goal.returns-in-Not-limited
@@ -33,7 +33,7 @@ returns-in-Not-limited c =
     rw (
       c.entry_index.ensures,
       c.in-Is.is,
-      field_got _ _ 32 _ (leb-true _ _ (sym c.holds.ensures ∙ not-false _ c.if-not-holds.false)) refl,
+      field_got _ _ 32 _ (leb-true _ _ (sym c.holds.ensures ∙ c.if-not-holds.false)) refl,
       c.limited.ensures,
       c.in-Not-limited.is,
     )
@@ -45,7 +45,9 @@ pub holds-requires-2 : goal.holds-requires-2
 holds-requires-2 c = let h = short c in omega arith
 
 pub overflow_add-result : goal.overflow_add-result
-overflow_add-result c = let h = short c in omega arith
+overflow_add-result c =
+    let h = (limited_is _ _ 6 32 (number_is c.limited.ensures c.in-Is-limited.is)).within in
+    omega arith
 
 pub returns-then-holds : goal.returns-then-holds
 unfolding shown
@@ -53,7 +55,7 @@ returns-then-holds c =
     rw (
       c.entry_index.ensures,
       c.in-Is.is,
-      field_got _ _ 32 _ (leb-true _ _ (sym c.holds.ensures ∙ not-false _ c.if-not-holds.false)) refl,
+      field_got _ _ 32 _ (leb-true _ _ (sym c.holds.ensures ∙ c.if-not-holds.false)) refl,
       c.limited.ensures,
       c.in-Is-limited.is,
       content_got _ _ _ (leb-true _ _ (sym c.holds-2.ensures ∙ c.if-holds.true)),
@@ -65,7 +67,7 @@ returns-else-holds c =
     rw (
       c.entry_index.ensures,
       c.in-Is.is,
-      field_got _ _ 32 _ (leb-true _ _ (sym c.holds.ensures ∙ not-false _ c.if-not-holds.false)) refl,
+      field_got _ _ 32 _ (leb-true _ _ (sym c.holds.ensures ∙ c.if-not-holds.false)) refl,
       c.limited.ensures,
       c.in-Is-limited.is,
       content_missing _ _ _ (leb-false _ _ (sym c.holds-2.ensures ∙ c.if-holds.false)),

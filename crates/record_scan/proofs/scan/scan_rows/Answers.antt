@@ -12,8 +12,7 @@ use Rattle.record_scan.proofs.scan.scan_rows.Goals as goal
 
 -- what was scanned is near, and so is its key
 small : (c : goal.In-On)
-    → let item = c.key-1.given.0 in
-    (item.0 ≤ 256) × (item.1.0 ≤ c.loop-left.at + 122)
+    → (c.in-On.key ≤ 256) × (c.in-On.next ≤ c.loop-left.at + 122)
 small c = row_near _ _ _ _ _ (item_is c.scan_row.ensures c.in-On.is)
 
 pub loop-left-init : goal.loop-left-init

@@ -19,7 +19,7 @@ loop-left-smaller c = omega arith
 
 pub loop-left-preserved : goal.loop-left-preserved
 loop-left-preserved c =
-    rw c.next_at_lem.ensures (
+    rw c.next_at-at.ensures (
       next_walk _ _ _ c.loop-left.invariant.0 c.loop-left-test.true,
       last_next _ _ _ _ _ c.loop-left.invariant.1 c.loop-left-test.true c.index_at-last.ensures,
     )

@@ -2,7 +2,6 @@
 -- Assumes nothing.
 use Rattle.storage.specs.Rules.{finding_right}
 use Rattle.storage.specs.Tables.{finding_row}
-use borrow.Author.Tests.{not-true, not-false}
 use borrow.Author.Count.{falls}
 use Rattle.storage_bytes.proofs.ListLaws.{every_next, every_stop, every_none, from_zero}
 use Rattle.storage_bytes.specs.Lists.{every}
@@ -20,7 +19,7 @@ returns-then-not-finding_right c =
     let s = c.args in
     sym
     (every_stop finding_right (finding_row s.findings.now) c.loop-k.k s.m c.loop-k.invariant.1 c.loop-k-test.true
-    (ap finding_right (sym c.finding_at-f.ensures) ∙ sym c.finding_right.ensures ∙ not-true _ c.if-not-finding_right.true))
+    (ap finding_right (sym c.finding_at-f.ensures) ∙ sym c.finding_right.ensures ∙ c.if-not-finding_right.true))
 
 pub loop-k-smaller : goal.loop-k-smaller
 loop-k-smaller c = falls _ _ c.loop-k-test.true
@@ -30,7 +29,7 @@ loop-k-preserved c =
     let s = c.args in (
       omega arith,
       every_next finding_right (finding_row s.findings.now) c.loop-k.k s.m c.loop-k.invariant.1 c.loop-k-test.true
-          (ap finding_right (sym c.finding_at-f.ensures) ∙ sym c.finding_right.ensures ∙ not-false _ c.if-not-finding_right.false),
+          (ap finding_right (sym c.finding_at-f.ensures) ∙ sym c.finding_right.ensures ∙ c.if-not-finding_right.false),
     )
 
 pub returns : goal.returns

@@ -3,7 +3,6 @@
 use Rattle.storage.proofs.RuleLaws.{within, Limited, stop, pass}
 use Rattle.rules.proofs.Turns.{wrong_length, rules_in_turn}
 use Rattle.storage_bytes.specs.Words.{word_at}
-use borrow.Author.Tests.{not-true, not-false}
 use Prim.Native.Nat.{◌≤◌}
 use mathlib.Core.Path.{refl, sym, ◌∙◌}
 use native.Mathlib.Omega.{arith}
@@ -11,7 +10,7 @@ use Rattle.rules.proofs.whole.well_formed.Goals as goal
 
 -- the counts are within the limits once they have been tested
 limits : (c : tie.Else2) → let head = c.part-head.result.now in Limited (word_at head 0 2) (word_at head 2 2) (word_at head 6 1) (word_at head 7 1)
-limits c = within _ _ _ _ (sym c.within_limits.ensures ∙ not-false _ c.if-not-within_limits.false)
+limits c = within _ _ _ _ (sym c.within_limits.ensures ∙ c.if-not-within_limits.false)
 
 pub returns-then-history-ne-HISTORY_LENGTH : goal.returns-then-history-ne-HISTORY_LENGTH
 returns-then-history-ne-HISTORY_LENGTH c = sym (wrong_length c.args.history.now c.if-history-ne-HISTORY_LENGTH.true)
@@ -21,24 +20,24 @@ returns-then-not-within_limits c =
     let h = c.args.history.now in
     sym
     (rules_in_turn h _ _ _ _ _ _ _ _ c.if-history-ne-HISTORY_LENGTH.false c.part-head.ensures.is refl refl refl refl refl refl refl
-    ∙ stop _ (sym c.within_limits.ensures ∙ not-true _ c.if-not-within_limits.true))
+    ∙ stop _ (sym c.within_limits.ensures ∙ c.if-not-within_limits.true))
 
 pub returns-then-not-committed_right : goal.returns-then-not-committed_right
 returns-then-not-committed_right c =
     let h = c.args.history.now in
     sym
     (rules_in_turn h _ _ _ _ _ _ _ _ c.if-history-ne-HISTORY_LENGTH.false c.part-head.ensures.is refl refl refl refl refl refl refl
-    ∙ pass _ (sym c.within_limits.ensures ∙ not-false _ c.if-not-within_limits.false)
-    ∙ stop _ (sym c.committed_right.ensures ∙ not-true _ c.if-not-committed_right.true))
+    ∙ pass _ (sym c.within_limits.ensures ∙ c.if-not-within_limits.false)
+    ∙ stop _ (sym c.committed_right.ensures ∙ c.if-not-committed_right.true))
 
 pub returns-then-not-nodes_right : goal.returns-then-not-nodes_right
 returns-then-not-nodes_right c =
     let h = c.args.history.now in
     sym
     (rules_in_turn h _ _ _ _ _ _ _ _ c.if-history-ne-HISTORY_LENGTH.false c.part-head.ensures.is c.node_table.ensures.is refl refl refl c.prefix_count-n.ensures.is refl refl
-    ∙ pass _ (sym c.within_limits.ensures ∙ not-false _ c.if-not-within_limits.false)
-    ∙ pass _ (sym c.committed_right.ensures ∙ not-false _ c.if-not-committed_right.false)
-    ∙ stop _ (sym c.nodes_right.ensures ∙ not-true _ c.if-not-nodes_right.true))
+    ∙ pass _ (sym c.within_limits.ensures ∙ c.if-not-within_limits.false)
+    ∙ pass _ (sym c.committed_right.ensures ∙ c.if-not-committed_right.false)
+    ∙ stop _ (sym c.nodes_right.ensures ∙ c.if-not-nodes_right.true))
 
 pub certificates_right-requires : goal.certificates_right-requires
 certificates_right-requires c =
@@ -50,10 +49,10 @@ returns-then-not-certificates_right c =
     let h = c.args.history.now in
     sym
     (rules_in_turn h _ _ _ _ _ _ _ _ c.if-history-ne-HISTORY_LENGTH.false c.part-head.ensures.is c.node_table.ensures.is c.certificate_table-certificates.ensures.is refl refl c.prefix_count-n.ensures.is c.certificate_count-m.ensures.is refl
-    ∙ pass _ (sym c.within_limits.ensures ∙ not-false _ c.if-not-within_limits.false)
-    ∙ pass _ (sym c.committed_right.ensures ∙ not-false _ c.if-not-committed_right.false)
-    ∙ pass _ (sym c.nodes_right.ensures ∙ not-false _ c.if-not-nodes_right.false)
-    ∙ stop _ (sym c.certificates_right.ensures ∙ not-true _ c.if-not-certificates_right.true))
+    ∙ pass _ (sym c.within_limits.ensures ∙ c.if-not-within_limits.false)
+    ∙ pass _ (sym c.committed_right.ensures ∙ c.if-not-committed_right.false)
+    ∙ pass _ (sym c.nodes_right.ensures ∙ c.if-not-nodes_right.false)
+    ∙ stop _ (sym c.certificates_right.ensures ∙ c.if-not-certificates_right.true))
 
 pub numbered-requires : goal.numbered-requires
 numbered-requires c =
@@ -65,11 +64,11 @@ returns-then-not-numbered c =
     let h = c.args.history.now in
     sym
     (rules_in_turn h _ _ _ _ _ _ _ _ c.if-history-ne-HISTORY_LENGTH.false c.part-head.ensures.is c.node_table.ensures.is c.certificate_table-certificates.ensures.is refl refl c.prefix_count-n.ensures.is c.certificate_count-m.ensures.is refl
-    ∙ pass _ (sym c.within_limits.ensures ∙ not-false _ c.if-not-within_limits.false)
-    ∙ pass _ (sym c.committed_right.ensures ∙ not-false _ c.if-not-committed_right.false)
-    ∙ pass _ (sym c.nodes_right.ensures ∙ not-false _ c.if-not-nodes_right.false)
-    ∙ pass _ (sym c.certificates_right.ensures ∙ not-false _ c.if-not-certificates_right.false)
-    ∙ stop _ (sym c.numbered.ensures ∙ not-true _ c.if-not-numbered.true))
+    ∙ pass _ (sym c.within_limits.ensures ∙ c.if-not-within_limits.false)
+    ∙ pass _ (sym c.committed_right.ensures ∙ c.if-not-committed_right.false)
+    ∙ pass _ (sym c.nodes_right.ensures ∙ c.if-not-nodes_right.false)
+    ∙ pass _ (sym c.certificates_right.ensures ∙ c.if-not-certificates_right.false)
+    ∙ stop _ (sym c.numbered.ensures ∙ c.if-not-numbered.true))
 
 pub findings_right-requires : goal.findings_right-requires
 findings_right-requires c =
@@ -81,12 +80,12 @@ returns-then-not-findings_right c =
     let h = c.args.history.now in
     sym
     (rules_in_turn h _ _ _ _ _ _ _ _ c.if-history-ne-HISTORY_LENGTH.false c.part-head.ensures.is c.node_table.ensures.is c.certificate_table-certificates.ensures.is c.finding_table.ensures.is refl c.prefix_count-n.ensures.is c.certificate_count-m.ensures.is c.finding_count.ensures.is
-    ∙ pass _ (sym c.within_limits.ensures ∙ not-false _ c.if-not-within_limits.false)
-    ∙ pass _ (sym c.committed_right.ensures ∙ not-false _ c.if-not-committed_right.false)
-    ∙ pass _ (sym c.nodes_right.ensures ∙ not-false _ c.if-not-nodes_right.false)
-    ∙ pass _ (sym c.certificates_right.ensures ∙ not-false _ c.if-not-certificates_right.false)
-    ∙ pass _ (sym c.numbered.ensures ∙ not-false _ c.if-not-numbered.false)
-    ∙ stop _ (sym c.findings_right.ensures ∙ not-true _ c.if-not-findings_right.true))
+    ∙ pass _ (sym c.within_limits.ensures ∙ c.if-not-within_limits.false)
+    ∙ pass _ (sym c.committed_right.ensures ∙ c.if-not-committed_right.false)
+    ∙ pass _ (sym c.nodes_right.ensures ∙ c.if-not-nodes_right.false)
+    ∙ pass _ (sym c.certificates_right.ensures ∙ c.if-not-certificates_right.false)
+    ∙ pass _ (sym c.numbered.ensures ∙ c.if-not-numbered.false)
+    ∙ stop _ (sym c.findings_right.ensures ∙ c.if-not-findings_right.true))
 
 pub prefixes_right-requires : goal.prefixes_right-requires
 prefixes_right-requires c =
@@ -99,9 +98,9 @@ returns c =
     c.prefixes_right.ensures
     ∙ sym
     (rules_in_turn h _ _ _ _ _ _ _ _ c.if-history-ne-HISTORY_LENGTH.false c.part-head.ensures.is c.node_table.ensures.is c.certificate_table-certificates.ensures.is c.finding_table.ensures.is c.prefix_table.ensures.is c.prefix_count-n.ensures.is c.certificate_count-m.ensures.is c.finding_count.ensures.is
-    ∙ pass _ (sym c.within_limits.ensures ∙ not-false _ c.if-not-within_limits.false)
-    ∙ pass _ (sym c.committed_right.ensures ∙ not-false _ c.if-not-committed_right.false)
-    ∙ pass _ (sym c.nodes_right.ensures ∙ not-false _ c.if-not-nodes_right.false)
-    ∙ pass _ (sym c.certificates_right.ensures ∙ not-false _ c.if-not-certificates_right.false)
-    ∙ pass _ (sym c.numbered.ensures ∙ not-false _ c.if-not-numbered.false)
-    ∙ pass _ (sym c.findings_right.ensures ∙ not-false _ c.if-not-findings_right.false))
+    ∙ pass _ (sym c.within_limits.ensures ∙ c.if-not-within_limits.false)
+    ∙ pass _ (sym c.committed_right.ensures ∙ c.if-not-committed_right.false)
+    ∙ pass _ (sym c.nodes_right.ensures ∙ c.if-not-nodes_right.false)
+    ∙ pass _ (sym c.certificates_right.ensures ∙ c.if-not-certificates_right.false)
+    ∙ pass _ (sym c.numbered.ensures ∙ c.if-not-numbered.false)
+    ∙ pass _ (sym c.findings_right.ensures ∙ c.if-not-findings_right.false))

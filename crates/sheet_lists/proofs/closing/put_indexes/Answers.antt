@@ -14,9 +14,6 @@ use Rattle.sheet_lists.proofs.closing.put_indexes.Goals as goal
 pub loop-k-init : goal.loop-k-init
 loop-k-init c = (listed_none indexes 29 (unknown_list (decode c.args.history.now)) _ _, omega arith)
 
-pub shape_of-out-in_default : goal.shape_of-out-in_default
-shape_of-out-in_default c = put_kept c.loop-k.invariant.0
-
 pub returns-in_default : goal.returns-in_default
 returns-in_default c = listed_end indexes 29 _ _ _ _ _ _ c.loop-k.invariant.0 c.loop-k.invariant.1 (sym c.in_default.is ∙ c.unknown_at.ensures ∙ unknown_told _ _ _ (stand _ c.requires.0))
 
@@ -25,9 +22,6 @@ put_unknown-at-requires c = let p = c.loop-k.invariant.0 in omega (arith, put_ke
 
 pub loop-k-preserved : goal.loop-k-preserved
 loop-k-preserved c = (listed_next indexes 29 _ _ _ _ _ _ _ _ _ c.loop-k.invariant.0 (sym c.in-Index.is ∙ c.unknown_at.ensures ∙ unknown_told _ _ _ (stand _ c.requires.0)) c.put_unknown-at.ensures, omega arith)
-
-pub shape_of-out : goal.shape_of-out
-shape_of-out c = put_kept c.loop-k.invariant.0
 
 pub returns : goal.returns
 returns c = let k : c.loop-k.k ≡ 256 = omega (arith, c.loop-k.invariant.1) in listed_all indexes 29 _ _ _ _ _ _ c.loop-k.invariant.0 c.loop-k.invariant.1 (let b = unknown_bound _ c.requires.0 in omega arith)

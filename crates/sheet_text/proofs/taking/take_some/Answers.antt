@@ -16,12 +16,6 @@ loop-count-init c = (taking_none _ _ _ _ _ c.requires.0, omega arith, refl)
 pub piece_at-requires : goal.piece_at-requires
 piece_at-requires c = c.loop-count.invariant.0.within
 
-pub shape_of-history-in_default : goal.shape_of-history-in_default
-shape_of-history-in_default c = c.loop-count.invariant.2
-
-pub shape_of-out-in_default : goal.shape_of-out-in_default
-shape_of-out-in_default c = put_kept c.loop-count.invariant.0.lines
-
 pub returns-in_default : goal.returns-in_default
 returns-in_default c = taking_ends _ _ _ _ _ _ _ _ _ _ _ c.loop-count.invariant.0 c.loop-count.invariant.1 (λ l body size e.
     let tag = ap (tag_of the_type) (c.piece_at.ensures.answer ∙ e) in
@@ -50,12 +44,6 @@ loop-count-preserved c = (
   omega arith,
   c.hand_over-at.auto.0 ∙ c.loop-count.invariant.2,
 )
-
-pub shape_of-history : goal.shape_of-history
-shape_of-history c = c.loop-count.invariant.2
-
-pub shape_of-out : goal.shape_of-out
-shape_of-out c = put_kept c.loop-count.invariant.0.lines
 
 pub returns : goal.returns
 returns c = taking_ends _ _ _ _ _ _ _ _ _ _ _ c.loop-count.invariant.0 c.loop-count.invariant.1 (λ l. absurd (omega arith))

@@ -11,4 +11,4 @@ use Rattle.table_rows.proofs.nodes.set_node.Goals as goal
 pub returns : goal.returns
 returns c =
     let s = c.args in
-    part_written s.history.now c.put_node.new.0 9 384 (s.k * 6) (node_bytes (node_value s.x)) c.put_node.ensures (omega arith) (omega (arith, node_length (node_value s.x)))
+    part_written s.history.now c.put_node.new.nodes 9 384 (s.k * 6) (node_bytes (node_value s.x)) c.put_node.ensures (omega arith) (omega (arith, node_length (node_value s.x)))

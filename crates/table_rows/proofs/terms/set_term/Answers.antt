@@ -12,4 +12,4 @@ returns c =
     let s = c.args in
     let b = c.requires in
     let p = c.put_term in
-    part_written s.history.now p.new.0 393 1024 ((s.index.0 - 1) * 4) (word_bytes 4 s.t.0) p.ensures (omega arith) (omega (arith, word_bytes_length 4 s.t.0))
+    part_written s.history.now p.new.terms 393 1024 ((s.index.0 - 1) * 4) (word_bytes 4 s.t.0) p.ensures (omega arith) (omega (arith, word_bytes_length 4 s.t.0))

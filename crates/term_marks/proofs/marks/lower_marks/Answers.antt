@@ -2,7 +2,6 @@
 -- Assumes nothing.
 use Rattle.term_marks.proofs.MarkTurns.{lowering_starts, lowering_next, lowering_ends, lowering_none}
 use native.Mathlib.Omega.{arith}
-use mathlib.Core.Path.{sym, ◌∙◌}
 use Rattle.term_marks.proofs.marks.lower_marks.Goals as goal
 
 pub loop-k-init : goal.loop-k-init
@@ -15,9 +14,6 @@ election_term-requires c =
     let w = l.invariant.within in
     let t = c.loop-k-test.true in
     (omega arith, l.invariant.long)
-
-pub shape_of-history-then-election_term-term : goal.shape_of-history-then-election_term-term
-shape_of-history-then-election_term-term c = c.loop-k.invariant.long ∙ sym c.requires.2
 
 pub returns-then-election_term-term : goal.returns-then-election_term-term
 returns-then-election_term-term c =
@@ -37,9 +33,6 @@ loop-k-preserved c =
     let l = c.loop-k in
     let s = c.args in
     lowering_next s.history.now s.term.0 s.first.0 l.history l.k l.invariant c.loop-k-test.true _ c.election_term.ensures c.if-election_term-term.false _ c.lower_mark.ensures
-
-pub shape_of-history : goal.shape_of-history
-shape_of-history c = c.loop-k.invariant.long ∙ sym c.requires.2
 
 pub returns : goal.returns
 returns c =

@@ -14,4 +14,4 @@ returns c =
     let p = c.put_mark in
     let s = c.args in
     let f = c.requires in
-    part_written s.history.now p.new.0 1417 704 (s.k * 11 + 6) (word_bytes 2 s.mark.0) p.ensures (omega arith) (omega (arith, word_bytes_length 2 s.mark.0))
+    part_written s.history.now p.new.certificates 1417 704 (s.k * 11 + 6) (word_bytes 2 s.mark.0) p.ensures (omega arith) (omega (arith, word_bytes_length 2 s.mark.0))

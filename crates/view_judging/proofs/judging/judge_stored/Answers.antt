@@ -1,7 +1,7 @@
 -- `view_judging::judging::judge_stored` meets its contract.
 -- Assumes nothing.
 use Prim.Native.Nat.{ℕ, ◌≤◌}
-use mathlib.Core.Path.{sym, subst, ◌∙◌, ap}
+use mathlib.Core.Path.{sym, subst, ap}
 use native.Mathlib.Omega.{arith}
 use Rattle.record_walk.proofs.Walks.{here}
 use Rattle.prefix_lookup.proofs.StoredLaws.{stored_number, stored_nothing}
@@ -50,22 +50,13 @@ loop-here-preserved c =
     judging_next c.args.prefixes.now c.args.count c.args.view.now c.args.entries c.args.node.0 c.args.findings.now c.args.held c.loop-here.findings c.loop-here.here c.loop-here.n c.loop-here.invariant
     c.loop-here-test.true _ c.entry_at-e.ensures c.if-e-here.false _ x.0 x.1 _ c.is_other-differs.ensures _ _ c.note_other-n.ensures _ c.place_after-here.ensures
 
-pub shape_of-findings-after-loop-here : goal.shape_of-findings-after-loop-here
-shape_of-findings-after-loop-here c = let l = c in l.loop.invariant.room.long ∙ sym l.requires.3
-
 pub returns-after-loop-here : goal.returns-after-loop-here
 returns-after-loop-here c =
     judging_none c.args.prefixes.now c.args.count c.args.view.now c.args.entries c.args.node.0 c.args.findings.now c.args.held c.loop-here.findings c.loop-here.here c.loop-here.n c.loop-here.invariant c.loop-here-test.false
 
-pub shape_of-findings-then-e-here : goal.shape_of-findings-then-e-here
-shape_of-findings-then-e-here c = let l = c in l.loop.invariant.room.long ∙ sym l.requires.3
-
 pub returns-then-e-here : goal.returns-then-e-here
 returns-then-e-here c =
     judging_gap c.args.prefixes.now c.args.count c.args.view.now c.args.entries c.args.node.0 c.args.findings.now c.args.held c.loop-here.findings c.loop-here.here c.loop-here.n c.loop-here.invariant c.loop-here-test.true _ c.entry_at-e.ensures c.if-e-here.true
-
-pub shape_of-findings-in_default : goal.shape_of-findings-in_default
-shape_of-findings-in_default c = let l = c in l.loop.invariant.room.long ∙ sym l.requires.3
 
 pub returns-in_default : goal.returns-in_default
 returns-in_default c =

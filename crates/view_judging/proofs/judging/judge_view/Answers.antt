@@ -41,7 +41,7 @@ judge_stored-stored-requires c =
 pub judge_missing-lacking-requires : goal.judge_missing-lacking-requires
 judge_missing-lacking-requires c =
     let count = c.prefix_count-count.result in
-    let asked = judge-stored-requires c κs in
+    let asked = judge_stored-stored-requires c κs in
     let w = c.judge_stored-stored.ensures in
     let r = room_then _ _ _ _ _ (w.holds, w.table) (record { few = asked.2; long = asked.3 }) in (
       asked.0,
