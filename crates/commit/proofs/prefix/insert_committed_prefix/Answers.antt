@@ -12,18 +12,6 @@ use native.Mathlib.Omega.{arith}
 use mathlib.Core.Path.{◌≡◌, ap, sym, ◌∙◌}
 use Rattle.commit.proofs.prefix.insert_committed_prefix.Goals as goal
 
--- the end that is compared through, and which of the two is longer
-is-end : (c : goal.After-agree_through) → let s = c.args in c.earlier-end.result.0 ≡ end_in s.history.now s.committed.0 s.seen.0
-is-end c =
-    let s = c.args in
-    c.earlier-end.ensures
-    ∙ end_is s.history.now s.committed.0 s.seen.0 _ c.prefix_table-prefixes.ensures.is _ c.through-committed_end.ensures.is _ c.through-seen_end.ensures.is
-
-is-longer : (c : goal.After-agree_through) → let s = c.args in ltb c.through-committed_end.result.0 c.through-seen_end.result.0 ≡ longer_in s.history.now s.committed.0 s.seen.0
-is-longer c =
-    let s = c.args in
-    longer_is s.history.now s.committed.0 s.seen.0 _ c.prefix_table-prefixes.ensures.is _ c.through-committed_end.ensures.is _ c.through-seen_end.ensures.is
-
 pub prefix_table-prefixes-requires : goal.prefix_table-prefixes-requires
 prefix_table-prefixes-requires c = (formed _ c.requires.0).long
 
@@ -48,7 +36,7 @@ note_difference-requires c = let s = c in (s.requires.0, s.requires.1)
 pub returns-then-not-agree_through : goal.returns-then-not-agree_through
 returns-then-not-agree_through c =
     let s = c.args in
-    insert_differs s.history.now s.node.0 s.committed.0 s.seen.0 _ (is-end c) _ c.agree_through.ensures (c.if-not-agree_through.true) _ _ c.note_difference.ensures
+    insert_differs s.history.now s.node.0 s.committed.0 s.seen.0 _ (c.earlier-end.ensures ∙ end_is s.history.now s.committed.0 s.seen.0 _ c.prefix_table-prefixes.ensures.is _ c.through-committed_end.ensures.is _ c.through-seen_end.ensures.is) _ c.agree_through.ensures (c.if-not-agree_through.true) _ _ c.note_difference.ensures
 
 pub owner-former-requires : goal.owner-former-requires
 owner-former-requires c = let l = (formed _ c.requires.0).long in omega arith
@@ -65,11 +53,11 @@ set_committed-requires c =
 pub returns-then-committed_end-seen_end : goal.returns-then-committed_end-seen_end
 returns-then-committed_end-seen_end c =
     let s = c.args in
-    insert_longer s.history.now s.node.0 s.committed.0 s.seen.0 _ (is-end c) _ c.agree_through.ensures (c.if-not-agree_through.false) _ _ c.owner-former.ensures.is c.flags-sum.ensures _ c.set_unseen.ensures
-    (sym (is-longer c) ∙ lt-ltb _ _ c.if-committed_end-seen_end.true) _ c.set_committed.ensures
+    insert_longer s.history.now s.node.0 s.committed.0 s.seen.0 _ (c.earlier-end.ensures ∙ end_is s.history.now s.committed.0 s.seen.0 _ c.prefix_table-prefixes.ensures.is _ c.through-committed_end.ensures.is _ c.through-seen_end.ensures.is) _ c.agree_through.ensures (c.if-not-agree_through.false) _ _ c.owner-former.ensures.is c.flags-sum.ensures _ c.set_unseen.ensures
+    (sym (longer_is s.history.now s.committed.0 s.seen.0 _ c.prefix_table-prefixes.ensures.is _ c.through-committed_end.ensures.is _ c.through-seen_end.ensures.is) ∙ lt-ltb _ _ c.if-committed_end-seen_end.true) _ c.set_committed.ensures
 
 pub returns-else-committed_end-seen_end : goal.returns-else-committed_end-seen_end
 returns-else-committed_end-seen_end c =
     let s = c.args in
-    insert_shorter s.history.now s.node.0 s.committed.0 s.seen.0 _ (is-end c) _ c.agree_through.ensures (c.if-not-agree_through.false) _ _ c.owner-former.ensures.is c.flags-sum.ensures _ c.set_unseen.ensures
-    (sym (is-longer c) ∙ le-ltb _ _ c.if-committed_end-seen_end.false)
+    insert_shorter s.history.now s.node.0 s.committed.0 s.seen.0 _ (c.earlier-end.ensures ∙ end_is s.history.now s.committed.0 s.seen.0 _ c.prefix_table-prefixes.ensures.is _ c.through-committed_end.ensures.is _ c.through-seen_end.ensures.is) _ c.agree_through.ensures (c.if-not-agree_through.false) _ _ c.owner-former.ensures.is c.flags-sum.ensures _ c.set_unseen.ensures
+    (sym (longer_is s.history.now s.committed.0 s.seen.0 _ c.prefix_table-prefixes.ensures.is _ c.through-committed_end.ensures.is _ c.through-seen_end.ensures.is) ∙ le-ltb _ _ c.if-committed_end-seen_end.false)

@@ -7,5 +7,5 @@ use Rattle.committed_prefix.proofs.committed.set_unseen.Goals as goal
 pub returns : goal.returns
 returns c =
     let s = c.args in
-    let x = c.Node-at in
+    let x = c.node_at-x in
     unseen_is s.history.now s.node.0 _ c.node_table.ensures.is (node_value x.result) x.ensures s.mark.0 _ c.set_node.ensures

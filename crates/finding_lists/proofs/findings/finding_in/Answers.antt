@@ -2,7 +2,6 @@
 -- Assumes nothing.
 use Prim.Native.Nat.{◌+◌, ◌-◌}
 use mathlib.Core.Path.{ap, sym, ◌∙◌}
-use mathlib.Core.Logic.{⊎_elim}
 use native.Mathlib.Omega.{arith}
 use mathlib.Core.List.{List}
 use borrow.Author.Count.{falls}
@@ -13,6 +12,7 @@ use Rattle.storage_bytes.proofs.ListLaws.{from_zero}
 use Rattle.finding_lists.specs.Findings.{count_first, finding_of, pick_ordered}
 use Rattle.finding_lists.proofs.OrderLaws.{order_here, order_behind, order_front, order_none}
 use Rattle.finding_lists.proofs.findings.finding_in.Goals as goal
+use Rattle.finding_lists.proofs.findings.finding_in.Goals.{then-p-left, else-p-left}
 
 pub loop-k-init : goal.loop-k-init
 loop-k-init c =
@@ -35,10 +35,10 @@ loop-k-preserved c =
     let t = c.loop-k-test.true in
     let e = (c.count_first-p.ensures ∙ ap (λ (x : Finding). count_first x (tabulate (finding_row s.findings.now) (c.loop-k.k + 1) (s.m - (c.loop-k.k + 1)))) c.finding_at-f.ensures) in (
       omega arith,
-      ⊎_elim
-          (λ w. order_behind (finding_row s.findings.now) c.loop-k.k s.m c.loop-k.left _ c.loop-k.invariant.1 t e c.if-left-p.false w.0.taken w.1)
-          (λ w. order_front (finding_row s.findings.now) c.loop-k.k s.m c.loop-k.left _ c.loop-k.invariant.1 t e c.if-left-p.false w.0.left w.1)
-          c.if-p-left.branch,
+      elim c.if-p-left.branch [
+        | then-p-left w ↦ order_behind (finding_row s.findings.now) c.loop-k.k s.m c.loop-k.left _ c.loop-k.invariant.1 t e c.if-left-p.false w.if-p-left.true w.left-is
+        | else-p-left w ↦ order_front (finding_row s.findings.now) c.loop-k.k s.m c.loop-k.left _ c.loop-k.invariant.1 t e c.if-left-p.false w.if-p-left.false w.left-is
+      ],
     )
 
 pub returns : goal.returns

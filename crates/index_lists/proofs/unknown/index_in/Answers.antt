@@ -2,7 +2,6 @@
 -- Assumes nothing.
 use Prim.Native.Nat.{ℕ, ◌+◌, ◌-◌}
 use mathlib.Core.Path.{◌≡◌, ap, sym, ◌∙◌}
-use mathlib.Core.Logic.{⊎_elim}
 use native.Mathlib.Omega.{arith}
 use borrow.Author.Count.{falls}
 use Rattle.index_lists.specs.declared.unknown.UnknownAnswer.{UnknownAnswer}
@@ -10,6 +9,7 @@ use Rattle.index_lists.specs.Picked.{pick_from}
 use Rattle.index_lists.specs.Unknown.{is_known, index_of, index_in}
 use Rattle.index_lists.proofs.PickLaws.{pick_over, pick_here, pick_later, pick_none}
 use Rattle.index_lists.proofs.unknown.index_in.Goals as goal
+use Rattle.index_lists.proofs.unknown.index_in.Goals.{then-not-is_known+else-left-eq0, else-not-is_known}
 
 pub loop-i-init : goal.loop-i-init
 unfolding index_in
@@ -23,7 +23,7 @@ pub returns-then-left-eq0 : goal.returns-then-left-eq0
 returns-then-left-eq0 c =
     let s = c.args in
     sym (pick_here (is_known s.terms.now s.count) (λ j. index_of (j + 1)) UnknownAnswer.NoMore c.loop-i.i s.m c.loop-i.left c.loop-i.invariant.1
-    c.loop-i-test.true (sym c.is_Known.ensures ∙ c.if-not-is_known.true) c.if-left-eq0.true)
+    c.loop-i-test.true (sym c.is_known.ensures ∙ c.if-not-is_known.true) c.if-left-eq0.true)
 
 pub loop-i-smaller : goal.loop-i-smaller
 loop-i-smaller c = falls _ _ c.loop-i-test.true
@@ -32,12 +32,12 @@ pub loop-i-preserved : goal.loop-i-preserved
 loop-i-preserved c =
     let s = c.args in (
       omega arith,
-      ⊎_elim
-          (λ w. pick_later (is_known s.terms.now s.count) (λ j. index_of (j + 1)) UnknownAnswer.NoMore c.loop-i.i s.m c.loop-i.left c.loop-i.invariant.1
-          c.loop-i-test.true (sym c.is_Known.ensures ∙ w.0.taken) w.1.left w.2)
-          (λ w. pick_over (is_known s.terms.now s.count) (λ j. index_of (j + 1)) UnknownAnswer.NoMore c.loop-i.i s.m c.loop-i.left c.loop-i.invariant.1
-          c.loop-i-test.true (sym c.is_Known.ensures ∙ w.0.left) w.1)
-          c.if-not-is_known.branch,
+      elim c.if-not-is_known.branch [
+        | then-not-is_known+else-left-eq0 w ↦ pick_later (is_known s.terms.now s.count) (λ j. index_of (j + 1)) UnknownAnswer.NoMore c.loop-i.i s.m c.loop-i.left c.loop-i.invariant.1
+            c.loop-i-test.true (sym c.is_known.ensures ∙ w.if-not-is_known.true) w.if-left-eq0.false w.left-is
+        | else-not-is_known w ↦ pick_over (is_known s.terms.now s.count) (λ j. index_of (j + 1)) UnknownAnswer.NoMore c.loop-i.i s.m c.loop-i.left c.loop-i.invariant.1
+            c.loop-i-test.true (sym c.is_known.ensures ∙ w.if-not-is_known.false) w.left-is
+      ],
     )
 
 pub returns : goal.returns

@@ -2,9 +2,8 @@
 -- Assumes nothing.
 use Prim.Native.Nat.{ℕ, ◌-◌, ◌≤◌}
 use mathlib.Core.Path.{refl, sym, ◌∙◌, subst}
-use mathlib.Core.Logic.{⊎_elim}
 use borrow.Author.Count.{falls}
-use borrow.Author.Tests.{eq-eqb, ne_eqb, eqb-true, eqb-false}
+use borrow.Author.Tests.{eq-eqb, ne_eqb}
 use borrow.Author.Rules.{rules}
 use native.Mathlib.Omega.{arith}
 use native.Mathlib.Nat.{le_refl}
@@ -15,6 +14,7 @@ use Rattle.prefix_lookup.proofs.TableLaws.{table_parent, table_size}
 use Rattle.prefix_lookup.proofs.Loops.{place_before, parent_within, parent_below, content_within}
 use Rattle.log_comparison.proofs.Turns.{compare_equal, compare_first_empty, compare_second_empty, compare_differs, compare_next, entry_term, entry_size, entry_content}
 use Rattle.log_comparison.proofs.comparison.same_prefix.Goals as goal
+use Rattle.log_comparison.proofs.comparison.same_prefix.Goals.{else-entries-test, then-entries-test+then-p-eq0, then-p-eq0-via-then-p-eq0, then-p-eq0-via-else-p-eq0+then-q-eq0, then-entries-test+else-p-eq0+else-q-eq0+then-term_at, then-term_at-via-then-term_at, then-term_at-via-else-term_at+then-n-size_at, then-entries-test+else-p-eq0+else-q-eq0+else-term_at+else-n-size_at+then-loop-k-test+then-prefixes-x}
 
 pub entries-init : goal.entries-init
 entries-init c =
@@ -22,7 +22,7 @@ entries-init c =
 
 pub overflow_sub-j : goal.overflow_sub-j
 overflow_sub-j c =
-    let z = eqb-false c.entries.q.0 0 c.if-q-eq0.false in
+    let z = c.if-q-eq0.false in
     omega arith
 
 pub loop-k-init : goal.loop-k-init
@@ -33,8 +33,8 @@ loop-k-init c =
     subst (λ (m : ℕ). m ≤ 32) (sym c.size_at-n.ensures.is) (table_size t c.entries.invariant.0 (c.entries.p.0 - 1) c.entries.invariant.1 first) in (
       search rules,
       content_within t c.entries.invariant.1.long c.entries.invariant.1.fits first short,
-      content_within t c.entries.invariant.1.long c.entries.invariant.1.fits (place_before c.entries.invariant.3 (eqb-false _ _ c.if-q-eq0.false)) short,
-      entry_content t _ _ _ _ _ _ c.term_at.ensures c.term_at-in-entries.ensures c.if-term_at.false c.size_at-n.ensures.is c.size_at.ensures.is (eqb-true _ _ (c.if-n-size_at.false)) short,
+      content_within t c.entries.invariant.1.long c.entries.invariant.1.fits (place_before c.entries.invariant.3 c.if-q-eq0.false) short,
+      entry_content t _ _ _ _ _ _ c.term_at.ensures c.term_at-in-entries.ensures c.if-term_at.false c.size_at-n.ensures.is c.size_at.ensures.is c.if-n-size_at.false short,
     )
 
 pub loop-k-smaller : goal.loop-k-smaller
@@ -59,7 +59,7 @@ pub entries-preserved : goal.entries-preserved
 entries-preserved c =
     let t = c.args.prefixes.now in
     let some = c.if-p-eq0.false in
-    let some-2 = eqb-false _ _ c.if-q-eq0.false in
+    let some-2 = c.if-q-eq0.false in
     let pa = table_parent t c.entries.invariant.0 (c.entries.p.0 - 1) c.entries.invariant.1 (place_before c.entries.invariant.2 some) in
     let qa = table_parent t c.entries.invariant.0 (c.entries.q.0 - 1) c.entries.invariant.1 (place_before c.entries.invariant.3 some-2) in
     let ea = c.parent_at-p.ensures.is in
@@ -79,13 +79,20 @@ returns c =
     let p = c.entries.p.0 in
     let q = c.entries.q.0 in
     let v = c.entries.invariant.4 in
-    ⊎_elim (λ w. eq-eqb p q w.left ∙ sym (compare_equal (prefix_row t) p q v w.left))
-    (⊎_elim (λ w. ne_eqb p q w.0.taken ∙ sym
-    (⊎_elim (λ u. compare_first_empty (prefix_row t) p q v w.0.taken u.taken)
-    (λ u. compare_second_empty (prefix_row t) p q v w.0.taken u.0.left (eqb-true _ _ u.2.taken)) w.2.came))
-    (⊎_elim (λ w. ne_eqb p q w.0.taken ∙ sym (compare_differs (prefix_row t) p q v w.0.taken w.2.left (eqb-false _ _ w.4.left)
-    (⊎_elim (λ u. entry_term t _ _ _ _ 0 0 w.8.ensures w.9.ensures u.taken)
-    (λ u. entry_size t _ _ _ _ _ _ w.8.ensures w.9.ensures u.0.left w.7.ensures.is u.1.ensures.is (eqb-false _ _ (u.2.taken))) w.12.came)))
-    (λ w. ne_eqb p q w.0.taken ∙ sym (compare_differs (prefix_row t) p q v w.0.taken w.2.left (eqb-false _ _ w.4.left)
-    (same_stop t t _ _ _ w.15.k w.15.inv.3 w.16.taken w.19.taken)))))
-    c.entries-test.branch
+    elim c.entries-test.branch [
+      | else-entries-test w ↦ eq-eqb p q w.entries-test.false ∙ sym (compare_equal (prefix_row t) p q v w.entries-test.false)
+      | then-entries-test+then-p-eq0 w ↦ ne_eqb p q w.entries-test.true ∙ sym
+          (elim w.then-p-eq0.branch [
+            | then-p-eq0-via-then-p-eq0 u ↦ compare_first_empty (prefix_row t) p q v w.entries-test.true u.if-p-eq0.true
+            | then-p-eq0-via-else-p-eq0+then-q-eq0 u ↦ compare_second_empty (prefix_row t) p q v w.entries-test.true u.if-p-eq0.false u.if-q-eq0.true
+          ])
+      | then-entries-test+else-p-eq0+else-q-eq0+then-term_at w ↦ ne_eqb p q w.entries-test.true ∙ sym
+          (compare_differs (prefix_row t) p q v w.entries-test.true w.if-p-eq0.false w.if-q-eq0.false
+          (elim w.then-term_at.branch [
+            | then-term_at-via-then-term_at u ↦ entry_term t _ _ _ _ 0 0 w.term_at.ensures w.term_at-in-entries.ensures u.if-term_at.true
+            | then-term_at-via-else-term_at+then-n-size_at u ↦ entry_size t _ _ _ _ _ _ w.term_at.ensures w.term_at-in-entries.ensures u.if-term_at.false w.size_at-n.ensures.is u.size_at.ensures.is u.if-n-size_at.true
+          ]))
+      | then-entries-test+else-p-eq0+else-q-eq0+else-term_at+else-n-size_at+then-loop-k-test+then-prefixes-x w ↦ ne_eqb p q w.entries-test.true ∙ sym
+          (compare_differs (prefix_row t) p q v w.entries-test.true w.if-p-eq0.false w.if-q-eq0.false
+          (same_stop t t _ _ _ w.loop-k.k w.loop-k.invariant.3 w.loop-k-test.true w.if-prefixes-x.true))
+    ]

@@ -2,23 +2,40 @@
 -- Assumes nothing.
 use mathlib.Core.Path.{◌≡◌, ◌∙◌}
 use mathlib.Core.Bool.{◌&&◌}
-use mathlib.Core.Logic.{⊎_elim}
 use lib.Dec.{eqb}
 use borrow.Author.Tests.{eq-eqb, ne_eqb}
 use Rattle.log_violation.proofs.ViolationLaws.{name_decides, one_differs}
 use Rattle.log_violation.proofs.violation.is_finding.Goals as goal
-
-same_term : (c : tie.Joined1) → let g = c.finding_at-g.result in let f = c.args.f in c.if-g-f.if2 ≡ (eqb g.index.0 f.index.0 && eqb g.term.0 f.term.0)
-same_term c =
-    ⊎_elim (λ w. rw (eq-eqb _ _ w.0.taken) w.3) (λ w. rw (ne_eqb _ _ w.0.left) (w.1 ∙ ne_eqb _ _ w.0.left)) c.if-g-f.branch
-
-same-node : (c : tie.Joined2) → c.if-g-f-2.if3 ≡ (c.if-g-f.if2 && eqb c.finding_at-g.result.node.0 c.args.f.node.0)
-same-node c = ⊎_elim (λ w. rw w.0.taken w.3) (λ w. rw w.0.left (w.1 ∙ w.0.left)) c.if-g-f-2.branch
+use Rattle.log_violation.proofs.violation.is_finding.Goals.{then-g-f, else-g-f, then-g-f-2, else-g-f-2}
 
 pub returns-then-g-f-3 : goal.returns-then-g-f-3
 returns-then-g-f-3 c =
-    name_decides _ _ _ c.finding_at-g.ensures (same_term c) (same-node c) c.if-g-f-3.true
+    let g = c.finding_at-g.result in
+    let f = c.args.f in
+    let two : c.if-g-f.t-7 ≡ (eqb g.index.0 f.index.0 && eqb g.term.0 f.term.0) =
+    elim c.if-g-f.branch [
+      | then-g-f w ↦ rw (eq-eqb _ _ w.if-g-f.true) w.t-7-is
+      | else-g-f w ↦ rw (ne_eqb _ _ w.if-g-f.false) (w.t-7-is ∙ ne_eqb _ _ w.if-g-f.false)
+    ] in
+    let three : c.if-g-f-2.t-6 ≡ (c.if-g-f.t-7 && eqb g.node.0 f.node.0) =
+    elim c.if-g-f-2.branch [
+      | then-g-f-2 w ↦ rw w.if-g-f-2.true-raw w.t-6-is
+      | else-g-f-2 w ↦ rw w.if-g-f-2.false-raw (w.t-6-is ∙ w.if-g-f-2.false-raw)
+    ] in
+    name_decides _ _ _ c.finding_at-g.ensures two three c.if-g-f-3.true-raw
 
 pub returns-else-g-f-3 : goal.returns-else-g-f-3
 returns-else-g-f-3 c =
-    one_differs _ _ _ c.finding_at-g.ensures (same_term c) (same-node c) c.if-g-f-3.false
+    let g = c.finding_at-g.result in
+    let f = c.args.f in
+    let two : c.if-g-f.t-7 ≡ (eqb g.index.0 f.index.0 && eqb g.term.0 f.term.0) =
+    elim c.if-g-f.branch [
+      | then-g-f w ↦ rw (eq-eqb _ _ w.if-g-f.true) w.t-7-is
+      | else-g-f w ↦ rw (ne_eqb _ _ w.if-g-f.false) (w.t-7-is ∙ ne_eqb _ _ w.if-g-f.false)
+    ] in
+    let three : c.if-g-f-2.t-6 ≡ (c.if-g-f.t-7 && eqb g.node.0 f.node.0) =
+    elim c.if-g-f-2.branch [
+      | then-g-f-2 w ↦ rw w.if-g-f-2.true-raw w.t-6-is
+      | else-g-f-2 w ↦ rw w.if-g-f-2.false-raw (w.t-6-is ∙ w.if-g-f-2.false-raw)
+    ] in
+    one_differs _ _ _ c.finding_at-g.ensures two three c.if-g-f-3.false-raw

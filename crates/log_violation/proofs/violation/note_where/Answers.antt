@@ -1,6 +1,5 @@
 -- `log_violation::violation::note_where` meets its contract.
 -- Assumes nothing.
-use borrow.Author.Tests.{not-true, not-false}
 use Rattle.table_rows.specs.Values.{finding_value}
 use Rattle.log_violation.proofs.ViolationLaws.{where_not, where_noted}
 use Rattle.log_violation.proofs.violation.note_where.Goals as goal
@@ -8,9 +7,9 @@ use Rattle.log_violation.proofs.violation.note_where.Goals as goal
 pub returns-then-not-told : goal.returns-then-not-told
 returns-then-not-told c =
     let s = c.args in
-    where_not s.told (finding_value s.f) s.findings.now s.n (not-true s.told c.if-not-told.true)
+    where_not s.told (finding_value s.f) s.findings.now s.n (c.if-not-told.true)
 
 pub returns : goal.returns
 returns c =
     let s = c.args in
-    where_noted s.told (finding_value s.f) s.findings.now s.n (not-false s.told c.if-not-told.false) _ _ c.note.ensures
+    where_noted s.told (finding_value s.f) s.findings.now s.n (c.if-not-told.false) _ _ c.note.ensures

@@ -23,7 +23,7 @@ pub slice_through-requires : goal.slice_through-requires
 slice_through-requires c =
     let h = c.args.history.now in
     let f = formed h c.requires.0 in
-    let x = c.Node-at in (
+    let x = c.node_at-x in (
       word_at h 0 2,
       table_lent h _ _ f c.prefix_table.ensures.is refl,
       front_within h c.args.node.0 _ c.node_table.ensures.is (node_value x.result) x.ensures f c.requires.1,
@@ -32,6 +32,6 @@ slice_through-requires c =
 pub returns : goal.returns
 returns c =
     let s = c.args in
-    let x = c.Node-at in
+    let x = c.node_at-x in
     through_is s.history.now s.node.0 _ c.node_table.ensures.is (node_value x.result) x.ensures _ c.prefix_table.ensures.is s.index.0 _
     c.slice_through.ensures

@@ -25,9 +25,6 @@ returns-then-size_at-n c =
     c.parent_at.ensures.is c.if-parent_at-p.false c.term_at.ensures c.if-term_at-e.false
     c.size_at.ensures.is c.if-size_at-n.true
 
-pub same_bytes-requires : goal.same_bytes-requires
-same_bytes-requires c = (search rules, omega (arith, slice_bounds-same_bytes-end c))
-
 pub returns : goal.returns
 returns c =
     let s = c.args in

@@ -54,10 +54,10 @@ returns-in_default c =
     told _ _ (rw (
       c.field.ensures,
       c.in-Is.is,
-      ne_eqb _ 1 c.in-1.rest.0.0.0.0.0.1,
-      ne_eqb _ 2 c.in-1.rest.0.0.0.0.1,
-      ne_eqb _ 3 c.in-1.rest.0.0.0.1,
-      ne_eqb _ 4 c.in-1.rest.0.0.1,
-      ne_eqb _ 5 c.in-1.rest.0.1,
-      ne_eqb _ 6 c.in-1.rest.1,
+      ne_eqb _ 1 c.in_default.in_default-own.rest.0.0.0.0.0.1,
+      ne_eqb _ 2 c.in_default.in_default-own.rest.0.0.0.0.1,
+      ne_eqb _ 3 c.in_default.in_default-own.rest.0.0.0.1,
+      ne_eqb _ 4 c.in_default.in_default-own.rest.0.0.1,
+      ne_eqb _ 5 c.in_default.in_default-own.rest.0.1,
+      ne_eqb _ 6 c.in_default.in_default-own.rest.1,
     ))

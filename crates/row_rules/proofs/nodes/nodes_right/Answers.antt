@@ -16,7 +16,7 @@ returns-then-not-node_right c =
     let s = c.args in
     sym
     (every_stop (node_right s.n) (row_of_node s.nodes.now) c.loop-k.k 64 c.loop-k.invariant.1 c.loop-k-test.true
-    (ap (node_right s.n) (sym c.Node-at.ensures) ∙ sym c.node_right.ensures ∙ c.if-not-node_right.true))
+    (ap (node_right s.n) (sym c.node_at-x.ensures) ∙ sym c.node_right.ensures ∙ c.if-not-node_right.true))
 
 pub loop-k-smaller : goal.loop-k-smaller
 loop-k-smaller c = falls _ _ c.loop-k-test.true
@@ -26,7 +26,7 @@ loop-k-preserved c =
     let s = c.args in (
       omega arith,
       every_next (node_right s.n) (row_of_node s.nodes.now) c.loop-k.k 64 c.loop-k.invariant.1 c.loop-k-test.true
-          (ap (node_right s.n) (sym c.Node-at.ensures) ∙ sym c.node_right.ensures ∙ c.if-not-node_right.false),
+          (ap (node_right s.n) (sym c.node_at-x.ensures) ∙ sym c.node_right.ensures ∙ c.if-not-node_right.false),
     )
 
 pub returns : goal.returns

@@ -1,16 +1,11 @@
 -- `rules::whole::well_formed` meets its contract: the code tests the rules in the order of `rules_in_turn`.
 -- Assumes nothing.
-use Rattle.storage.proofs.RuleLaws.{within, Limited, stop, pass}
+use Rattle.storage.proofs.RuleLaws.{within, stop, pass}
 use Rattle.rules.proofs.Turns.{wrong_length, rules_in_turn}
-use Rattle.storage_bytes.specs.Words.{word_at}
 use Prim.Native.Nat.{◌≤◌}
 use mathlib.Core.Path.{refl, sym, ◌∙◌}
 use native.Mathlib.Omega.{arith}
 use Rattle.rules.proofs.whole.well_formed.Goals as goal
-
--- the counts are within the limits once they have been tested
-limits : (c : tie.Else2) → let head = c.part-head.result.now in Limited (word_at head 0 2) (word_at head 2 2) (word_at head 6 1) (word_at head 7 1)
-limits c = within _ _ _ _ (sym c.within_limits.ensures ∙ c.if-not-within_limits.false)
 
 pub returns-then-history-ne-HISTORY_LENGTH : goal.returns-then-history-ne-HISTORY_LENGTH
 returns-then-history-ne-HISTORY_LENGTH c = sym (wrong_length c.args.history.now c.if-history-ne-HISTORY_LENGTH.true)
@@ -41,7 +36,7 @@ returns-then-not-nodes_right c =
 
 pub certificates_right-requires : goal.certificates_right-requires
 certificates_right-requires c =
-    let m : c.certificate_count-m.result ≤ 64 = omega (arith, (limits c).certificates, c.certificate_count-m.ensures.is) in
+    let m : c.certificate_count-m.result ≤ 64 = omega (arith, (within _ _ _ _ (sym c.within_limits.ensures ∙ c.if-not-within_limits.false)).certificates, c.certificate_count-m.ensures.is) in
     (m, c.certificate_table-certificates.ensures.long)
 
 pub returns-then-not-certificates_right : goal.returns-then-not-certificates_right
@@ -56,7 +51,7 @@ returns-then-not-certificates_right c =
 
 pub numbered-requires : goal.numbered-requires
 numbered-requires c =
-    let m : c.certificate_count-m.result ≤ 64 = omega (arith, (limits c).certificates, c.certificate_count-m.ensures.is) in
+    let m : c.certificate_count-m.result ≤ 64 = omega (arith, (within _ _ _ _ (sym c.within_limits.ensures ∙ c.if-not-within_limits.false)).certificates, c.certificate_count-m.ensures.is) in
     (m, c.certificate_table-certificates.ensures.long)
 
 pub returns-then-not-numbered : goal.returns-then-not-numbered
@@ -72,7 +67,7 @@ returns-then-not-numbered c =
 
 pub findings_right-requires : goal.findings_right-requires
 findings_right-requires c =
-    let m : c.finding_count.result ≤ 128 = omega (arith, (limits c).findings, c.finding_count.ensures.is) in
+    let m : c.finding_count.result ≤ 128 = omega (arith, (within _ _ _ _ (sym c.within_limits.ensures ∙ c.if-not-within_limits.false)).findings, c.finding_count.ensures.is) in
     (m, c.finding_table.ensures.long)
 
 pub returns-then-not-findings_right : goal.returns-then-not-findings_right
@@ -89,7 +84,7 @@ returns-then-not-findings_right c =
 
 pub prefixes_right-requires : goal.prefixes_right-requires
 prefixes_right-requires c =
-    let m : c.prefix_count-n.result ≤ 512 = omega (arith, (limits c).prefixes, c.prefix_count-n.ensures.is) in
+    let m : c.prefix_count-n.result ≤ 512 = omega (arith, (within _ _ _ _ (sym c.within_limits.ensures ∙ c.if-not-within_limits.false)).prefixes, c.prefix_count-n.ensures.is) in
     (m, c.prefix_table.ensures.long)
 
 pub returns : goal.returns

@@ -15,13 +15,13 @@ pub loop-k-init : goal.loop-k-init
 loop-k-init c = (listed_none leaders 49 (leader_list (decode c.args.history.now)) _ _, omega arith)
 
 pub returns-in_default : goal.returns-in_default
-returns-in_default c = listed_end leaders 49 _ _ _ _ _ _ c.loop-k.invariant.0 c.loop-k.invariant.1 (sym c.in_default.is ∙ c.leader_at.ensures ∙ leaders_told _ _ _ (stand _ c.requires.0))
+returns-in_default c = listed_end leaders 49 _ _ _ _ _ _ c.loop-k.invariant.0 c.loop-k.invariant.1 (sym c.in_default.is ∙ c.leader_at.ensures ∙ leaders_told _ _ _ (stand _ c.requires.history_value))
 
 pub put_leader-at-requires : goal.put_leader-at-requires
 put_leader-at-requires c = let p = c.loop-k.invariant.0 in omega (arith, put_kept p)
 
 pub loop-k-preserved : goal.loop-k-preserved
-loop-k-preserved c = (listed_next leaders 49 _ _ _ _ _ _ _ _ _ c.loop-k.invariant.0 (sym c.in-Leader.is ∙ c.leader_at.ensures ∙ leaders_told _ _ _ (stand _ c.requires.0)) c.put_leader-at.ensures, omega arith)
+loop-k-preserved c = (listed_next leaders 49 _ _ _ _ _ _ _ _ _ c.loop-k.invariant.0 (sym c.in-Leader.is ∙ c.leader_at.ensures ∙ leaders_told _ _ _ (stand _ c.requires.history_value)) c.put_leader-at.ensures, omega arith)
 
 pub returns : goal.returns
-returns c = let k : c.loop-k.k ≡ 256 = omega (arith, c.loop-k.invariant.1) in listed_all leaders 49 _ _ _ _ _ _ c.loop-k.invariant.0 c.loop-k.invariant.1 (let b = leaders_bound _ c.requires.0 in omega arith)
+returns c = let k : c.loop-k.k ≡ 256 = omega (arith, c.loop-k.invariant.1) in listed_all leaders 49 _ _ _ _ _ _ c.loop-k.invariant.0 c.loop-k.invariant.1 (let b = leaders_bound _ c.requires.history_value in omega arith)

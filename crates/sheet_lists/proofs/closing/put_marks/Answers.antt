@@ -15,13 +15,13 @@ pub loop-k-init : goal.loop-k-init
 loop-k-init c = (listed_none marks 49 (unseen_list (decode c.args.history.now)) _ _, omega arith)
 
 pub returns-in_default : goal.returns-in_default
-returns-in_default c = listed_end marks 49 _ _ _ _ _ _ c.loop-k.invariant.0 c.loop-k.invariant.1 (sym c.in_default.is ∙ c.unseen_at.ensures ∙ unseen_told _ _ _ (stand _ c.requires.0))
+returns-in_default c = listed_end marks 49 _ _ _ _ _ _ c.loop-k.invariant.0 c.loop-k.invariant.1 (sym c.in_default.is ∙ c.unseen_at.ensures ∙ unseen_told _ _ _ (stand _ c.requires.history_value))
 
 pub put_unseen-at-requires : goal.put_unseen-at-requires
 put_unseen-at-requires c = let p = c.loop-k.invariant.0 in omega (arith, put_kept p)
 
 pub loop-k-preserved : goal.loop-k-preserved
-loop-k-preserved c = (listed_next marks 49 _ _ _ _ _ _ _ _ _ c.loop-k.invariant.0 (sym c.in-Mark.is ∙ c.unseen_at.ensures ∙ unseen_told _ _ _ (stand _ c.requires.0)) c.put_unseen-at.ensures, omega arith)
+loop-k-preserved c = (listed_next marks 49 _ _ _ _ _ _ _ _ _ c.loop-k.invariant.0 (sym c.in-Mark.is ∙ c.unseen_at.ensures ∙ unseen_told _ _ _ (stand _ c.requires.history_value)) c.put_unseen-at.ensures, omega arith)
 
 pub returns : goal.returns
-returns c = let k : c.loop-k.k ≡ 256 = omega (arith, c.loop-k.invariant.1) in listed_all marks 49 _ _ _ _ _ _ c.loop-k.invariant.0 c.loop-k.invariant.1 (let b = unseen_bound _ c.requires.0 in omega arith)
+returns c = let k : c.loop-k.k ≡ 256 = omega (arith, c.loop-k.invariant.1) in listed_all marks 49 _ _ _ _ _ _ c.loop-k.invariant.0 c.loop-k.invariant.1 (let b = unseen_bound _ c.requires.history_value in omega arith)

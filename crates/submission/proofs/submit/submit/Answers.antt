@@ -7,14 +7,14 @@ use Rattle.submission.proofs.submit.submit.Goals as goal
 pub returns-then-not-well_formed : goal.returns-then-not-well_formed
 returns-then-not-well_formed c =
     let a = c.args in
-    broken a.history.now a.s.now (sym c.well-formed-2.ensures ∙ c.if-not-well_formed.true)
+    broken a.history.now a.s.now (sym c.well_formed-2.ensures ∙ c.if-not-well_formed.true)
 
 pub dispatch-requires : goal.dispatch-requires
 dispatch-requires c =
-    (sym c.well-formed-2.ensures ∙ c.if-not-well_formed.false, c.read-head.ensures)
+    (sym c.well_formed-2.ensures ∙ c.if-not-well_formed.false, c.read-head.ensures)
 
 pub returns : goal.returns
 returns c =
     let a = c.args in
-    taken a.history.now a.s.now _ _ _ (sym c.well-formed-2.ensures ∙ c.if-not-well_formed.false)
+    taken a.history.now a.s.now _ _ _ (sym c.well_formed-2.ensures ∙ c.if-not-well_formed.false)
     c.read-head.ensures c.dispatch.ensures

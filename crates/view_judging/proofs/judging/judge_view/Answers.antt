@@ -41,10 +41,13 @@ judge_stored-stored-requires c =
 pub judge_missing-lacking-requires : goal.judge_missing-lacking-requires
 judge_missing-lacking-requires c =
     let count = c.prefix_count-count.result in
-    let asked = judge_stored-stored-requires c κs in
+    let h = c.args.history.now in
+    let right = c.requires.0.right in
+    let held = c.copy_findings-held.ensures.0 in
+    let few = (formed h right).findings in
     let w = c.judge_stored-stored.ensures in
-    let r = room_then _ _ _ _ _ (w.holds, w.table) (record { few = asked.2; long = asked.3 }) in (
-      asked.0,
+    let r = room_then _ _ _ _ _ (w.holds, w.table) (record { few = omega arith; long = ap length c.copy_findings-held.ensures.1 ∙ findings_long h right }) in (
+      table_lent h _ _ (formed h right) c.prefix_table-prefixes.ensures.is c.prefix_count-count.ensures.is,
       subst (Stand c.args.view.now count) (sym w.place) (place_stands _ count c.args.view.now c.args.entries first_entry 1 0 (first_stands c.args.view.now count c.args.entries c.requires.0.walk)),
       r.few,
       r.long,
