@@ -2,7 +2,7 @@
 //!
 //! Build and run from the repository's root:
 //!     (cd crates/records_bench && rt lib)
-//!     rustc -O -L crates/records_bench/out -o target/bench_records bench/records.rs && target/bench_records
+//!     mkdir -p target && rustc -O -L crates/records_bench/out -o target/bench_records bench/records.rs && target/bench_records
 use std::hint::black_box;
 use std::time::Instant;
 
