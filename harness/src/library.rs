@@ -1,6 +1,6 @@
 //! The library `history` behind the same trait as the model.
 //!
-//! It is linked where `rt staticlib history` has left
+//! It is linked where `harness/library` has left
 //! target/staticlib/libhistory.a (`harness/build` then sets `--cfg history`);
 //! without it the model stands in its place.
 

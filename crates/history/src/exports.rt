@@ -1,5 +1,6 @@
-// The library for callers in other languages: byte slices and numbers, and nothing is asked of the bytes. A reader's `state`
-// is 0 where there is an element, 1 where there are not so many, 12 where the history breaks its storage rules.
+// The library for its callers: byte slices and numbers, and nothing is asked of the bytes. A reader's `state` is 0 where there
+// is an element, 1 where there are not so many, 12 where the history breaks its storage rules. `history_c` exports the same
+// functions to callers in other languages.
 ghost use Rattle.std.specs.Prelude.{◌≡◌};
 ghost use Rattle.storage_bytes.specs.Layout.{history_length};
 ghost use Rattle.history.specs.Exports.{Handed, MadeFresh, found_as, leader_is, mark_is, index_is, finding_out, leader_out, unseen_out, unknown_out, committed_out};
@@ -22,16 +23,14 @@ const NO_MORE: u8 = 1;
 const BROKEN: u8 = 12;
 
 // How many bytes a history has.
-#[unsafe(no_mangle)]
-pub extern "C" fn gamiwhoru_length() -> usize
+pub fn gamiwhoru_length() -> usize
     ensures { result ≡ history_length }
 {
     HISTORY_LENGTH
 }
 
 // A fresh history: 0, or 12 where the bytes are not as many as a history has, and then they are left as they were.
-#[unsafe(no_mangle)]
-pub extern "C" fn gamiwhoru_fresh(history: &mut [u8]) -> u8
+pub fn gamiwhoru_fresh(history: &mut [u8]) -> u8
     ensures { MadeFresh history.old result history.new }
 {
     match fresh(&mut history[..]) {
@@ -41,8 +40,7 @@ pub extern "C" fn gamiwhoru_fresh(history: &mut [u8]) -> u8
 }
 
 // Any bytes, to any history. A refused record leaves every byte.
-#[unsafe(no_mangle)]
-pub extern "C" fn gamiwhoru_submit(history: &mut [u8], s: &[u8]) -> Reply
+pub fn gamiwhoru_submit(history: &mut [u8], s: &[u8]) -> Reply
     ensures { Handed history.old s.now result history.new }
 {
     let a = submit(&mut history[..], s);
@@ -83,8 +81,7 @@ fn found_as(a: FindingAnswer) -> FindingReply
 }
 
 // The n-th printed finding, counted from 0.
-#[unsafe(no_mangle)]
-pub extern "C" fn gamiwhoru_finding(history: &[u8], n: usize) -> FindingReply
+pub fn gamiwhoru_finding(history: &[u8], n: usize) -> FindingReply
     ensures { result ≡ finding_out history.now n }
 {
     if well_formed(history) {
@@ -125,8 +122,7 @@ fn leader_is(a: LeaderAnswer) -> LeaderReply
 }
 
 // The n-th printed leader, counted from 0.
-#[unsafe(no_mangle)]
-pub extern "C" fn gamiwhoru_leader(history: &[u8], n: usize) -> LeaderReply
+pub fn gamiwhoru_leader(history: &[u8], n: usize) -> LeaderReply
     ensures { result ≡ leader_out history.now n }
 {
     if well_formed(history) {
@@ -165,8 +161,7 @@ fn mark_is(a: UnseenAnswer) -> UnseenReply
 }
 
 // The n-th unseen mark, counted from 0.
-#[unsafe(no_mangle)]
-pub extern "C" fn gamiwhoru_unseen(history: &[u8], n: usize) -> UnseenReply
+pub fn gamiwhoru_unseen(history: &[u8], n: usize) -> UnseenReply
     ensures { result ≡ unseen_out history.now n }
 {
     if well_formed(history) {
@@ -202,8 +197,7 @@ fn index_is(a: UnknownAnswer) -> UnknownReply
 }
 
 // The n-th unknown index, counted from 0.
-#[unsafe(no_mangle)]
-pub extern "C" fn gamiwhoru_unknown(history: &[u8], n: usize) -> UnknownReply
+pub fn gamiwhoru_unknown(history: &[u8], n: usize) -> UnknownReply
     ensures { result ≡ unknown_out history.now n }
 {
     if well_formed(history) {
@@ -224,8 +218,7 @@ pub struct CommittedReply {
 }
 
 // The committed prefix: its length and its owner, 0 and 0 where there is none.
-#[unsafe(no_mangle)]
-pub extern "C" fn gamiwhoru_committed(history: &[u8]) -> CommittedReply
+pub fn gamiwhoru_committed(history: &[u8]) -> CommittedReply
     ensures { result ≡ committed_out history.now }
 {
     if well_formed(history) {

@@ -1,5 +1,5 @@
-// What is exported for other languages: a fresh history, a record handed to it, and the readers of its lists. Stands on submission and
-// lists.
+// What callers are given: a fresh history, a record handed to it, and the readers of its lists. Stands on submission and lists;
+// `history_c` exports it for other languages.
 #![tactic(auto)]
 
 pub mod exports;

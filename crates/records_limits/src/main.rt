@@ -2,12 +2,16 @@
 // `ok`, or the number of its first fault. tests/record_limits.py wrote the cases and what is to come out.
 #![tactic(auto)]
 
-ghost use Rattle.std.specs.Prelude.{◌≤◌, length};
-ghost use Rattle.io.specs.Counts.{IsPrefixLen};
+ghost use Rattle.std.specs.Prelude.{◌≡◌, ◌≤◌, length, take};
 
 use bit_fields::bits::fault_number;
-use libc::STDOUT_FILENO;
+use input_blocks::fill;
 use records::head::{Head, read};
+use std::io;
+use std::io::Write;
+
+// The bytes of input that are read.
+const INPUT: usize = 65536;
 
 // The first place from `from` on that has the byte b, or the end.
 fn find(s: &[u8], from: usize, b: u8) -> usize
@@ -44,7 +48,8 @@ fn digit(b: u8) -> u8
 // The bytes whose digits stand from `from` on, up to `end`; answers how many.
 fn decode(s: &[u8], from: usize, end: usize, out: &mut [u8]) -> usize
     requires { end ≤ length s.now }
-    ensures { IsPrefixLen result out.new }
+    ensures bound { result ≤ length out.new }
+    ensures counted { result ≡ length (take result out.new) }
 {
     let mut i = from;
     let mut n = 0;
@@ -76,32 +81,31 @@ fn answer(s: &[u8], from: usize, end: usize) -> u8
 }
 
 // One case.
-fn say(name: &[u8], fault: u8) {
-    io::write_all(STDOUT_FILENO, name);
+fn say<W: Write>(writer: &mut W, name: &[u8], fault: u8) -> io::Result<()> {
+    writer.write_all(name)?;
     if fault == 0 {
-        io::write_all(STDOUT_FILENO, b" ok\n");
+        writeln!(writer, " ok")
     } else {
-        io::write_all(STDOUT_FILENO, b" ");
-        io::print_decimal(STDOUT_FILENO, fault as u64);
-        io::write_all(STDOUT_FILENO, b"\n");
+        writeln!(writer, " {fault}")
     }
 }
 
 // All cases.
-fn run(s: &[u8]) {
+fn run<W: Write>(writer: &mut W, s: &[u8]) -> io::Result<()> {
     let mut at = 0;
     while at < s.len() {
         let space = find(s, at, b' ');
         let end = find(s, space, b'\n');
         if end < s.len() {
-            say(&s[at..space], answer(s, space + 1, end));
+            say(writer, &s[at..space], answer(s, space + 1, end))?;
         }
         at = end + 1;
     }
+    Ok(())
 }
 
-fn main() {
-    let mut input = io::large_buffer();
-    let n = io::read_full(0, &mut input);
-    run(&input[..n]);
+fn main(rt: HostRuntime) -> io::Result<()> {
+    let mut input = [0u8; INPUT];
+    let n = fill(&mut rt.stdin(), &mut input)?;
+    run(&mut rt.stdout(), &input[..n])
 }

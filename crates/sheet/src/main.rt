@@ -1,14 +1,17 @@
 // The sheet of a recording: records from standard input, each behind a 16-bit byte length, high byte first; then the lists of
 // the history. What it prints is put together by `sheet_text` and `sheet_lists`, whose functions are proved to give it; the
-// functions here, which read and write, are proved to be safe and to end.
+// functions here, which read and write, are proved to be safe and to end. A read or a write that fails ends the program.
 #![tactic(auto)]
 
-ghost use Rattle.std.specs.Prelude.{◌≡◌, ◌≤◌, length};
+ghost use Rattle.std.specs.Prelude.{◌≡◌, ◌≤◌, IfOk, OnOk, length, take};
+ghost use Rattle.std.specs.Io.KnownBytes.{Appends};
 
-use libc::STDOUT_FILENO;
+use input_blocks::fill;
 use sheet_lists::closing::put_lists;
 use sheet_pieces::split::move_down;
 use sheet_text::taking::{SOME, put_cut, take_some};
+use std::io;
+use std::io::{Read, Write};
 use storage_bytes::layout::part;
 
 // No recording has so many records, and none takes so many blocks.
@@ -28,44 +31,62 @@ struct Place {
 }
 
 // The output up to its end is written.
-fn flush(out: &[u8], end: usize)
+fn flush<W: Write>(writer: &mut W, out: &[u8], end: usize) -> io::Result<()>
     requires { end ≤ length out.now }
+    ensures { OnOk result (Appends (W.contents writer.old) (W.contents writer.new) (take end out.now)) }
 {
-    io::write_all(STDOUT_FILENO, part(out, 0, end));
+    writer.write_all(part(out, 0, end))
 }
 
 // The whole pieces of a block in turn, their lines written some at a time: how far it came.
-fn take_block(history: &mut [u8], block: &[u8], out: &mut [u8], first: u64) -> Place
+fn take_block<W: Write>(
+    writer: &mut W,
+    history: &mut [u8],
+    block: &[u8],
+    out: &mut [u8],
+    first: u64,
+) -> io::Result<Place>
     requires { length out.old ≡ 65536 }
-    ensures { result.from ≤ length block.now }
+    ensures { IfOk result (λ place. place.from ≤ length block.now) }
 {
     let mut number = first;
     let mut from = 0;
     while number < LAST {
         let p = take_some(&mut history[..], block, &mut out[..], number, from);
-        flush(&out[..], p.at);
+        flush(writer, &out[..], p.at)?;
         number = p.number;
         from = p.from;
         if p.count < SOME {
-            return Place { number, from };
+            break;
         }
     }
-    Place { number, from }
+    Ok(Place { number, from })
 }
 
 // What is left where the input ends is a cut piece.
-fn end_of_input(out: &mut [u8], number: u64, rest: usize)
+fn end_of_input<W: Write>(
+    writer: &mut W,
+    out: &mut [u8],
+    number: u64,
+    rest: usize,
+) -> io::Result<()>
     requires { length out.old ≡ 65536 }
 {
     if rest == 0 {
-        return;
+        return Ok(());
     }
     let end = put_cut(&mut out[..], 0, number);
-    flush(&out[..], end);
+    flush(writer, &out[..], end)
 }
 
 // The input block by block, to its end. The rest of a block, a piece that goes on in the next one, is moved to the front first.
-fn take_input(history: &mut [u8], input: &mut [u8], out: &mut [u8])
+fn take_input<R: Read, W: Write>(
+    reader: &mut R,
+    writer: &mut W,
+    history: &mut [u8],
+    input: &mut [u8],
+    out: &mut [u8],
+) -> io::Result<()>
     requires input_len { length input.old ≡ 131072 }
     requires out_len { length out.old ≡ 65536 }
 {
@@ -73,29 +94,27 @@ fn take_input(history: &mut [u8], input: &mut [u8], out: &mut [u8])
     let mut rest = 0;
     let mut blocks: u64 = 0;
     while blocks < LAST {
-        let got = io::read_full(0, &mut input[rest..]);
+        let got = fill(reader, &mut input[rest..])?;
         if got == 0 {
-            end_of_input(&mut out[..], number, rest);
-            return;
+            return end_of_input(writer, &mut out[..], number, rest);
         }
         let to = rest + got;
-        let p = take_block(
-            &mut history[..],
-            part(&input[..], 0, to),
-            &mut out[..],
-            number,
-        );
+        let block = part(&input[..], 0, to);
+        let p = take_block(writer, &mut history[..], block, &mut out[..], number)?;
         rest = move_down(&mut input[..], p.from, to);
         number = p.number;
         blocks += 1;
     }
+    Ok(())
 }
 
-fn main() {
+fn main(rt: HostRuntime) -> io::Result<()> {
     let mut input = [0u8; INPUT];
     let mut out = [0u8; OUTPUT];
     let mut history = [0u8; 24137];
-    take_input(&mut history, &mut input, &mut out);
+    let mut reader = rt.stdin();
+    let mut writer = rt.stdout();
+    take_input(&mut reader, &mut writer, &mut history, &mut input, &mut out)?;
     let end = put_lists(&history, &mut out);
-    flush(&out, end);
+    flush(&mut writer, &out, end)
 }

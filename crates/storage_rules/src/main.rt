@@ -6,9 +6,14 @@
 ghost use Rattle.std.specs.Prelude.{◌+◌, ◌≤◌, length};
 
 use history::exports::gamiwhoru_committed;
-use libc::STDOUT_FILENO;
+use input_blocks::fill;
+use std::io;
+use std::io::Write;
 
 const LENGTH: usize = 24137;
+
+// The bytes of input that are read, and those that hold the history.
+const ROOM: usize = 65536;
 
 // A piece of a line: the number that its digits make, and where it ends.
 #[derive(Clone, Copy)]
@@ -36,38 +41,45 @@ fn up_to(s: &[u8], from: usize, least: u8) -> Piece
 }
 
 // The text, and what a reader of the library answers. The byte behind the history is 1 where its last byte is left out.
-fn say(history: &[u8], text: &[u8])
+fn say<W: Write>(writer: &mut W, history: &[u8], text: &[u8]) -> io::Result<()>
     requires { 24138 ≤ length history.now }
 {
-    io::write_all(STDOUT_FILENO, text);
+    writer.write_all(text)?;
     let end = LENGTH - (history[LENGTH] % 2) as usize;
     let reply = gamiwhoru_committed(&history[0..end]);
     if reply.state == 0 {
-        io::write_all(STDOUT_FILENO, b" accepted\n");
+        writeln!(writer, " accepted")
     } else {
-        io::write_all(STDOUT_FILENO, b" ");
-        io::print_decimal(STDOUT_FILENO, reply.state as u64);
-        io::write_all(STDOUT_FILENO, b"\n");
+        let state = reply.state;
+        writeln!(writer, " {state}")
     }
 }
 
 // One byte is set. Where there is a text, behind a space, it and the answer are written, and the byte is put back.
-fn put(history: &mut [u8], at: usize, value: usize, text: &[u8])
+fn put<W: Write>(
+    writer: &mut W,
+    history: &mut [u8],
+    at: usize,
+    value: usize,
+    text: &[u8],
+) -> io::Result<()>
     requires { 24138 ≤ length history.old }
 {
     if history.len() <= at {
-        return;
+        return Ok(());
     }
     let kept = history[at];
     history[at] = (value % 256) as u8;
     if 0 < text.len() {
-        say(history, &text[1..]);
+        let said = say(writer, history, &text[1..]);
         history[at] = kept;
+        return said;
     }
+    Ok(())
 }
 
 // All lines. One that does not end is passed over.
-fn run(s: &[u8], history: &mut [u8])
+fn run<W: Write>(writer: &mut W, s: &[u8], history: &mut [u8]) -> io::Result<()>
     requires { (length s.now ≤ 65536) × (24138 ≤ length history.old) }
 {
     let mut at = 0;
@@ -78,17 +90,24 @@ fn run(s: &[u8], history: &mut [u8])
         let line = up_to(s, text, b' ');
         let end = line.end;
         if s.len() <= end {
-            return;
+            return Ok(());
         }
-        put(&mut history[..], place.number, value.number, &s[text..end]);
+        put(
+            writer,
+            &mut history[..],
+            place.number,
+            value.number,
+            &s[text..end],
+        )?;
         at = end + 1;
     }
+    Ok(())
 }
 
-// The history is the start of a longer buffer of zeros, which costs less proof than an array of its length.
-fn main() {
-    let mut input = io::large_buffer();
-    let n = io::read_full(0, &mut input);
-    let mut history = io::large_buffer();
-    run(&input[..n], &mut history);
+// The history is the start of a longer buffer of zeros.
+fn main(rt: HostRuntime) -> io::Result<()> {
+    let mut input = [0u8; ROOM];
+    let n = fill(&mut rt.stdin(), &mut input)?;
+    let mut history = [0u8; ROOM];
+    run(&mut rt.stdout(), &input[..n], &mut history)
 }

@@ -1,8 +1,6 @@
 -- `records_limits::decode` meets its contract: no more bytes are written than there is room.
 -- Assumes nothing.
-use Prim.Native.Nat.{◌-◌, ◌≤◌}
-use mathlib.Core.Path.{◌≡◌}
-use lib.ListN.{length}
+use Rattle.std.proofs.Common.{length, ◌-◌, ◌≡◌, ◌≤◌}
 use Rattle.records_limits.proofs.decode.Given as goal
 
 abbrev pub invariant-loop-n : goal.invariant-loop-n

@@ -1,7 +1,6 @@
 -- `records_limits::find` meets its contract: the place stays within the slice.
 -- Assumes nothing.
-use Prim.Native.Nat.{◌-◌, ◌≤◌}
-use lib.ListN.{length}
+use Rattle.std.proofs.Common.{length, ◌-◌, ◌≤◌}
 use Rattle.records_limits.proofs.find.Given as goal
 
 abbrev pub invariant-loop-i : goal.invariant-loop-i

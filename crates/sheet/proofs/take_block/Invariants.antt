@@ -1,12 +1,10 @@
 -- `sheet::take_block` meets its contract.
 -- Assumes nothing.
-use Prim.Native.Nat.{◌-◌, ◌≤◌}
-use mathlib.Core.Path.{◌≡◌}
-use lib.ListN.{length}
+use Rattle.std.proofs.Common.{length, ◌-◌, ◌≡◌, ◌≤◌}
 use Rattle.sheet.proofs.take_block.Given as goal
 
 abbrev pub invariant-loop-number : goal.invariant-loop-number
-invariant-loop-number l = (length l.history ≡ length l.initial.history) × (length l.out ≡ 65536) × (l.from ≤ length l.block)
+invariant-loop-number g l = (length l.history ≡ length l.initial.history) × (length l.out ≡ 65536) × (l.from ≤ length l.block)
 
 abbrev pub decreases-loop-number : goal.decreases-loop-number
-decreases-loop-number l = length l.block - l.from
+decreases-loop-number g l = length l.block - l.from

@@ -1,7 +1,6 @@
 -- `storage_rules::up_to` meets its contract: the piece does not end before it starts, nor far behind the slice.
 -- Assumes nothing.
-use Prim.Native.Nat.{◌+◌, ◌-◌, ◌≤◌}
-use lib.ListN.{length}
+use Rattle.std.proofs.Common.{length, ◌+◌, ◌-◌, ◌≤◌}
 use Rattle.storage_rules.proofs.up_to.Given as goal
 
 abbrev pub invariant-loop-i : goal.invariant-loop-i
