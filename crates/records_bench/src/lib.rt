@@ -1,4 +1,4 @@
-// What bench/ times: a view's record is read, and its entries are walked, with every content byte used.
+// What bench/ times: a view's record is read, and its entries are walked, with every content byte used. `records_bench_c` exports it.
 #![tactic(auto)]
 
 ghost use Rattle.std.specs.Prelude.{◌≡◌, ◌≤◌, length, take};
@@ -48,8 +48,7 @@ fn walk(s: &[u8], count: usize) -> u64
 }
 
 // The number of entries of a readable view, 0 of anything else.
-#[unsafe(no_mangle)]
-pub extern "C" fn records_bench_scan(s: &[u8]) -> usize
+pub fn records_bench_scan(s: &[u8]) -> usize
     ensures { result ≡ count_of (reading.read s.now) }
 {
     let head = read(s);
@@ -74,8 +73,7 @@ pub extern "C" fn records_bench_scan(s: &[u8]) -> usize
 }
 
 // The sum of the content bytes of a readable view, 0 of anything else.
-#[unsafe(no_mangle)]
-pub extern "C" fn records_bench_walk(s: &[u8]) -> u64
+pub fn records_bench_walk(s: &[u8]) -> u64
     ensures { result ≡ used_of (reading.read s.now) }
 {
     let head = read(s);
