@@ -19,7 +19,6 @@ use Rattle.bit_fields.proofs.Widths.{field_lt}
 use Rattle.record_walk.proofs.Walks.{walk_entered}
 use Rattle.storage_bytes.specs.Words.{word_at}
 use Rattle.storage.specs.Decode.{prefix_at}
-use Rattle.storage.proofs.RuleLaws.{within}
 use Rattle.storage.proofs.Meanings.{Stands, with_prefixes}
 use Rattle.log_prefix.specs.Extension.{extended_bytes, extended_count, extended_number, written_bytes, written_count, written_number}
 use Rattle.view_judging.proofs.Places.{front_suc, front_cut, front_zero, walk_more, content_short}

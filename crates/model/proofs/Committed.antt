@@ -1,6 +1,6 @@
 -- Committed prefixes: from fresh, the LG-04 list is empty exactly if any two committed prefixes seen agree through the shorter.
 -- Assumes nothing.
-use Prim.Native.Nat.{ℕ, ◌+◌, ◌<◌, ◌≤◌, min}
+use Prim.Native.Nat.{ℕ, ◌<◌, ◌≤◌, min}
 use native.Mathlib.Omega.{arith}
 use mathlib.Core.Path.{◌≡◌, refl, sym, ◌∙◌, ap, subst}
 use mathlib.Core.Bool.{true, false, cond, ◌&&◌}

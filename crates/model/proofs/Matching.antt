@@ -1,7 +1,7 @@
 -- Log Matching, as in the Raft paper: if two logs contain an entry with the same index and term, then the logs are identical
 -- in all entries up through that index. From fresh, the LG-03 list is empty exactly if the accepted views match so.
 -- Assumes nothing.
-use Prim.Native.Nat.{ℕ, ◌+◌, ◌<◌, ◌≤◌, min}
+use Prim.Native.Nat.{ℕ, ◌<◌, ◌≤◌, min}
 use native.Mathlib.Omega.{arith}
 use mathlib.Core.Path.{◌≡◌, refl, sym, ◌∙◌, ap, subst}
 use mathlib.Core.Bool.{Bool, true, false, cond, ◌&&◌}

@@ -1,6 +1,6 @@
 -- Document 01, "The printed sheet": the lists that follow the records.
 -- Assumes nothing.
-use Rattle.std.specs.Prelude.{◌+◌, cond, List, [], ◌∷◌, ◌++◌}
+use Rattle.std.specs.Prelude.{cond, List, [], ◌∷◌, ◌++◌}
 use Rattle.model.specs.Sizes.{Bytes}
 use Rattle.model.specs.History.{Finding, History}
 use Rattle.model.specs.Leaders.{Leader}

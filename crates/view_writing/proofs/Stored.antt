@@ -18,7 +18,6 @@ use Rattle.storage.specs.Tables.{prefix_row, prefixes_part, head_part, tables_in
 use Rattle.storage.specs.Writes.{prefix_appended, PrefixFits, prefix_of}
 use Rattle.storage.specs.Rules.{prefix_right}
 use Rattle.storage.specs.Decode.{prefix_at, extended, resolve}
-use Rattle.storage.proofs.RuleLaws.{within}
 use Rattle.storage.proofs.RowFacts.{row_at, resolve_snoc, resolve_count}
 use Rattle.storage.proofs.DecodeLaws.{row_facts}
 use Rattle.storage.proofs.WellFormed.{rows_count}

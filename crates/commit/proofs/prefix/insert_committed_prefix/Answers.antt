@@ -1,15 +1,13 @@
 -- `commit::prefix::insert_committed_prefix` meets its contract.
 -- Assumes nothing.
 use Rattle.committed_prefix.proofs.PrefixTurns.{unseen_length}
-use Rattle.commit.specs.Prefix.{longer_in, end_in}
 use Rattle.commit.proofs.Ends.{longer_is, end_is}
 use Rattle.commit.proofs.PrefixTurns.{insert_differs, insert_longer, insert_shorter}
 use Rattle.storage.proofs.WellFormed.{formed}
-use lib.Dec.{ltb}
 use lib.ListN.{length}
 use borrow.Author.Tests.{lt-ltb, le-ltb}
 use native.Mathlib.Omega.{arith}
-use mathlib.Core.Path.{◌≡◌, ap, sym, ◌∙◌}
+use mathlib.Core.Path.{ap, sym, ◌∙◌}
 use Rattle.commit.proofs.prefix.insert_committed_prefix.Goals as goal
 
 pub prefix_table-prefixes-requires : goal.prefix_table-prefixes-requires

@@ -1,8 +1,5 @@
 -- `prefix_lookup::lookup::matches_extension` meets its contract.
 -- Assumes nothing.
-use native.Mathlib.Omega.{arith}
-use lib.ListN.{length}
-use borrow.Author.Rules.{rules}
 use Rattle.prefix_lookup.proofs.Loops.{match_parent, match_term, match_size, match_content}
 use Rattle.prefix_lookup.proofs.lookup.matches_extension.Goals as goal
 

@@ -1,6 +1,5 @@
 -- `view_judging::judging::judge_missing` meets its contract.
 -- Assumes nothing.
-use Rattle.record_walk.proofs.Walks.{here}
 use Rattle.view_judging.proofs.Turns.{Lacking}
 use Rattle.view_judging.proofs.judging.judge_missing.Given as goal
 

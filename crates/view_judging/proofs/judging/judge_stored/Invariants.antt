@@ -1,6 +1,5 @@
 -- `view_judging::judging::judge_stored` meets its contract.
 -- Assumes nothing.
-use Rattle.record_walk.proofs.Walks.{here}
 use Rattle.view_judging.proofs.Turns.{Judging}
 use Rattle.view_judging.proofs.judging.judge_stored.Given as goal
 

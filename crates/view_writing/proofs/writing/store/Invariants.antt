@@ -1,6 +1,5 @@
 -- `view_writing::writing::store` meets its contract.
 -- Assumes nothing.
-use Rattle.record_walk.proofs.Walks.{here}
 use Rattle.view_writing.proofs.WritingTurns.{Written}
 use Rattle.view_writing.proofs.writing.store.Given as goal
 
