@@ -5,7 +5,7 @@ use Prim.Native.Nat.{ℕ, ◌-◌, ◌≤◌, ◌<◌}
 use mathlib.Core.Path.{◌≡◌, refl, ap, sym, ◌∙◌}
 use mathlib.Core.Bool.{Bool, true, false, cond}
 use mathlib.Core.List.{List, [], ◌∷◌}
-use mathlib.Core.Logic.{⊎_elim}
+use mathlib.Core.Logic.{◌⊎◌, ⊎_elim}
 use mathlib.Core.Option.{Option, none, some}
 use native.Mathlib.Omega.{arith}
 use lib.Dec.{ltb, eqb}
@@ -169,6 +169,10 @@ module _ (s : Bytes) (at n k m : ℕ) {t : rows.Verdict} (e : t ≡ least_from k
   -- rule 1 failed
   pub rule_1_end : k ≤ 1 → verdict_at k m ≡ t
   rule_1_end l = sym (e ∙ walk_ended k m (rows_at s at n) l)
+
+  -- after the loop, no row is left or rule 1 failed
+  pub walk_over : (n ≤ 0) ⊎ (k ≤ 1) → verdict_at k m ≡ t
+  walk_over = ⊎_elim rows_end rule_1_end
 
 -- ---- the answer
 

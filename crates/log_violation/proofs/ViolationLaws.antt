@@ -4,7 +4,7 @@
 use Prim.Native.Nat.{ℕ, zero, suc, ◌+◌, ◌-◌, ◌*◌, ◌<◌, ◌≤◌}
 use native.Mathlib.Omega.{arith}
 use mathlib.Core.Path.{◌≡◌, refl, sym, ◌∙◌, ap, subst}
-use mathlib.Core.Bool.{Bool, true, false, ◌&&◌, ◌||◌}
+use mathlib.Core.Bool.{Bool, true, false, ◌&&◌, ◌||◌, true≢false, false≢true}
 use mathlib.Core.Logic.{◌⊎◌, inl, inr, ⊎_elim}
 use mathlib.Core.List.Memᴰ
 use mathlib.Core.List.{List, [], ◌∷◌, ◌++◌, Memᴰ}
@@ -30,6 +30,11 @@ use Rattle.storage.proofs.RowLaws.{rows_append, finding_own, finding_length, fin
 use Rattle.log_violation.specs.Violation.{same_numbers, noted_from, is_noted, note_held, note_bytes, held_all, bytes_all, NotedAll, note_where, findings_written, room_for, noted_in}
 
 -- ---- a row held against a finding, number by number: a is the flag of the first two tests, b that of the first three
+
+-- a flag that is b where a holds, and a where it does not
+pub flag_so_far : (c a b : Bool) → ((a ≡ true) × (c ≡ b)) ⊎ ((a ≡ false) × (c ≡ a)) → c ≡ (a && b)
+flag_so_far c true b h = ⊎_elim (λ w. w.1) (λ w. absurd (true≢false w.0)) h
+flag_so_far c false b h = ⊎_elim (λ w. absurd (false≢true w.0)) (λ w. w.1) h
 
 in_turn : (i t n m : Bool) → (i && (t && (n && m))) ≡ (((i && t) && n) && m)
 in_turn true true n m = refl

@@ -3,12 +3,13 @@
 -- Assumes nothing.
 use Prim.Native.Nat.{ℕ, ◌≤◌}
 use mathlib.Core.Path.{◌≡◌, sym, subst}
+use mathlib.Core.Logic.{inl, inr}
 use native.Mathlib.Omega.{arith}
 use Rattle.model.specs.Rows.{verdict}
 use Rattle.record_scan.specs.Places.{rows_at, first_row}
 use Rattle.record_walk.proofs.Walks.{row_here, next_row_walk}
 use Rattle.invariants.specs.Rules.{verdict_at}
-use Rattle.invariants.proofs.Pass.{first_least, walk_verdict, row_earlier, row_later, rows_end, rule_1_end, none_failed, one_failed}
+use Rattle.invariants.proofs.Pass.{first_least, walk_verdict, row_earlier, row_later, walk_over, none_failed, one_failed}
 use Rattle.invariants.proofs.commit_safety.check_commit_safety.Goals as goal
 use Rattle.invariants.proofs.commit_safety.check_commit_safety.Goals.{then-loop-rule-test+else-left-gt0, else-loop-rule-test}
 
@@ -38,20 +39,16 @@ loop-rule-preserved c =
 
 pub returns-then-rule-eq-NO_RULE : goal.returns-then-rule-eq-NO_RULE
 returns-then-rule-eq-NO_RULE c =
-    let e = c.loop-rule.invariant.1 in
-    let ended : verdict_at c.loop-rule.rule c.loop-rule.node.0 ≡ verdict (rows_at c.args.s.now first_row c.args.count) =
-    elim c.loop-rule-test.branch [
-      | then-loop-rule-test+else-left-gt0 w ↦ rows_end _ _ _ _ _ e w.if-left-gt0.false
-      | else-loop-rule-test w ↦ rule_1_end _ _ _ _ _ e w.loop-rule-test.false
-    ] in
-    none_failed _ _ ended c.if-rule-eq-NO_RULE.true
+    none_failed _ _ (walk_over _ _ _ _ _ c.loop-rule.invariant.1
+    (elim c.loop-rule-test.branch [
+      | then-loop-rule-test+else-left-gt0 w ↦ inl w.if-left-gt0.false
+      | else-loop-rule-test w ↦ inr w.loop-rule-test.false
+    ])) c.if-rule-eq-NO_RULE.true
 
 pub returns : goal.returns
 returns c =
-    let e = c.loop-rule.invariant.1 in
-    let ended : verdict_at c.loop-rule.rule c.loop-rule.node.0 ≡ verdict (rows_at c.args.s.now first_row c.args.count) =
-    elim c.loop-rule-test.branch [
-      | then-loop-rule-test+else-left-gt0 w ↦ rows_end _ _ _ _ _ e w.if-left-gt0.false
-      | else-loop-rule-test w ↦ rule_1_end _ _ _ _ _ e w.loop-rule-test.false
-    ] in
-    one_failed _ _ ended c.loop-rule.invariant.2 c.if-rule-eq-NO_RULE.false
+    one_failed _ _ (walk_over _ _ _ _ _ c.loop-rule.invariant.1
+    (elim c.loop-rule-test.branch [
+      | then-loop-rule-test+else-left-gt0 w ↦ inl w.if-left-gt0.false
+      | else-loop-rule-test w ↦ inr w.loop-rule-test.false
+    ])) c.loop-rule.invariant.2 c.if-rule-eq-NO_RULE.false
