@@ -1,12 +1,12 @@
 -- The fresh history in bytes: it keeps the storage rules, and stands for the model's fresh history.
 -- Assumes nothing.
-use Prim.Native.Nat.{ℕ, zero, suc, ◌+◌, ◌*◌, ◌≤◌}
+use Prim.Native.Nat.{ℕ, zero, suc, ◌+◌, ◌*◌}
 use native.Mathlib.Decide.{dec_lt}
 use native.Mathlib.Omega.{arith}
 use mathlib.Core.Path.{◌≡◌, refl, ap, ◌∙◌}
 use mathlib.Core.Bool.{Bool, true, ◌&&◌}
-use mathlib.Core.List.{[], ◌++◌, append-nil}
-use lib.ListN.{length, get_or, take, drop, replicate, length-replicate, length-take, get_or-eq_default, drop_of_length-le}
+use mathlib.Core.List.{[]}
+use lib.ListN.{length, get_or, take, drop, replicate, length-replicate, length-take, get_or-eq_default}
 use borrow.Author.Tests.{eq-eqb}
 use Rattle.model.specs.Sizes.{Bytes}
 use Rattle.model.specs.History.{fresh}
@@ -19,14 +19,6 @@ use Rattle.storage.specs.Rules.{tables_right, well_formed}
 use Rattle.storage.specs.Fresh.{zeros, fresh_history}
 use Rattle.storage_bytes.proofs.ListLaws.{tabulate_replicate}
 use Rattle.storage_bytes.proofs.PartLaws.{part_at}
-
--- a loop that has stored a zero at each place
-pub fill_all : (d : Bytes) (n : ℕ) → n ≤ length d → length d ≤ n → replicate n 0 ++ drop n d ≡ zeros (length d)
-unfolding zeros
-fill_all d n a b =
-    ap (λ (l : Bytes). replicate n 0 ++ l) (drop_of_length-le d b)
-    ∙ append-nil (replicate n 0)
-    ∙ (let e : n ≡ length d = omega arith in ap (λ (k : ℕ). replicate k 0) e)
 
 pub zeros_length : (n : ℕ) → length (zeros n) ≡ n
 unfolding zeros

@@ -1,7 +1,8 @@
 -- A row's fields written side by side are the row's bytes written at once; and a table lent as a part and given back is that
 -- write in the whole.
 -- Assumes nothing.
-use Prim.Native.Nat.{ℕ, ◌+◌, ◌-◌, ◌*◌, ◌≤◌}
+use Prim.Native.Nat.{ℕ, ◌+◌, ◌-◌, ◌*◌, ◌≤◌, ◌<◌}
+use Rattle.std.proofs.Math.Nat.{mul-le-mul_right}
 use native.Mathlib.Omega.{arith}
 use mathlib.Core.Path.{◌≡◌, ap, sym, ◌∙◌}
 use mathlib.Core.List.{◌++◌, append_assoc}
@@ -14,6 +15,7 @@ use Rattle.storage.specs.Writes.{certificate_bytes, certificate_inserted, certif
 use Rattle.storage_bytes.specs.Layout.{part}
 use Rattle.storage_bytes.proofs.WordLaws.{put_join, put_length}
 use Rattle.storage_bytes.proofs.PartLaws.{part_length, part_back, put_part}
+pub use Rattle.storage_bytes.proofs.PartLaws.{region_back}
 
 -- one more field after those written
 pub field_next : {u : Bytes} (t : Bytes) (o : ℕ) (vs ws : Bytes) (p : ℕ) → u ≡ put_bytes t o vs → p ≡ o + length vs
@@ -32,6 +34,14 @@ part_written h ys a k o vs e r w =
     ∙ part_back h a q (omega arith)
     ∙ put_part h a k o vs r w
 
+-- row k of a table of m rows w wide, of which only the n bytes from a on are lent
+pub row_written : {ys : Bytes} (h : Bytes) (a n w k m : ℕ) (vs : Bytes) → ys ≡ put_bytes (take (a + n - a) (drop a h)) (k * w) vs
+    → a + n ≤ length h → n ≡ m * w → k < m → length vs ≡ w
+    → take a h ++ (ys ++ drop (a + n - a) (drop a h)) ≡ put_bytes h (a + k * w) vs
+row_written h a n w k m vs e r f l q =
+    let z : (k + 1) * w ≤ m * w = mul-le-mul_right w (omega arith) in
+    part_written h _ a (a + n - a) (k * w) vs e (omega arith) (omega arith)
+
 -- a row and then a count, by the count that was read
 pub then_count : {u : Bytes} (h : Bytes) (m n b w : ℕ) (vs : Bytes) → n ≡ m → u ≡ put_bytes h (b + n * w) vs
     → (c d : ℕ) → put_bytes u c (word_bytes d (n + 1)) ≡ put_bytes (put_bytes h (b + m * w) vs) c (word_bytes d (m + 1))
@@ -40,13 +50,6 @@ then_count h m n b w vs e q c d =
     ∙ (λ i. put_bytes (put_bytes h (b + e i * w) vs) c (word_bytes d (e i + 1)))
 
 -- ---- a region written anew
-
--- the k bytes from a on lent, and given back as ys
-pub region_back : (h ys : Bytes) (a k : ℕ) → length ys ≡ k → a + k ≤ length h → take a h ++ (ys ++ drop k (drop a h)) ≡ put_bytes h a ys
-region_back h ys a k l r =
-    ap (λ (q : Bytes). take a h ++ (ys ++ q)) (drop-drop k a h ∙ ap (λ (n : ℕ). drop (a + n) h) (sym l))
-    ∙ sym (append_assoc (take a h) ys (drop (a + length ys) h))
-    ∙ part_back h a ys (omega arith)
 
 pub inserted_length : (r : Bytes) (n k : ℕ) (x : CertificateRow) → length (certificate_inserted r n k x) ≡ length r
 unfolding certificate_inserted

@@ -4,31 +4,24 @@ ghost use Rattle.storage.specs.Fresh.{zeros, FreshMade};
 
 use storage_bytes::layout::HISTORY_LENGTH;
 
-#[derive(Clone, Copy)]
-pub enum Made {
-    // The buffer holds a fresh history.
-    Fresh,
-    // Document 01's 12: the buffer has another length, and is as it was.
-    WrongLength,
-}
+// Document 01's 12: the buffer has another length, and is as it was.
+#[derive(Clone, Copy, PartialEq, Eq, Debug)]
+pub struct WrongLength;
 
 // Every byte is zero.
+#[tactic(auto, unfolding(crate::specs::Fresh::zeros))]
 pub fn clear(t: &mut [u8])
     ensures { t.new ≡ zeros (length t.old) }
 {
-    let mut i = 0;
-    while i < t.len() {
-        t[i] = 0;
-        i += 1;
-    }
+    t.fill(0);
 }
 
-pub fn fresh(history: &mut [u8]) -> Made
+pub fn fresh(history: &mut [u8]) -> Result<(), WrongLength>
     ensures { FreshMade history.old result history.new }
 {
     if history.len() != HISTORY_LENGTH {
-        return Made::WrongLength;
+        return Err(WrongLength);
     }
-    clear(&mut history[..]);
-    Made::Fresh
+    clear(history);
+    Ok(())
 }

@@ -4,3 +4,4 @@
 
 pub mod fresh;
 pub mod head;
+pub mod rows;

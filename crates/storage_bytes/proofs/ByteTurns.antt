@@ -1,19 +1,21 @@
--- The turns of the loops over bytes: compared one by one, stored one by one, and moved up.
+-- Bytes compared one by one or at once, written from a list, and moved up.
 -- Assumes nothing.
-use Prim.Native.Nat.{ℕ, suc, ◌+◌, ◌-◌, ◌≤◌, ◌<◌}
+use Prim.Native.Nat.{ℕ, suc, ◌+◌, ◌-◌, ◌/◌, ◌%◌, ◌≤◌, ◌<◌}
 use native.Mathlib.Omega.{arith}
 use mathlib.Core.Path.{◌≡◌, ap, ◌∙◌, refl, sym}
 use mathlib.Core.Bool.{Bool, true, false, ◌&&◌}
-use mathlib.Core.List.{◌∷◌, []}
+use mathlib.Core.List.{◌∷◌, [], ◌++◌}
 use lib.Dec.{eqb}
-use lib.ListN.{get_or, length, set, take}
+use lib.ListN.{get_or, length, take, drop}
+use lib.Seq.{ext_get_or}
 use borrow.Author.Tests.{eq-eqb, ne_eqb}
 use Rattle.model.specs.Sizes.{Bytes}
 use Rattle.storage_bytes.specs.Lists.{tabulate}
-use Rattle.storage_bytes.specs.Words.{bytes_at, same_bytes, put_bytes}
-use lib.Seq.{length-take-le, take-suc, take_all, set_comm}
-use native.Mathlib.Numerals.{add-one}
-use Rattle.storage_bytes.proofs.WordLaws.{put_join, put_before}
+use Rattle.storage_bytes.specs.Words.{bytes_at, same_bytes, put_bytes, word_bytes}
+use Rattle.storage_bytes.specs.Layout.{part}
+use Rattle.storage_bytes.proofs.ListLaws.{tabulate_length, tabulate_at}
+use Rattle.std.specs.Cmp.Lexicographic.{pointwise}
+use Rattle.storage_bytes.proofs.PartLaws.{part_length, part_at, part_lent, part_back, region_back}
 
 -- ---- bytes compared one by one
 
@@ -57,52 +59,66 @@ module _ (t u : Bytes) (a b n i : ℕ) {r : Bool} where
       let e : n - i ≡ 0 = omega arith in
       inv ∙ ap (λ (k : ℕ). same_bytes (bytes_at t (a + i) k) (bytes_at u (b + i) k)) e
 
--- ---- bytes stored one by one
+-- ---- slices compared, written and moved
 
--- a loop that stores one byte a turn
-pub bytes_next : {u : Bytes} (t : Bytes) (o : ℕ) (vs : Bytes) (i : ℕ) → u ≡ put_bytes t o (take i vs) → i < length vs
-    → set u (o + i) (get_or vs i 0) ≡ put_bytes t o (take (i + 1) vs)
-unfolding put_bytes
-bytes_next t o vs i e h =
-    let l : length (take i vs) ≡ i = length-take-le i vs (omega arith) in
-    (λ j. set (e j) (o + sym l j) (get_or vs i 0))
-    ∙ put_join t o (take i vs) (get_or vs i 0 ∷ [])
-    ∙ ap (put_bytes t o) (sym (ap (λ (k : ℕ). take k vs) (add-one i) ∙ take-suc vs i 0 h))
+-- a slice of n bytes at a, as the code has it
+slice_bytes : (t : Bytes) (a n : ℕ) → a + n ≤ length t → take (a + n - a) (drop a t) ≡ bytes_at t a n
+unfolding bytes_at part
+slice_bytes t a n r =
+    (part_lent t a n r).is
+    ∙ ext_get_or 0 _ _ (part_length t a n r ∙ sym (tabulate_length _ a n))
+    (λ i l. let h : i < n = omega (arith, part_length t a n r) in part_at t a n i h ∙ sym (tabulate_at (λ k. get_or t k 0) a n i 0 h))
 
-pub bytes_all_lem : (t : Bytes) (o : ℕ) (vs : Bytes) (i : ℕ) → length vs ≤ i → put_bytes t o (take i vs) ≡ put_bytes t o vs
-bytes_all_lem t o vs i h = ap (put_bytes t o) (take_all i vs h)
+pointwise_bytes : (xs ys : Bytes) → pointwise eqb xs ys ≡ same_bytes xs ys
+unfolding same_bytes
+pointwise_bytes [] [] = refl
+pointwise_bytes [] (y ∷ ys) = refl
+pointwise_bytes (x ∷ xs) [] = refl
+pointwise_bytes (x ∷ xs) (y ∷ ys) = ap (λ (v : Bool). eqb x y && v) (pointwise_bytes xs ys)
 
--- ---- bytes moved up, the last one first
+pub slices_same : (t u : Bytes) (a b n : ℕ) → a + n ≤ length t → b + n ≤ length u
+    → pointwise eqb (take (a + n - a) (drop a t)) (take (b + n - b) (drop b u)) ≡ same_bytes (bytes_at t a n) (bytes_at u b n)
+slices_same t u a b n f g =
+    (λ i. pointwise eqb (slice_bytes t a n f i) (slice_bytes u b n g i)) ∙ pointwise_bytes (bytes_at t a n) (bytes_at u b n)
 
--- a store below what is written may come first or last
-put_set_below : (t : Bytes) (o : ℕ) (vs : Bytes) (p v : ℕ) → p < o → put_bytes (set t p v) o vs ≡ set (put_bytes t o vs) p v
-unfolding put_bytes
-put_set_below t o [] p v h = refl
-put_set_below t o (x ∷ xs) p v h =
-    ap (λ (u : Bytes). put_bytes u (o + 1) xs) (set_comm t p o v x (omega arith)) ∙ put_set_below (set t o x) (o + 1) xs p v (omega arith)
+-- the slice of k bytes from a on, given back as vs
+pub slice_written : {ys : Bytes} (h : Bytes) (a k : ℕ) (vs : Bytes) → ys ≡ vs → length vs ≡ k → a + k ≤ length h
+    → take a h ++ (ys ++ drop (a + k - a) (drop a h)) ≡ put_bytes h a vs
+slice_written h a k vs e l r =
+    let q : a + k - a ≡ k = omega arith in
+    (λ i. take a h ++ (e i ++ drop (q i) (drop a h))) ∙ region_back h vs a k l r
 
-pub move_start : (t : Bytes) (a n w : ℕ) → t ≡ put_bytes t (a + w + n) (bytes_at t (a + n) (n - n))
-unfolding put_bytes bytes_at tabulate
-move_start t a n w = let e : 0 ≡ n - n = omega arith in ap (λ (k : ℕ). put_bytes t (a + w + n) (bytes_at t (a + n) k)) e
+pub slice_moved : (t : Bytes) (a n w : ℕ) → a + w + n ≤ length t
+    → take (a + w) t ++ take (a + n - a) (drop a t) ++ drop (a + w + (a + n - a)) t ≡ put_bytes t (a + w) (bytes_at t a n)
+unfolding part
+slice_moved t a n w r =
+    let e = slice_bytes t a n (omega arith) in
+    let l : length (take (a + n - a) (drop a t)) ≡ a + n - a = (part_lent t a n (omega arith)).long ∙ (let q : n ≡ a + n - a = omega arith in q) in
+    ap (λ (k : ℕ). take (a + w) t ++ take (a + n - a) (drop a t) ++ drop (a + w + k) t) (sym l)
+    ∙ part_back t (a + w) (take (a + n - a) (drop a t)) (omega arith)
+    ∙ ap (put_bytes t (a + w)) e
 
-pub move_next : {u : Bytes} (t : Bytes) (a n w i : ℕ) → u ≡ put_bytes t (a + w + i) (bytes_at t (a + i) (n - i)) → 0 < i → i ≤ n
-    → set u (a + w + (i - 1)) (get_or u (a + (i - 1)) 0) ≡ put_bytes t (a + w + (i - 1)) (bytes_at t (a + (i - 1)) (n - (i - 1)))
-unfolding put_bytes bytes_at tabulate
-move_next t a n w i e h l =
-    let vs = bytes_at t (a + i) (n - i) in
-    let p = a + w + (i - 1) in
-    let q : a + w + i ≡ p + 1 = omega arith in
-    let m : n - (i - 1) ≡ suc (n - i) = omega arith in
-    let s : a + i ≡ a + (i - 1) + 1 = omega arith in
-    (λ j. set (e j) p (get_or (e j) (a + (i - 1)) 0))
-    ∙ ap (set (put_bytes t (a + w + i) vs) p) (put_before t (a + w + i) vs (a + (i - 1)) (omega arith))
-    ∙ sym (put_set_below t (a + w + i) vs p (get_or t (a + (i - 1)) 0) (omega arith))
-    ∙ (λ j. put_bytes (set t p (get_or t (a + (i - 1)) 0)) (q j) (bytes_at t (s j) (n - i)))
-    ∙ ap (λ (k : ℕ). put_bytes t p (bytes_at t (a + (i - 1)) k)) (sym m)
+-- ---- a number's bytes, as the library writes them
 
-pub move_done : {u : Bytes} (t : Bytes) (a n w i : ℕ) → u ≡ put_bytes t (a + w + i) (bytes_at t (a + i) (n - i)) → i ≤ 0 → u ≡ put_bytes t (a + w) (bytes_at t a n)
-move_done t a n w i e h =
-    let p : a + w + i ≡ a + w = omega arith in
-    let q : a + i ≡ a = omega arith in
-    let m : n - i ≡ n = omega arith in
-    e ∙ (λ j. put_bytes t (p j) (bytes_at t (q j) (m j)))
+pub bytes_two : (v : ℕ) → (v / 256 % 256 ∷ v % 256 ∷ []) ≡ word_bytes 2 v
+unfolding word_bytes
+bytes_two v = refl
+
+pub bytes_four : (v : ℕ) → (v / 16777216 % 256 ∷ v / 65536 % 256 ∷ v / 256 % 256 ∷ v % 256 ∷ []) ≡ word_bytes 4 v
+unfolding word_bytes
+bytes_four v =
+    let p : v / 65536 ≡ v / 256 / 256 = omega arith in
+    let q : v / 16777216 ≡ v / 256 / 256 / 256 = omega arith in
+    λ i. q i % 256 ∷ p i % 256 ∷ v / 256 % 256 ∷ v % 256 ∷ []
+
+-- a number's low bytes are all that is written of it
+pub low_byte : (v : ℕ) → word_bytes 1 (v % 256) ≡ word_bytes 1 v
+unfolding word_bytes
+low_byte v = let e : v % 256 % 256 ≡ v % 256 = omega arith in ap (λ (k : ℕ). k ∷ []) e
+
+pub low_bytes : (v : ℕ) → word_bytes 2 (v % 65536) ≡ word_bytes 2 v
+unfolding word_bytes
+low_bytes v =
+    let p : v % 65536 / 256 % 256 ≡ v / 256 % 256 = omega arith in
+    let q : v % 65536 % 256 ≡ v % 256 = omega arith in
+    λ i. p i ∷ q i ∷ []

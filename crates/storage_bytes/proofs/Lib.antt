@@ -1,4 +1,4 @@
 pub mod ListLaws
 pub mod WordLaws
-pub mod ByteTurns
 pub mod PartLaws
+pub mod ByteTurns

@@ -6,9 +6,9 @@ use native.Mathlib.Decide.{dec_le, dec_lt}
 use native.Mathlib.Numerals.{add-one}
 use native.Mathlib.Omega.{arith}
 use mathlib.Core.Path.{◌≡◌, refl, ap, sym, ◌∙◌}
-use mathlib.Core.List.{[], ◌∷◌, ◌++◌}
+use mathlib.Core.List.{[], ◌∷◌, ◌++◌, append_assoc}
 use lib.ListN.{length, get_or, set, take, drop, length-take, length-drop}
-use lib.Seq.{get_or-take, get_or-drop, ext_get_or, sets, sets-eq}
+use lib.Seq.{get_or-take, get_or-drop, ext_get_or, sets, sets-eq, drop-drop}
 use Rattle.model.specs.Sizes.{Bytes}
 use Rattle.storage_bytes.specs.Words.{word_at, put_bytes}
 use Rattle.storage_bytes.specs.Layout.{part, Part}
@@ -40,6 +40,13 @@ put_sets h a (v ∷ vs) = put_sets (set h a v) (a + 1) vs ∙ ap (λ (k : ℕ). 
 
 pub part_back : (h : Bytes) (a : ℕ) (p : Bytes) → a + length p ≤ length h → take a h ++ p ++ drop (a + length p) h ≡ put_bytes h a p
 part_back h a p r = sym (put_sets h a p ∙ sets-eq p h a r)
+
+-- the k bytes from a on lent, and given back as ys
+pub region_back : (h ys : Bytes) (a k : ℕ) → length ys ≡ k → a + k ≤ length h → take a h ++ (ys ++ drop k (drop a h)) ≡ put_bytes h a ys
+region_back h ys a k l r =
+    ap (λ (q : Bytes). take a h ++ (ys ++ q)) (drop-drop k a h ∙ ap (λ (n : ℕ). drop (a + n) h) (sym l))
+    ∙ sym (append_assoc (take a h) ys (drop (a + length ys) h))
+    ∙ part_back h a ys (omega arith)
 
 -- a write at an index, seen at any index
 put_at : (h : Bytes) (a : ℕ) (p : Bytes) (i x : ℕ) → a + length p ≤ length h

@@ -3,30 +3,70 @@
 ghost use Rattle.std.specs.Prelude.{◌≡◌, ◌+◌, ◌≤◌, length};
 ghost use Rattle.storage_bytes.specs.Layout.{Part};
 
+// A table's place in a history: where it starts, and its length.
+#[derive(Clone, Copy)]
+pub struct Region {
+    pub start: usize,
+    pub length: usize,
+}
+
+impl Region {
+    // Its bytes in a history.
+    pub fn of(self, history: &[u8]) -> &[u8]
+        requires { self.start + self.length ≤ length history.now }
+        ensures { Part history.now self.start self.length result.now }
+    {
+        part(history, self.start, self.length)
+    }
+}
+
 // The length of the whole.
 pub const HISTORY_LENGTH: usize = 24137;
 
-pub const HEAD_LENGTH: usize = 9;
+pub const HEAD: Region = Region {
+    start: 0,
+    length: 9,
+};
 
-pub const NODES_START: usize = 9;
+pub const NODES: Region = Region {
+    start: 9,
+    length: 384,
+};
 
-pub const NODES_LENGTH: usize = 384;
+pub const TERMS: Region = Region {
+    start: 393,
+    length: 1024,
+};
 
-pub const TERMS_START: usize = 393;
+pub const CERTIFICATES: Region = Region {
+    start: 1417,
+    length: 704,
+};
 
-pub const TERMS_LENGTH: usize = 1024;
+pub const FINDINGS: Region = Region {
+    start: 2121,
+    length: 1024,
+};
 
-pub const CERTIFICATES_START: usize = 1417;
+pub const PREFIXES: Region = Region {
+    start: 3145,
+    length: 20992,
+};
 
-pub const CERTIFICATES_LENGTH: usize = 704;
+// One lies right after another, from the head to the end.
+const _: () = prove!(NODES.start == HEAD.start + HEAD.length);
 
-pub const FINDINGS_START: usize = 2121;
+const _: () = prove!(TERMS.start == NODES.start + NODES.length);
+
+const _: () = prove!(CERTIFICATES.start == TERMS.start + TERMS.length);
+
+const _: () = prove!(FINDINGS.start == CERTIFICATES.start + CERTIFICATES.length);
+
+const _: () = prove!(PREFIXES.start == FINDINGS.start + FINDINGS.length);
+
+const _: () = prove!(HISTORY_LENGTH == PREFIXES.start + PREFIXES.length);
 
 pub const FINDINGS_LENGTH: usize = 1024;
-
-pub const PREFIXES_START: usize = 3145;
-
-pub const PREFIXES_LENGTH: usize = 20992;
 
 pub const NODE_WIDTH: usize = 6;
 
@@ -45,50 +85,11 @@ pub const PREFIX_WIDTH: usize = 41;
 pub const PREFIX_CONTENT: usize = 9;
 
 // The n bytes from a on.
+#[tactic(auto, using(crate::proofs::PartLaws::part_lent))]
 pub fn part(h: &[u8], a: usize, n: usize) -> &[u8]
     requires { a + n ≤ length h.now }
     ensures { Part h.now a n result.now }
 {
     let e = a + n;
     &h[a..e]
-}
-
-// The table of nodes of a whole history.
-pub fn node_table(history: &[u8]) -> &[u8]
-    requires { length history.now ≡ 24137 }
-    ensures { Part history.now 9 384 result.now }
-{
-    part(history, NODES_START, NODES_LENGTH)
-}
-
-// Its table of commit terms.
-pub fn term_table(history: &[u8]) -> &[u8]
-    requires { length history.now ≡ 24137 }
-    ensures { Part history.now 393 1024 result.now }
-{
-    part(history, TERMS_START, TERMS_LENGTH)
-}
-
-// Its table of certificates.
-pub fn certificate_table(history: &[u8]) -> &[u8]
-    requires { length history.now ≡ 24137 }
-    ensures { Part history.now 1417 704 result.now }
-{
-    part(history, CERTIFICATES_START, CERTIFICATES_LENGTH)
-}
-
-// Its table of findings.
-pub fn finding_table(history: &[u8]) -> &[u8]
-    requires { length history.now ≡ 24137 }
-    ensures { Part history.now 2121 1024 result.now }
-{
-    part(history, FINDINGS_START, FINDINGS_LENGTH)
-}
-
-// Its table of prefixes.
-pub fn prefix_table(history: &[u8]) -> &[u8]
-    requires { length history.now ≡ 24137 }
-    ensures { Part history.now 3145 20992 result.now }
-{
-    part(history, PREFIXES_START, PREFIXES_LENGTH)
 }

@@ -2,7 +2,7 @@
 // its number. No unit converts into another. The limits are those of document 01, "Sizes of things".
 #![tactic(auto)]
 
-ghost use Rattle.std.specs.Prelude.{◌≡◌, min};
+ghost use Rattle.std.specs.Prelude.{◌≡◌};
 ghost use Rattle.units.specs.Units.{node_of, index_of};
 
 // The greatest node.
@@ -24,43 +24,49 @@ pub const CERTIFICATE_LIMIT: usize = 64;
 pub const FINDING_LIMIT: usize = 128;
 
 // A server of the cluster, 0 to 63.
-#[derive(Clone, Copy)]
+#[derive(Clone, Copy, PartialEq, Eq, PartialOrd, Ord)]
 pub struct NodeId(pub u8);
 
 // A place in a log, 1 to 256; zero stands before the first entry.
-#[derive(Clone, Copy)]
+#[derive(Clone, Copy, PartialEq, Eq, PartialOrd, Ord)]
 pub struct LogIndex(pub usize);
 
 // A term of the election clock. Every number of 32 bits is one.
-#[derive(Clone, Copy)]
+#[derive(Clone, Copy, PartialEq, Eq, PartialOrd, Ord)]
 pub struct Term(pub u32);
 
 // A prefix of a log, by the number under which it is stored, 1 to 512 (the Rust's witness, a chain of shared nodes).
-#[derive(Clone, Copy)]
+#[derive(Clone, Copy, PartialEq, Eq, PartialOrd, Ord)]
 pub struct LogPrefixWitness(pub usize);
 
-// A node, or that the number is above 63.
-#[derive(Clone, Copy)]
-pub enum NodeAnswer {
-    Node(NodeId),
-    OutOfLimit,
-}
+// The number is above its unit's limit.
+#[derive(Clone, Copy, PartialEq, Eq)]
+pub struct OutOfLimit;
 
-// An index, or that the number is above 256.
-#[derive(Clone, Copy)]
-pub enum IndexAnswer {
-    Index(LogIndex),
-    OutOfLimit,
-}
+impl TryFrom<u8> for NodeId {
+    type Error = OutOfLimit;
 
-impl NodeId {
-    pub fn new(n: u8) -> NodeAnswer
-        ensures { result ≡ node_of n }
-    {
+    ghost try_from_gives = { λ n result. result ≡ node_of n };
+
+    fn try_from(n: u8) -> Result<NodeId, OutOfLimit> {
         if n <= NODE_LIMIT {
-            NodeAnswer::Node(NodeId(n))
+            Ok(NodeId(n))
         } else {
-            NodeAnswer::OutOfLimit
+            Err(OutOfLimit)
+        }
+    }
+}
+
+impl TryFrom<usize> for LogIndex {
+    type Error = OutOfLimit;
+
+    ghost try_from_gives = { λ n result. result ≡ index_of n };
+
+    fn try_from(n: usize) -> Result<LogIndex, OutOfLimit> {
+        if n <= INDEX_LIMIT {
+            Ok(LogIndex(n))
+        } else {
+            Err(OutOfLimit)
         }
     }
 }
@@ -68,34 +74,19 @@ impl NodeId {
 impl LogIndex {
     // No entry: the index before the first.
     pub const ZERO: LogIndex = LogIndex(0);
+}
 
-    pub fn new(n: usize) -> IndexAnswer
-        ensures { result ≡ index_of n }
-    {
-        if n <= INDEX_LIMIT {
-            IndexAnswer::Index(LogIndex(n))
-        } else {
-            IndexAnswer::OutOfLimit
-        }
-    }
+impl From<u32> for Term {
+    ghost from_gives = { λ n result. result.0 ≡ n };
 
-    // The earlier of two.
-    pub fn earlier(self, other: LogIndex) -> LogIndex
-        ensures { result.0 ≡ min self.0 other.0 }
-    {
-        if self.0 < other.0 { self } else { other }
+    fn from(n: u32) -> Term {
+        Term(n)
     }
 }
 
 impl Term {
     // The term before every election; among commit terms, "not recorded".
     pub const ZERO: Term = Term(0);
-
-    pub fn new(n: u32) -> Term
-        ensures { result.0 ≡ n }
-    {
-        Term(n)
-    }
 }
 
 impl LogPrefixWitness {
