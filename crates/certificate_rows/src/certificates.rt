@@ -1,15 +1,17 @@
 // The table of certificates, by term, then arrival. A log is a stored prefix, where it is present.
-ghost use Rattle.std.specs.Prelude.{◌≡◌, ◌+◌, ◌*◌, ◌≤◌, ◌<◌, ◌++◌, length};
+ghost use Rattle.std.specs.Prelude.{◌≡◌, ◌+◌, ◌*◌, ◌≤◌, ◌<◌, length, refl};
+ghost use Rattle.std.proofs.Common.{lit≤};
 ghost use Rattle.storage.specs.Tables.{certificate_row};
-ghost use Rattle.certificate_rows.specs.Values.{certificate_value};
+ghost use Rattle.storage.proofs.RowLaws.{certificate_length};
+ghost use Rattle.certificate_rows.specs.Values.{certificate_value, stored_certificate};
+ghost use Rattle.storage_bytes.specs.declared.layout.TheConstants.{CERTIFICATES};
 ghost use Rattle.storage_bytes.specs.Words.{word_at, word_bytes, put_bytes};
 ghost use Rattle.storage.specs.Writes.{certificate_bytes, certificate_inserted, certificate_added};
 
 use storage::head::{certificate_count, set_certificate_count};
-use storage_bytes::layout::{
-    CERTIFICATE_MARK, CERTIFICATE_WIDTH, CERTIFICATES_LENGTH, CERTIFICATES_START,
-};
-use storage_bytes::words::{get8, get16, get32, move_up, put8, put16, put32};
+use storage::rows::{Row, StoredRow};
+use storage_bytes::layout::{CERTIFICATE_MARK, CERTIFICATE_WIDTH, CERTIFICATES, Region};
+use storage_bytes::words::{Field, move_up, put8};
 use units::{LogIndex, LogPrefixWitness, NodeId, Term};
 
 // A certificate without a log.
@@ -18,7 +20,8 @@ pub const LOG_ABSENT: usize = 0;
 // A certificate with its log.
 pub const LOG_PRESENT: usize = 1;
 
-#[derive(Clone, Copy)]
+// Whether its log is present is a number and no Option of a log: a row that breaks the storage rules holds any byte there.
+#[derive(Clone, Copy, PartialEq, Eq)]
 pub struct Certificate {
     pub term: Term,
     pub log: LogPrefixWitness,
@@ -30,27 +33,66 @@ pub struct Certificate {
     pub present: usize,
 }
 
+impl Row for Certificate {
+    ghost TABLE = { CERTIFICATES };
+
+    ghost width = { 11 };
+
+    ghost count = { 64 };
+
+    ghost bytes = { λ x. certificate_bytes (certificate_value x) };
+
+    ghost whole = { λ x. Unit {0} };
+
+    ghost inside = { lit≤ tt };
+
+    ghost filled = { refl };
+
+    ghost wide = { λ x _. certificate_length (certificate_value x) };
+
+    const TABLE: Region = CERTIFICATES;
+
+    fn put(self, certificates: &mut [u8], k: usize) {
+        let o = k * CERTIFICATE_WIDTH;
+        self.term.write(certificates, o);
+        self.log.write(certificates, o + 4);
+        self.mark.write(certificates, o + CERTIFICATE_MARK);
+        self.leader.write(certificates, o + 8);
+        put8(certificates, o + 9, self.number);
+        put8(certificates, o + 10, self.present);
+    }
+}
+
+impl StoredRow for Certificate {
+    ghost stored = { stored_certificate };
+
+    fn at(certificates: &[u8], k: usize) -> Certificate {
+        let o = k * CERTIFICATE_WIDTH;
+        Certificate {
+            term: Term::read(certificates, o),
+            log: LogPrefixWitness::read(certificates, o + 4),
+            mark: LogIndex::read(certificates, o + CERTIFICATE_MARK),
+            leader: NodeId::read(certificates, o + 8),
+            number: usize::from(u8::read(certificates, o + 9)),
+            present: usize::from(u8::read(certificates, o + 10)),
+        }
+    }
+}
+
+// As `at` gives it, in the model's words.
 pub fn certificate_at(certificates: &[u8], k: usize) -> Certificate
     requires { (k < 64) × (length certificates.now ≡ 704) }
     ensures { certificate_value result ≡ certificate_row certificates.now k }
 {
-    let o = k * CERTIFICATE_WIDTH;
-    Certificate {
-        term: Term(get32(certificates, o)),
-        log: LogPrefixWitness(get16(certificates, o + 4)),
-        mark: LogIndex(get16(certificates, o + CERTIFICATE_MARK)),
-        leader: NodeId(get8(certificates, o + 8) as u8),
-        number: get8(certificates, o + 9),
-        present: get8(certificates, o + 10),
-    }
+    Certificate::at(certificates, k)
 }
 
-// The term of row k alone.
+// The term of row k alone. Fields that are read alone have a function each, in the model's words.
 pub fn term_at(certificates: &[u8], k: usize) -> Term
     requires { (k < 64) × (length certificates.now ≡ 704) }
     ensures { result.0 ≡ (certificate_row certificates.now k).term }
 {
-    Term(get32(certificates, k * CERTIFICATE_WIDTH))
+    Term::read(certificates, k * CERTIFICATE_WIDTH)
 }
 
 // Its mark alone.
@@ -58,7 +100,7 @@ pub fn mark_at(certificates: &[u8], k: usize) -> LogIndex
     requires { (k < 64) × (length certificates.now ≡ 704) }
     ensures { result.0 ≡ (certificate_row certificates.now k).mark }
 {
-    LogIndex(get16(certificates, k * CERTIFICATE_WIDTH + CERTIFICATE_MARK))
+    LogIndex::read(certificates, k * CERTIFICATE_WIDTH + CERTIFICATE_MARK)
 }
 
 // Its number within its term alone.
@@ -66,35 +108,7 @@ pub fn number_at(certificates: &[u8], k: usize) -> usize
     requires { (k < 64) × (length certificates.now ≡ 704) }
     ensures { result ≡ (certificate_row certificates.now k).number }
 {
-    get8(certificates, k * CERTIFICATE_WIDTH + 9)
-}
-
-fn put_log(t: &mut [u8], o: usize, c: Certificate)
-    requires { o + 11 ≤ length t.old }
-    ensures { t.new ≡ put_bytes t.old o (word_bytes 4 c.term.0 ++ word_bytes 2 c.log.0 ++ word_bytes 2 c.mark.0) }
-{
-    put32(&mut t[..], o, c.term.0);
-    put16(&mut t[..], o + 4, c.log.0);
-    put16(&mut t[..], o + CERTIFICATE_MARK, c.mark.0);
-}
-
-fn put_leader(t: &mut [u8], o: usize, c: Certificate)
-    requires { o + 11 ≤ length t.old }
-    ensures { t.new ≡ put_bytes t.old (o + 8) (word_bytes 1 c.leader.0 ++ word_bytes 1 c.number ++ word_bytes 1 c.present) }
-{
-    put8(&mut t[..], o + 8, c.leader.0 as usize);
-    put8(&mut t[..], o + 9, c.number);
-    put8(&mut t[..], o + 10, c.present);
-}
-
-// A row written in the table.
-pub fn put_certificate(certificates: &mut [u8], k: usize, c: Certificate)
-    requires { (k < 64) × (length certificates.old ≡ 704) }
-    ensures { certificates.new ≡ put_bytes certificates.old (k * 11) (certificate_bytes (certificate_value c)) }
-{
-    let o = k * CERTIFICATE_WIDTH;
-    put_log(&mut certificates[..], o, c);
-    put_leader(&mut certificates[..], o, c);
+    usize::from(u8::read(certificates, k * CERTIFICATE_WIDTH + 9))
 }
 
 // The mark of row k alone, written in the table.
@@ -102,33 +116,29 @@ pub fn put_mark(certificates: &mut [u8], k: usize, mark: LogIndex)
     requires { (k < 64) × (length certificates.old ≡ 704) }
     ensures { certificates.new ≡ put_bytes certificates.old (k * 11 + 6) (word_bytes 2 mark.0) }
 {
-    let o = k * CERTIFICATE_WIDTH + CERTIFICATE_MARK;
-    put16(&mut certificates[..], o, mark.0);
+    mark.write(certificates, k * CERTIFICATE_WIDTH + CERTIFICATE_MARK);
 }
 
 // A row inserted at place k of a table of n: those from k on move up.
+#[tactic(auto, unfolding(storage::specs::Writes::certificate_inserted))]
 pub fn insert_certificate(certificates: &mut [u8], n: usize, k: usize, c: Certificate)
     requires { (k ≤ n) × (n < 64) × (length certificates.old ≡ 704) }
     ensures { certificates.new ≡ certificate_inserted certificates.old n k (certificate_value c) }
 {
-    let o = k * CERTIFICATE_WIDTH;
-    move_up(
-        &mut certificates[..],
-        o,
-        (n - k) * CERTIFICATE_WIDTH,
-        CERTIFICATE_WIDTH,
-    );
-    put_certificate(&mut certificates[..], k, c);
+    let w = CERTIFICATE_WIDTH;
+    move_up(certificates, k * w, (n - k) * w, w);
+    c.put(certificates, k);
 }
 
 // One more certificate in the whole history, at place k.
+#[tactic(auto, using(storage::proofs::WriteLaws::certificate_added_lem))]
 pub fn add_certificate(history: &mut [u8], k: usize, c: Certificate)
     requires { (k ≤ word_at history.old 6 1) × (word_at history.old 6 1 < 64) × (length history.old ≡ 24137) }
     ensures { history.new ≡ certificate_added history.old k (certificate_value c) }
 {
-    let n = certificate_count(&history[..]);
-    let a = CERTIFICATES_START;
-    let e = a + CERTIFICATES_LENGTH;
+    let n = certificate_count(history);
+    let a = CERTIFICATES.start;
+    let e = a + CERTIFICATES.length;
     insert_certificate(&mut history[a..e], n, k, c);
-    set_certificate_count(&mut history[..], n + 1);
+    set_certificate_count(history, n + 1);
 }

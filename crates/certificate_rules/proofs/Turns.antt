@@ -1,24 +1,15 @@
 -- The numbering of certificates in the order in which the code tests it. Laws of the loop take what it holds so far first.
 -- Assumes nothing.
-use Prim.Native.Nat.{ℕ, zero, suc, ◌+◌, ◌-◌, ◌≤◌, ◌<◌}
-use native.Mathlib.Numerals.{add-one}
+use Prim.Native.Nat.{ℕ, ◌+◌, ◌-◌, ◌≤◌, ◌<◌}
 use native.Mathlib.Omega.{arith}
-use mathlib.Core.Path.{◌≡◌, refl, ap, sym, ◌∙◌}
+use mathlib.Core.Path.{◌≡◌, ap, sym, ◌∙◌}
 use mathlib.Core.Bool.{Bool, true, false, ◌&&◌}
-use lib.Dec.{eqb, eqb-suc-suc}
+use lib.Dec.{eqb}
 use borrow.Author.Tests.{eq-eqb, ne_eqb}
 use Rattle.storage_bytes.specs.Lists.{tabulate}
 use Rattle.storage.specs.Tables.{CertificateRow}
 use Rattle.storage.specs.Rules.{follows, numbered_after, numbered}
 use Rattle.storage_bytes.proofs.ListLaws.{tabulate_cons, tabulate_none}
-
--- ---- certificates
-
-pub eqb_pred : (d c : ℕ) → (d ≡ 0 → ⊥) → eqb (d - 1) c ≡ eqb d (c + 1)
-eqb_pred zero c h = absurd (h refl)
-eqb_pred (suc d) c h =
-    let e : suc d - 1 ≡ d = omega arith in
-    ap (λ (x : ℕ). eqb x c) e ∙ sym (ap (λ (x : ℕ). eqb (suc d) x) (add-one c) ∙ eqb-suc-suc d c)
 
 module _ (f : ℕ → CertificateRow) (n : ℕ) where
   pub numbered_start : (c : CertificateRow) → c ≡ f 0 → 0 < n → c.number ≡ 0

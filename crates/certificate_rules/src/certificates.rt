@@ -6,9 +6,11 @@ ghost use Rattle.storage.specs.Rules.{certificate_right, follows as followsRow, 
 ghost use Rattle.certificate_rows.specs.Values.{certificate_value};
 
 use certificate_rows::certificates::{Certificate, certificate_at};
+use storage::rows::all_rows;
 use units::{INDEX_LIMIT, NODE_LIMIT};
 
 // The storage rules of one row by itself, where n prefixes are stored.
+#[tactic(auto, unfolding(storage::specs::Rules::certificate_right))]
 fn certificate_right(n: usize, c: Certificate) -> bool
     ensures { result ≡ certificate_right n (certificate_value c) }
 {
@@ -29,34 +31,28 @@ pub fn certificates_right(certificates: &[u8], m: usize, n: usize) -> bool
     requires { (m ≤ 64) × (length certificates.now ≡ 704) }
     ensures { result ≡ every (certificate_right n) (rows_of_certificates certificates.now m) }
 {
-    let mut k = 0;
-    while k < m {
-        let c = certificate_at(certificates, k);
-        if !certificate_right(n, c) {
-            return false;
-        }
-        k += 1;
-    }
-    true
+    all_rows(certificates, m, |c: Certificate| certificate_right(n, c))
 }
 
 // One number more in the same term, or the first of a later one.
+#[tactic(auto, unfolding(storage::specs::Rules::follows))]
 fn follows(c: Certificate, d: Certificate) -> bool
     ensures { result ≡ followsRow (certificate_value c) (certificate_value d) }
 {
-    if d.term.0 == c.term.0 {
+    if d.term == c.term {
         if d.number == 0 {
             return false;
         }
         return d.number - 1 == c.number;
     }
-    if d.term.0 < c.term.0 {
+    if d.term < c.term {
         return false;
     }
     d.number == 0
 }
 
 // The certificates of each term are numbered 0, 1, .. unbroken.
+#[tactic(auto, using(crate::proofs::Turns::numbered_start, crate::proofs::Turns::numbered_first, crate::proofs::Turns::numbered_no_rows, crate::proofs::Turns::numbered_next, crate::proofs::Turns::numbered_stop, crate::proofs::Turns::numbered_none))]
 pub fn numbered(certificates: &[u8], m: usize) -> bool
     requires { (m ≤ 64) × (length certificates.now ≡ 704) }
     ensures { result ≡ numberedRows (rows_of_certificates certificates.now m) }
@@ -68,14 +64,12 @@ pub fn numbered(certificates: &[u8], m: usize) -> bool
     if c.number != 0 {
         return false;
     }
-    let mut k = 1;
-    while k < m {
+    for k in 1..m {
         let d = certificate_at(certificates, k);
         if !follows(c, d) {
             return false;
         }
         c = d;
-        k += 1;
     }
     true
 }

@@ -2,17 +2,14 @@
 -- Assumes nothing.
 use Prim.Native.Nat.{ℕ, zero, suc, ◌+◌, ◌-◌, ◌<◌, ◌≤◌}
 use native.Mathlib.Omega.{arith}
-use mathlib.Core.Path.{◌≡◌, refl, sym, ◌∙◌, ap, subst}
+use mathlib.Core.Path.{◌≡◌, refl, sym, ◌∙◌, ap}
 use lib.Dec.{ltb}
 use lib.ListN.{length}
-use borrow.Author.Tests.{lt-ltb, le-ltb}
 use Rattle.model.specs.Sizes.{Bytes}
-use Rattle.model.proofs.Tests.{cond_cases, cond_true, cond_false}
+use Rattle.model.proofs.Tests.{cond_cases}
 use Rattle.storage_bytes.specs.Words.{word_at}
-use Rattle.storage.specs.Tables.{CertificateRow}
 use Rattle.term_marks.specs.Marks.{mark_set, certificate_of}
 use Rattle.term_marks.proofs.MarkTurns.{mark_length}
-use Rattle.certificate_mark.specs.Marks.{marked_row}
 use Rattle.check_marks.specs.Marks.{mark_moved, marks_moved}
 
 -- ---- one certificate
@@ -22,18 +19,6 @@ unfolding mark_moved
 moved_length h k end =
     cond_cases (λ (u : Bytes). length u ≡ length h) (ltb (certificate_of h k).mark end) (mark_set h k end) h (λ _. mark_length h k end)
     (λ _. refl)
-
-module _ (h : Bytes) (k end m : ℕ) (e : m ≡ (certificate_of h k).mark) where
-  pub mark_stays : end ≤ m → h ≡ mark_moved h k end
-  unfolding mark_moved
-  mark_stays l = sym (cond_false (ltb (certificate_of h k).mark end) _ h (le-ltb _ end (subst (λ (y : ℕ). end ≤ y) e l)))
-
-  -- the certificate that was lent has the end as its mark
-  pub mark_passed : m < end → (c d : CertificateRow) → d ≡ marked_row c end → (u : Bytes) → u ≡ mark_set h k d.mark → u ≡ mark_moved h k end
-  unfolding mark_moved
-  mark_passed l c d ed u eu =
-      eu ∙ ap (λ (x : CertificateRow). mark_set h k x.mark) ed
-      ∙ sym (cond_true (ltb (certificate_of h k).mark end) _ h (lt-ltb _ end (subst (λ (y : ℕ). y < end) e l)))
 
 -- ---- all of them
 

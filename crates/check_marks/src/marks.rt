@@ -7,30 +7,32 @@ ghost use Rattle.check_marks.specs.Marks.{mark_moved, marks_moved};
 use certificate_mark::mark::with_mark;
 use certificate_rows::certificates::certificate_at;
 use storage::head::certificate_count;
-use storage_bytes::layout::certificate_table;
+use storage_bytes::layout::CERTIFICATES;
 use term_marks::marks::{checked_mark, store_mark};
 use units::LogIndex;
 
 // The mark of certificate k.
+#[tactic(auto, unfolding(crate::specs::Marks::mark_moved))]
 pub fn move_mark(history: &mut [u8], k: usize, end: LogIndex)
     requires { (k < 64) × (length history.old ≡ 24137) }
     ensures { history.new ≡ mark_moved history.old k end.0 }
 {
-    if end.0 <= checked_mark(&history[..], k).0 {
+    if end <= checked_mark(history, k) {
         return;
     }
-    let c = certificate_at(certificate_table(&history[..]), k);
+    let c = certificate_at(CERTIFICATES.of(history), k);
     let moved = with_mark(c, end);
-    store_mark(&mut history[..], k, moved.mark);
+    store_mark(history, k, moved.mark);
 }
 
 // The marks of all certificates.
+#[tactic(auto, using(crate::proofs::MarkLaws::moving_starts, crate::proofs::MarkLaws::moving_next, crate::proofs::MarkLaws::moving_ends))]
 pub fn move_marks(history: &mut [u8], end: LogIndex)
     requires { (word_at history.old 6 1 ≤ 64) × (length history.old ≡ 24137) }
     ensures { history.new ≡ marks_moved history.old end.0 0 (word_at history.old 6 1) }
 {
-    let m = certificate_count(&history[..]);
+    let m = certificate_count(history);
     for k in 0..m {
-        move_mark(&mut history[..], k, end);
+        move_mark(history, k, end);
     }
 }

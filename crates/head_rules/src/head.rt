@@ -9,6 +9,7 @@ use storage::head::{
 use units::{CERTIFICATE_LIMIT, FINDING_LIMIT, INDEX_LIMIT, NODE_LIMIT, PREFIX_LIMIT};
 
 // The counts are within the limits.
+#[tactic(auto, unfolding(storage::specs::Rules::within_limits))]
 pub fn within_limits(head: &[u8]) -> bool
     requires { 9 ≤ length head.now }
     ensures { result ≡ within_limits (word_at head.now 0 2) (word_at head.now 2 2) (word_at head.now 6 1) (word_at head.now 7 1) }
@@ -26,6 +27,7 @@ pub fn within_limits(head: &[u8]) -> bool
 }
 
 // The committed prefix exists, and its owner is a node.
+#[tactic(auto, unfolding(storage::specs::Rules::committed_right))]
 pub fn committed_right(head: &[u8]) -> bool
     requires { 9 ≤ length head.now }
     ensures { result ≡ committed_right (word_at head.now 0 2) (word_at head.now 4 2) (word_at head.now 8 1) }

@@ -30,16 +30,15 @@ fn prefix_right(prefixes: &[u8], k: usize) -> bool
 }
 
 // The storage rules of every one of n rows.
+#[tactic(auto, using(crate::proofs::Turns::rows_next, crate::proofs::Turns::rows_stop, crate::proofs::Turns::rows_none))]
 pub fn prefixes_right(prefixes: &[u8], n: usize) -> bool
     requires { (n ≤ 512) × (length prefixes.now ≡ 20992) }
     ensures { result ≡ prefixes_right_after [] (rows_of_prefixes prefixes.now n) }
 {
-    let mut k = 0;
-    while k < n {
+    for k in 0..n {
         if !prefix_right(prefixes, k) {
             return false;
         }
-        k += 1;
     }
     true
 }

@@ -5,10 +5,12 @@ ghost use Rattle.storage.specs.Tables.{finding_rows};
 ghost use Rattle.storage.specs.Rules.{finding_right};
 ghost use Rattle.table_rows.specs.Values.{finding_value};
 
-use table_rows::findings::{Found, LG_03, LG_05, finding_at};
+use storage::rows::all_rows;
+use table_rows::findings::{Found, LG_03, LG_05};
 use units::{INDEX_LIMIT, NODE_LIMIT};
 
 // The storage rules of one row.
+#[tactic(auto, unfolding(storage::specs::Rules::finding_right))]
 fn finding_right(f: Found) -> bool
     ensures { result ≡ finding_right (finding_value f) }
 {
@@ -29,13 +31,5 @@ pub fn findings_right(findings: &[u8], m: usize) -> bool
     requires { (m ≤ 128) × (length findings.now ≡ 1024) }
     ensures { result ≡ every finding_right (finding_rows findings.now m) }
 {
-    let mut k = 0;
-    while k < m {
-        let f = finding_at(findings, k);
-        if !finding_right(f) {
-            return false;
-        }
-        k += 1;
-    }
-    true
+    all_rows(findings, m, finding_right)
 }

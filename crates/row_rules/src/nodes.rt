@@ -5,10 +5,12 @@ ghost use Rattle.storage.specs.Tables.{node_rows};
 ghost use Rattle.storage.specs.Rules.{node_right};
 ghost use Rattle.table_rows.specs.Values.{node_value};
 
-use table_rows::nodes::{Node, node_at};
+use storage::rows::all_rows;
+use table_rows::nodes::Node;
 use units::INDEX_LIMIT;
 
 // The storage rules of one row, where n prefixes are stored.
+#[tactic(auto, unfolding(storage::specs::Rules::node_right))]
 fn node_right(n: usize, x: Node) -> bool
     ensures { result ≡ node_right n (node_value x) }
 {
@@ -26,13 +28,5 @@ pub fn nodes_right(nodes: &[u8], n: usize) -> bool
     requires { length nodes.now ≡ 384 }
     ensures { result ≡ every (node_right n) (node_rows nodes.now) }
 {
-    let mut k = 0;
-    while k < 64 {
-        let x = node_at(nodes, k);
-        if !node_right(n, x) {
-            return false;
-        }
-        k += 1;
-    }
-    true
+    all_rows(nodes, 64, |x: Node| node_right(n, x))
 }

@@ -8,18 +8,17 @@ use prefix_rules::prefixes::prefixes_right;
 use row_rules::findings::findings_right;
 use row_rules::nodes::nodes_right;
 use storage::head::{certificate_count, finding_count, prefix_count};
-use storage_bytes::layout::{
-    HEAD_LENGTH, HISTORY_LENGTH, certificate_table, finding_table, node_table, part, prefix_table,
-};
+use storage_bytes::layout::{CERTIFICATES, FINDINGS, HEAD, HISTORY_LENGTH, NODES, PREFIXES};
 
 // The bytes keep the storage rules.
+#[tactic(auto, using(crate::proofs::Turns::wrong_length, crate::proofs::Turns::rules_in_turn, storage::proofs::RuleLaws::within))]
 pub fn well_formed(history: &[u8]) -> bool
     ensures { result ≡ well_formed history.now }
 {
     if history.len() != HISTORY_LENGTH {
         return false;
     }
-    let head = part(history, 0, HEAD_LENGTH);
+    let head = HEAD.of(history);
     if !within_limits(head) {
         return false;
     }
@@ -27,10 +26,10 @@ pub fn well_formed(history: &[u8]) -> bool
         return false;
     }
     let n = prefix_count(head);
-    if !nodes_right(node_table(history), n) {
+    if !nodes_right(NODES.of(history), n) {
         return false;
     }
-    let certificates = certificate_table(history);
+    let certificates = CERTIFICATES.of(history);
     let m = certificate_count(head);
     if !certificates_right(certificates, m, n) {
         return false;
@@ -38,8 +37,8 @@ pub fn well_formed(history: &[u8]) -> bool
     if !numbered(certificates, m) {
         return false;
     }
-    if !findings_right(finding_table(history), finding_count(head)) {
+    if !findings_right(FINDINGS.of(history), finding_count(head)) {
         return false;
     }
-    prefixes_right(prefix_table(history), n)
+    prefixes_right(PREFIXES.of(history), n)
 }

@@ -10,14 +10,15 @@ use storage_bytes::layout::{PREFIX_CONTENT, PREFIX_WIDTH};
 use storage_bytes::words::same_bytes;
 
 // Rows j and k store the same prefix.
+#[tactic(auto, unfolding(storage::specs::Rules::same_row))]
 fn same_row(prefixes: &[u8], j: usize, k: usize) -> bool
     requires { (j < 512) × (k < 512) × (length prefixes.now ≡ 20992) × (word_at prefixes.now (k * 41 + 8) 1 ≤ 32) }
     ensures { result ≡ same_row (prefix_row prefixes.now j) (prefix_row prefixes.now k) }
 {
-    if parent_at(prefixes, j).0 != parent_at(prefixes, k).0 {
+    if parent_at(prefixes, j) != parent_at(prefixes, k) {
         return false;
     }
-    if term_at(prefixes, j).0 != term_at(prefixes, k).0 {
+    if term_at(prefixes, j) != term_at(prefixes, k) {
         return false;
     }
     let n = size_at(prefixes, k);
@@ -34,16 +35,15 @@ fn same_row(prefixes: &[u8], j: usize, k: usize) -> bool
 }
 
 // One of the rows from `start` on, before k, stores the same prefix as k.
+#[tactic(auto, using(crate::proofs::Turns::among_next, crate::proofs::Turns::among_stop, crate::proofs::Turns::among_none))]
 pub fn is_among(prefixes: &[u8], start: usize, k: usize) -> bool
     requires { (start ≤ k) × (k < 512) × (length prefixes.now ≡ 20992) × (word_at prefixes.now (k * 41 + 8) 1 ≤ 32) }
     ensures { result ≡ is_among (prefix_row prefixes.now k) (tabulate (prefix_row prefixes.now) start (k - start)) }
 {
-    let mut j = start;
-    while j < k {
+    for j in start..k {
         if same_row(prefixes, j, k) {
             return true;
         }
-        j += 1;
     }
     false
 }

@@ -2,46 +2,35 @@
 -- Assumes nothing.
 use Prim.Native.Nat.{ℕ}
 use mathlib.Core.Path.{◌≡◌, sym, ◌∙◌, ap}
-use mathlib.Core.Bool.{Bool, true, false}
 use mathlib.Core.Logic.{⊎_elim}
 use lib.Dec.{eqb}
 use borrow.Author.Tests.{eq-eqb, ne_eqb, eqb-true, eqb-false}
 use Rattle.model.proofs.Tests.{tf, either, cond_true, cond_false}
 use Rattle.units.specs.declared.LogIndex.{LogIndex}
 use Rattle.table_rows.specs.TermSearch.{found_index}
-use Rattle.table_rows.specs.declared.terms.FoundIndex.{FoundIndex}
+use Rattle.std.specs.Prelude.{Option, Some, None, is_some, unwrap_or}
 
-of_some : (k : ℕ) → (k ≡ 0 → ⊥) → found_index k ≡ FoundIndex.At (record { 0 = k })
+of_some : (k : ℕ) → (k ≡ 0 → ⊥) → found_index k ≡ Some (record { 0 = k })
 unfolding found_index
-of_some k z = cond_false (eqb k 0) FoundIndex.Nothing _ (ne_eqb k 0 z)
+of_some k z = cond_false (eqb k 0) None _ (ne_eqb k 0 z)
 
-of_none : (k : ℕ) → k ≡ 0 → found_index k ≡ FoundIndex.Nothing
+of_none : (k : ℕ) → k ≡ 0 → found_index k ≡ None
 unfolding found_index
-of_none k z = cond_true (eqb k 0) FoundIndex.Nothing _ (eq-eqb k 0 z)
+of_none k z = cond_true (eqb k 0) None _ (eq-eqb k 0 z)
 
-pub index_found : (i : LogIndex) (k : ℕ) → i.0 ≡ k → (i.0 ≡ 0 → ⊥) → FoundIndex.At i ≡ found_index k
+pub index_found : (i : LogIndex) (k : ℕ) → i.0 ≡ k → (i.0 ≡ 0 → ⊥) → Some i ≡ found_index k
 index_found i k e z = sym (of_some i.0 z) ∙ ap found_index e
 
-pub index_none : (k : ℕ) → 0 ≡ k → FoundIndex.Nothing ≡ found_index k
+pub index_none : (k : ℕ) → 0 ≡ k → None ≡ found_index k
 index_none k e = sym (of_none k (sym e))
 
-is_index : FoundIndex → Bool
-is_index (FoundIndex.At i) = true
-is_index FoundIndex.Nothing = false
-
-index_or : LogIndex → FoundIndex → LogIndex
-index_or x (FoundIndex.At i) = i
-index_or x FoundIndex.Nothing = x
-
-module _ (k : ℕ) (r : FoundIndex) (e : r ≡ found_index k) where
-  pub index_told : (i : LogIndex) → r ≡ FoundIndex.At i → (i.0 ≡ k) × (k ≡ 0 → ⊥)
-  unfolding is_index index_or
+module _ (k : ℕ) (r : Option LogIndex) (e : r ≡ found_index k) where
+  pub index_told : (i : LogIndex) → r ≡ Some i → (i.0 ≡ k) × (k ≡ 0 → ⊥)
   index_told i q =
-      ⊎_elim (λ t. absurd (tf (ap is_index (sym q ∙ e ∙ of_none k (eqb-true k 0 t)))))
-      (λ f. let z = eqb-false k 0 f in (ap (λ (x : FoundIndex). (index_or i x).0) (sym q ∙ e ∙ of_some k z), z))
+      ⊎_elim (λ t. absurd (tf (ap is_some (sym q ∙ e ∙ of_none k (eqb-true k 0 t)))))
+      (λ f. let z = eqb-false k 0 f in (ap (λ (x : Option LogIndex). (unwrap_or x i).0) (sym q ∙ e ∙ of_some k z), z))
       (either (eqb k 0))
 
-  pub nothing_told : r ≡ FoundIndex.Nothing → k ≡ 0
-  unfolding is_index
+  pub nothing_told : r ≡ None → k ≡ 0
   nothing_told q =
-      ⊎_elim (λ t. eqb-true k 0 t) (λ f. absurd (tf (sym (ap is_index (sym q ∙ e ∙ of_some k (eqb-false k 0 f)))))) (either (eqb k 0))
+      ⊎_elim (λ t. eqb-true k 0 t) (λ f. absurd (tf (sym (ap is_some (sym q ∙ e ∙ of_some k (eqb-false k 0 f)))))) (either (eqb k 0))

@@ -1,8 +1,8 @@
 -- What a search among the commit terms answers.
 -- Assumes nothing.
-use Rattle.std.specs.Prelude.{ℕ, cond, eqb}
-use Rattle.table_rows.specs.declared.terms.FoundIndex.{FoundIndex}
+use Rattle.std.specs.Prelude.{ℕ, cond, eqb, Option, Some, None}
+use Rattle.units.specs.declared.LogIndex.{LogIndex}
 
 -- by the index that is found; 0 is none
-unfoldable pub found_index : ℕ → FoundIndex
-found_index i = cond (eqb i 0) FoundIndex.Nothing (FoundIndex.At (record { 0 = i }))
+unfoldable pub found_index : ℕ → Option LogIndex
+found_index i = cond (eqb i 0) None (Some (record { 0 = i }))

@@ -1,12 +1,16 @@
 // The table of findings, in the order found.
-ghost use Rattle.std.specs.Prelude.{◌≡◌, ◌+◌, ◌*◌, ◌≤◌, ◌<◌, ◌++◌, length};
+ghost use Rattle.std.specs.Prelude.{◌≡◌, ◌+◌, ◌*◌, ◌≤◌, ◌<◌, ◌++◌, length, refl};
+ghost use Rattle.std.proofs.Common.{lit≤};
 ghost use Rattle.storage.specs.Tables.{finding_row};
-ghost use Rattle.table_rows.specs.Values.{finding_value};
+ghost use Rattle.storage.proofs.RowLaws.{finding_length};
+ghost use Rattle.table_rows.specs.Values.{finding_value, stored_finding};
+ghost use Rattle.storage_bytes.specs.declared.layout.TheConstants.{FINDINGS};
 ghost use Rattle.storage_bytes.specs.Words.{word_bytes, put_bytes};
 ghost use Rattle.storage.specs.Writes.{finding_bytes};
 
-use storage_bytes::layout::FINDING_WIDTH;
-use storage_bytes::words::{get8, get16, get32, put8, put16, put32};
+use storage::rows::{Row, StoredRow};
+use storage_bytes::layout::{FINDING_WIDTH, FINDINGS, Region};
+use storage_bytes::words::{Field, put8};
 use units::{LogIndex, NodeId, Term};
 
 // Two logs differ under one index and term.
@@ -18,43 +22,62 @@ pub const LG_04: usize = 4;
 // A leader was elected without a committed entry.
 pub const LG_05: usize = 5;
 
-#[derive(Clone, Copy)]
+// Findings are in the order of their fields. The name is a number and no enum: a row that breaks the storage rules holds any byte
+// there.
+#[derive(Clone, Copy, PartialEq, Eq, PartialOrd, Ord)]
 pub struct Found {
     pub name: usize,
     pub node: NodeId,
-    pub index: LogIndex,
     pub term: Term,
+    pub index: LogIndex,
 }
 
+impl Row for Found {
+    ghost TABLE = { FINDINGS };
+
+    ghost width = { 8 };
+
+    ghost count = { 128 };
+
+    ghost bytes = { λ x. finding_bytes (finding_value x) };
+
+    ghost whole = { λ x. Unit {0} };
+
+    ghost inside = { lit≤ tt };
+
+    ghost filled = { refl };
+
+    ghost wide = { λ x _. finding_length (finding_value x) };
+
+    const TABLE: Region = FINDINGS;
+
+    fn put(self, findings: &mut [u8], k: usize) {
+        let o = k * FINDING_WIDTH;
+        put8(findings, o, self.name);
+        self.node.write(findings, o + 1);
+        self.index.write(findings, o + 2);
+        self.term.write(findings, o + 4);
+    }
+}
+
+impl StoredRow for Found {
+    ghost stored = { stored_finding };
+
+    fn at(findings: &[u8], k: usize) -> Found {
+        let o = k * FINDING_WIDTH;
+        Found {
+            name: usize::from(u8::read(findings, o)),
+            node: NodeId::read(findings, o + 1),
+            index: LogIndex::read(findings, o + 2),
+            term: Term::read(findings, o + 4),
+        }
+    }
+}
+
+// As `at` gives it, in the model's words.
 pub fn finding_at(findings: &[u8], k: usize) -> Found
     requires { (k < 128) × (length findings.now ≡ 1024) }
     ensures { finding_value result ≡ finding_row findings.now k }
 {
-    let o = k * FINDING_WIDTH;
-    Found {
-        name: get8(findings, o),
-        node: NodeId(get8(findings, o + 1) as u8),
-        index: LogIndex(get16(findings, o + 2)),
-        term: Term(get32(findings, o + 4)),
-    }
-}
-
-// Its name and node.
-fn put_name(t: &mut [u8], o: usize, f: Found)
-    requires { o + 8 ≤ length t.old }
-    ensures { t.new ≡ put_bytes t.old o (word_bytes 1 f.name ++ word_bytes 1 f.node.0) }
-{
-    put8(&mut t[..], o, f.name);
-    put8(&mut t[..], o + 1, f.node.0 as usize);
-}
-
-// A row written in the table.
-pub fn put_finding(findings: &mut [u8], k: usize, f: Found)
-    requires { (k < 128) × (length findings.old ≡ 1024) }
-    ensures { findings.new ≡ put_bytes findings.old (k * 8) (finding_bytes (finding_value f)) }
-{
-    let o = k * FINDING_WIDTH;
-    put_name(&mut findings[..], o, f);
-    put16(&mut findings[..], o + 2, f.index.0);
-    put32(&mut findings[..], o + 4, f.term.0);
+    Found::at(findings, k)
 }

@@ -21,18 +21,6 @@ unfolding lower_bytes
 lower_length h first k =
     cond_cases (λ (u : Bytes). length u ≡ length h) (leb first (certificate_of h k).mark) _ h (λ _. mark_length h k (first - 1)) (λ _. refl)
 
--- ---- one certificate, its mark as it was read
-
-module _ (h : Bytes) (first k m : ℕ) (e : m ≡ (certificate_of h k).mark) where
-  pub lower_before : m < first → h ≡ lower_bytes h first k
-  unfolding lower_bytes
-  lower_before g = sym (cond_false (leb first (certificate_of h k).mark) _ h (lt-leb first _ (subst (λ (y : ℕ). y < first) e g)))
-
-  pub lower_past : first ≤ m → (u : Bytes) → u ≡ mark_set h k (first - 1) → u ≡ lower_bytes h first k
-  unfolding lower_bytes
-  lower_past g u w =
-      w ∙ sym (cond_true (leb first (certificate_of h k).mark) _ h (le-leb first _ (subst (λ (y : ℕ). first ≤ y) e g)))
-
 -- ---- the loop
 
 pub record Lowering (h₀ : Bytes) (t first : ℕ) (h : Bytes) (k : ℕ) : Type 0 where
@@ -41,9 +29,6 @@ pub record Lowering (h₀ : Bytes) (t first : ℕ) (h : Bytes) (k : ℕ) : Type 
   pub within : k ≤ 64
 
 module _ (h₀ : Bytes) (t first : ℕ) where
-  pub lowering_starts : (k : ℕ) → k ≡ word_at h₀ 6 1 → word_at h₀ 6 1 ≤ 64 → length h₀ ≡ 24137 → Lowering h₀ t first h₀ k
-  lowering_starts k e w l = record { bytes = ap (lower_back h₀ t first) (sym e); long = l; within = omega arith }
-
   module _ (h : Bytes) (k : ℕ) (w : Lowering h₀ t first h k) where
     pub lowering_none : k ≤ 0 → h ≡ lower_back h₀ t first (word_at h₀ 6 1)
     unfolding lower_back

@@ -6,7 +6,7 @@ ghost use Rattle.term_marks.specs.Marks.{certificate_of, mark_set, lower_bytes, 
 
 use certificate_rows::certificates::{mark_at, put_mark, term_at};
 use storage::head::certificate_count;
-use storage_bytes::layout::{CERTIFICATES_LENGTH, CERTIFICATES_START, certificate_table};
+use storage_bytes::layout::CERTIFICATES;
 use units::{LogIndex, Term};
 
 // The term of certificate k.
@@ -14,7 +14,7 @@ fn election_term(history: &[u8], k: usize) -> Term
     requires { (k < 64) × (length history.now ≡ 24137) }
     ensures { result.0 ≡ (certificate_of history.now k).term }
 {
-    term_at(certificate_table(history), k)
+    term_at(CERTIFICATES.of(history), k)
 }
 
 // The mark of certificate k.
@@ -22,7 +22,7 @@ pub fn checked_mark(history: &[u8], k: usize) -> LogIndex
     requires { (k < 64) × (length history.now ≡ 24137) }
     ensures { result.0 ≡ (certificate_of history.now k).mark }
 {
-    mark_at(certificate_table(history), k)
+    mark_at(CERTIFICATES.of(history), k)
 }
 
 // The mark of certificate k, written. Only the table is lent.
@@ -30,18 +30,19 @@ pub fn store_mark(history: &mut [u8], k: usize, mark: LogIndex)
     requires { (k < 64) × (length history.old ≡ 24137) }
     ensures { history.new ≡ mark_set history.old k mark.0 }
 {
-    let a = CERTIFICATES_START;
-    let e = a + CERTIFICATES_LENGTH;
+    let a = CERTIFICATES.start;
+    let e = a + CERTIFICATES.length;
     put_mark(&mut history[a..e], k, mark);
 }
 
 // Where the mark of certificate k is at or past the first changed index, it goes before that.
+#[tactic(auto, unfolding(crate::specs::Marks::lower_bytes))]
 fn lower_mark(history: &mut [u8], k: usize, first: LogIndex)
     requires { (k < 64) × (1 ≤ first.0) × (length history.old ≡ 24137) }
     ensures { history.new ≡ lower_bytes history.old first.0 k }
 {
-    if first.0 <= checked_mark(&history[..], k).0 {
-        store_mark(&mut history[..], k, LogIndex(first.0 - 1));
+    if first <= checked_mark(history, k) {
+        store_mark(history, k, LogIndex(first.0 - 1));
     }
 }
 
@@ -51,12 +52,10 @@ pub fn lower_marks(history: &mut [u8], term: Term, first: LogIndex)
     requires { (word_at history.old 6 1 ≤ 64) × (1 ≤ first.0) × (length history.old ≡ 24137) }
     ensures { history.new ≡ lower_back history.old term.0 first.0 (word_at history.old 6 1) }
 {
-    let mut k = certificate_count(&history[..]);
-    while 0 < k {
-        k -= 1;
-        if election_term(&history[..], k).0 <= term.0 {
+    for k in (0..certificate_count(history)).rev() {
+        if election_term(history, k) <= term {
             return;
         }
-        lower_mark(&mut history[..], k, first);
+        lower_mark(history, k, first);
     }
 }

@@ -4,13 +4,10 @@ use Rattle.certificate_rows.specs.Values.{certificate_value}
 use Rattle.storage.specs.Rules.{numbered, numbered_after}
 use Rattle.storage.specs.Tables.{certificate_row, rows_of_certificates}
 use Rattle.storage_bytes.specs.Lists.{tabulate}
-use Prim.Native.Nat.{◌-◌, ◌≤◌}
+use Prim.Native.Nat.{◌-◌}
 use mathlib.Core.Path.{◌≡◌}
 use Rattle.certificate_rules.proofs.certificates.numbered.Given as goal
 
 abbrev pub invariant-loop-k : goal.invariant-loop-k
 invariant-loop-k l =
-    (l.k ≤ l.m) × (numbered (rows_of_certificates l.certificates l.m) ≡ numbered_after (certificate_value l.c) (tabulate (certificate_row l.certificates) l.k (l.m - l.k)))
-
-abbrev pub decreases-loop-k : goal.decreases-loop-k
-decreases-loop-k l = l.m - l.k
+    numbered (rows_of_certificates l.certificates l.m) ≡ numbered_after (certificate_value l.c) (tabulate (certificate_row l.certificates) l.k (l.m - l.k))

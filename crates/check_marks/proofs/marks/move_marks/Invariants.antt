@@ -1,11 +1,7 @@
 -- `check_marks::marks::move_marks` meets its contract. The invariant: moving the marks that are left gives the rest.
 -- Assumes nothing.
 use Rattle.check_marks.proofs.MarkLaws.{Moving}
-use Prim.Native.Nat.{◌-◌}
 use Rattle.check_marks.proofs.marks.move_marks.Given as goal
 
 abbrev pub invariant-loop-k : goal.invariant-loop-k
 invariant-loop-k l = Moving l.initial.history l.end.0 l.m l.history l.k
-
-abbrev pub decreases-loop-k : goal.decreases-loop-k
-decreases-loop-k l = l.m - l.k

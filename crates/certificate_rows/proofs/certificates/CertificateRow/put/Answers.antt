@@ -1,0 +1,24 @@
+-- `put` of `certificate_rows::certificates::Certificate` meets its contract: its fields side by side are the row.
+-- Assumes nothing.
+use Rattle.storage.proofs.WriteLaws.{field_next}
+use Rattle.storage.specs.Writes.{certificate_bytes}
+use Rattle.storage_bytes.specs.Words.{word_bytes}
+use Rattle.std.proofs.Common.{◌++◌, ◌*◌, refl, ◌∙◌}
+use Rattle.certificate_rows.proofs.certificates.CertificateRow.put.Goals as goal
+
+pub returns : goal.returns
+unfolding certificate_bytes
+returns c =
+    let t = c.args.certificates.now in
+    let x = c.args.self in
+    let o = c.args.k * 11 in
+    let A = word_bytes 4 x.term.0 in
+    let B = A ++ word_bytes 2 x.log.0 in
+    let C = B ++ word_bytes 2 x.mark.0 in
+    let D = C ++ word_bytes 1 x.leader.0 in
+    let E = D ++ word_bytes 1 x.number in
+    let b = c.write-2.ensures ∙ field_next t o A _ _ c.write.ensures refl in
+    let m = c.write-3.ensures ∙ field_next t o B _ _ b refl in
+    let l = c.write-4.ensures ∙ field_next t o C _ _ m refl in
+    let n = c.put8.ensures ∙ field_next t o D _ _ l refl in
+    c.put8-2.ensures ∙ field_next t o E _ _ n refl
