@@ -1,10 +1,9 @@
 -- What the code's answers say in the model's words: a value with the bit after it, or a refusal.
 -- Assumes nothing.
-use Rattle.std.specs.Prelude.{ℕ}
+use Rattle.std.specs.Prelude.{ℕ, Result, Ok, Err}
 use Rattle.model.specs.Refusal.{Refusal, unknownKind, bitsMissing, filling, outOfLimit, notAbove}
 use Rattle.model.specs.Reading.{Part, got, fault}
 use Rattle.bit_fields.specs.declared.bits.Fault.{Fault}
-use Rattle.bit_fields.specs.declared.bits.Number.{Number}
 
 -- a fault is a refusal of reading
 abbrev pub refusal_of : Fault → Refusal
@@ -14,7 +13,7 @@ refusal_of Fault.Filling = filling
 refusal_of Fault.OutOfLimit = outOfLimit
 refusal_of Fault.NotAbove = notAbove
 
--- the number, with the bit after it, or the refusal
-abbrev pub number_part : Number → ℕ → Part ℕ
-number_part (Number.Is v) k = got v k
-number_part (Number.Not f) k = fault (refusal_of f)
+-- the value, with the bit after it, or the refusal
+abbrev pub part_of : {A : Type 0} → Result A Fault → ℕ → Part A
+part_of (Ok v) k = got v k
+part_of (Err f) k = fault (refusal_of f)

@@ -1,11 +1,11 @@
 // Bits of a record, most significant first: the number in any 57 or fewer of them, and a field that may be missing.
-ghost use Rattle.std.specs.Prelude.{◌≡◌, ◌+◌, ◌*◌, ◌≤◌, length, leb};
+ghost use Rattle.std.specs.Prelude.{◌≡◌, ◌+◌, ◌*◌, ◌^◌, ◌<◌, ◌≤◌, IfOk, length, leb};
 ghost use Rattle.model.specs.Reading as reading;
 ghost use Rattle.model.specs.Refusal as refusal;
-ghost use Rattle.bit_fields.specs.Answers.{refusal_of, number_part};
+ghost use Rattle.bit_fields.specs.Answers.{refusal_of, part_of};
 
 // Why a record is unreadable.
-#[derive(Clone, Copy)]
+#[derive(Clone, Copy, PartialEq, Eq)]
 pub enum Fault {
     // The kind is none of 1 to 6.
     UnknownKind,
@@ -20,29 +20,18 @@ pub enum Fault {
 }
 
 // Document 01's number of a fault.
-pub fn fault_number(f: Fault) -> u8
-    ensures { result ≡ refusal.number (refusal_of f) }
-{
-    match f {
-        Fault::UnknownKind => 1,
-        Fault::BitsMissing => 2,
-        Fault::Filling => 3,
-        Fault::OutOfLimit => 4,
-        Fault::NotAbove => 5,
+impl From<Fault> for u8 {
+    ghost from_gives = { λ f result. result ≡ refusal.number (refusal_of f) };
+
+    fn from(f: Fault) -> u8 {
+        match f {
+            Fault::UnknownKind => 1,
+            Fault::BitsMissing => 2,
+            Fault::Filling => 3,
+            Fault::OutOfLimit => 4,
+            Fault::NotAbove => 5,
+        }
     }
-}
-
-// A field: its number, or its first fault.
-#[derive(Clone, Copy)]
-pub enum Number {
-    Is(u64),
-    Not(Fault),
-}
-
-fn wide(x: u8) -> u64
-    ensures { result ≡ x }
-{
-    x as u64
 }
 
 // The number in the w bits from bit `at` on: the bytes that hold them make one word, and what stands before and after the bits is
@@ -54,11 +43,9 @@ pub fn bits_at(s: &[u8], at: usize, w: usize) -> u64
     let first = at / 8;
     let end = at % 8 + w;
     let n = (end + 7) / 8;
-    let mut k = 0;
     let mut v: u64 = 0;
-    while k < n {
-        v = (v << 8) + wide(s[first + k]);
-        k += 1;
+    for byte in &s[first..first + n] {
+        v = (v << 8) + u64::from(*byte);
     }
     (v >> (8 * n - end)) % (1 << w)
 }
@@ -71,19 +58,22 @@ pub fn holds(s: &[u8], at: usize, w: usize) -> bool
     at / 8 + (at % 8 + w + 7) / 8 <= s.len()
 }
 
-// A field of w bits: 2 where its bits are missing.
-pub fn field(s: &[u8], at: usize, w: usize) -> Number
+// A field of w bits: its number, or 2 where its bits are missing.
+#[tactic(auto, using(crate::proofs::Widths::field_lt), unfolding(model::specs::Reading::field))]
+pub fn field(s: &[u8], at: usize, w: usize) -> Result<u64, Fault>
     requires { w ≤ 57 }
-    ensures { reading.field w s.now at ≡ number_part result (at + w) }
+    ensures reads { reading.field w s.now at ≡ part_of result (at + w) }
+    ensures below { IfOk result (λ v. v < 2 ^ w) }
 {
     if holds(s, at, w) {
-        Number::Is(bits_at(s, at, w))
+        Ok(bits_at(s, at, w))
     } else {
-        Number::Not(Fault::BitsMissing)
+        Err(Fault::BitsMissing)
     }
 }
 
 // Whether the fields, which end before bit `at`, end in the last byte, and its other bits are zero.
+#[tactic(auto, using(crate::proofs::Readers::filled_none, crate::proofs::Readers::filled_further, crate::proofs::Readers::filled_rest))]
 pub fn filled(s: &[u8], at: usize) -> bool
     ensures { result ≡ reading.filled s.now at }
 {

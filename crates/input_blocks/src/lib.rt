@@ -17,6 +17,7 @@ pub fn fill<R: Read>(reader: &mut R, block: &mut [u8]) -> io::Result<usize>
     ensures end { IfOk result (λ n. n < length block.new → IsAtEnd (R.remaining reader.new)) }
 {
     let mut filled = 0;
+    // how much a read gives is not known before: no index is counted
     while filled < block.len() {
         let n = reader.read(&mut block[filled..])?;
         if n == 0 {

@@ -2,64 +2,26 @@
 -- model tries them; and the laws of the loop.
 -- Assumes nothing.
 use Prim.Native.Nat.{ℕ, ◌-◌, ◌≤◌, ◌<◌}
-use mathlib.Core.Path.{◌≡◌, refl, ap, sym, ◌∙◌}
+use mathlib.Core.Path.{◌≡◌, refl, sym, ◌∙◌}
 use mathlib.Core.Bool.{Bool, true, false, cond}
 use mathlib.Core.List.{List, [], ◌∷◌}
-use mathlib.Core.Logic.{◌⊎◌, ⊎_elim}
+use mathlib.Core.Logic.{⊎_elim}
 use mathlib.Core.Option.{Option, none, some}
 use native.Mathlib.Omega.{arith}
-use lib.Dec.{ltb, eqb}
-use borrow.Author.Tests.{ltb-true, ltb-false, lt-ltb, le-ltb, eq-eqb, ne_eqb}
+use lib.Dec.{ltb}
+use borrow.Author.Tests.{ltb-true, ltb-false, lt-ltb, le-ltb}
 use Rattle.model.specs.Sizes.{Bytes}
 use Rattle.model.specs.Record as model
 use Rattle.model.specs.Rows as rows
 use Rattle.model.specs.Rows.{failing, verdict, or, rule1, rule2, rule3, rule4}
-use Rattle.model.proofs.Tests.{either, cond_true, cond_false}
-use Rattle.units.specs.declared.NodeId.{NodeId}
+use Rattle.model.proofs.Tests.{either}
 use Rattle.record_scan.specs.Places.{row_at, after_row, rows_at}
-use Rattle.record_walk.specs.Values.{row_value}
-use Rattle.record_walk.specs.declared.walk.Row.{Row}
 use Rattle.record_walk.proofs.Walks.{rows_next, rows_none}
-use Rattle.invariants.specs.declared.commit_safety.Verdict.{Verdict}
-use Rattle.invariants.specs.Rules.{row_of, no_rule, first_rule, verdict_at, least_from, verdict_for, verdict_of}
-
--- ---- the first rule of a row, by the rules before it
-
--- what a flag says of the test that it stands for
-pub flag_says : {x y b : Bool} → x ≡ b → x ≡ y → y ≡ b
-flag_says e q = sym q ∙ e
-
-module _ (r : model.Row) where
-  pub first_1 : rule1 r ≡ true → 1 ≡ first_rule r
-  unfolding first_rule
-  first_1 a = rw a
-
-  pub first_2 : rule1 r ≡ false → rule2 r ≡ true → 2 ≡ first_rule r
-  unfolding first_rule
-  first_2 a b = rw (a, b)
-
-  pub first_3 : rule1 r ≡ false → rule2 r ≡ false → rule3 r ≡ true → 3 ≡ first_rule r
-  unfolding first_rule
-  first_3 a b c = rw (a, b, c)
-
-  pub first_4 : rule1 r ≡ false → rule2 r ≡ false → rule3 r ≡ false → rule4 r ≡ true → 4 ≡ first_rule r
-  unfolding first_rule
-  first_4 a b c d = rw (a, b, c, d)
-
-  pub first_none : rule1 r ≡ false → rule2 r ≡ false → rule3 r ≡ false → rule4 r ≡ false → no_rule ≡ first_rule r
-  unfolding first_rule
-  first_none a b c d = rw (a, b, c, d)
-
-  pub first_least : 1 ≤ first_rule r
-  unfolding first_rule
-  first_least = least (rule1 r) (rule2 r) (rule3 r) (rule4 r)
-    where
-      least : (a b c d : Bool) → 1 ≤ cond {A = ℕ} a 1 (cond b 2 (cond c 3 (cond d 4 no_rule)))
-      least true b c d = omega arith
-      least false true c d = omega arith
-      least false false true d = omega arith
-      least false false false true = omega arith
-      least false false false false = omega arith
+use Rattle.invariants.specs.declared.commit_safety.Rule.{Rule}
+use Rattle.invariants.specs.declared.commit_safety.Failure.{Failure}
+use Rattle.std.specs.Prelude.{Some, None}
+use Rattle.std.specs.Prelude as std
+use Rattle.invariants.specs.Rules.{no_rule, number, least, node_in, first_rule, verdict_at, least_from, verdict_for, verdict_of}
 
 -- ---- the rules before rule k, as the model tries them
 
@@ -145,21 +107,9 @@ walk_ended k n rs l =
 -- ---- the loop, with n rows left from bit at on, where k is the least rule that failed so far, and m the first node
 
 module _ (s : Bytes) (at n k m : ℕ) {t : rows.Verdict} (e : t ≡ least_from k m (rows_at s at n)) where
-  -- the row there fails an earlier rule
-  pub row_earlier : (x : Row) (j : ℕ) → 0 < n → x ≡ row_value s at → j ≡ first_rule (row_of x) → j < k
-      → t ≡ least_from j (row_at s at).node (rows_at s (after_row s at) (n - 1))
-  unfolding least_from
-  row_earlier x j h v q l =
-      let z : j ≡ first_rule (row_at s at) = q ∙ ap (λ (y : Row). first_rule (row_of y)) v in
-      e ∙ rw (rows_next s at n h, ← z, lt-ltb j k l)
-
-  -- it fails none, or none before k
-  pub row_later : (x : Row) (j : ℕ) → 0 < n → x ≡ row_value s at → j ≡ first_rule (row_of x) → k ≤ j
-      → t ≡ least_from k m (rows_at s (after_row s at) (n - 1))
-  unfolding least_from
-  row_later x j h v q l =
-      let z : j ≡ first_rule (row_at s at) = q ∙ ap (λ (y : Row). first_rule (row_of y)) v in
-      e ∙ rw (rows_next s at n h, ← z, le-ltb j k l)
+  -- the row there, and those after it
+  pub row_next : 0 < n → t ≡ least_from k m (row_at s at ∷ rows_at s (after_row s at) (n - 1))
+  row_next h = e ∙ rw (rows_next s at n h)
 
   -- none is left
   pub rows_end : n ≤ 0 → verdict_at k m ≡ t
@@ -170,20 +120,18 @@ module _ (s : Bytes) (at n k m : ℕ) {t : rows.Verdict} (e : t ≡ least_from k
   pub rule_1_end : k ≤ 1 → verdict_at k m ≡ t
   rule_1_end l = sym (e ∙ walk_ended k m (rows_at s at n) l)
 
-  -- after the loop, no row is left or rule 1 failed
-  pub walk_over : (n ≤ 0) ⊎ (k ≤ 1) → verdict_at k m ≡ t
-  walk_over = ⊎_elim rows_end rule_1_end
-
 -- ---- the answer
 
-pub none_failed : {t : rows.Verdict} (k m : ℕ) → verdict_at k m ≡ t → k ≡ no_rule → Verdict.Holds ≡ verdict_for t
-none_failed k m e q = ap verdict_for (sym (cond_true (eqb k no_rule) (record { rule = 0; node = 0 }) (record { rule = k; node = m }) (eq-eqb k no_rule q)) ∙ e)
-
-pub one_failed : {t : rows.Verdict} (k : ℕ) (m : NodeId) → verdict_at k m.0 ≡ t → 1 ≤ k → (k ≡ no_rule → ⊥) → Verdict.Fails k m ≡ verdict_for t
-one_failed k m e l q =
-    let z : eqb k 0 ≡ false = ne_eqb k 0 (λ x. omega arith) in
-    sym (cond_false (eqb k 0) Verdict.Holds (Verdict.Fails k m) z)
-    ∙ ap verdict_for (sym (cond_false (eqb k no_rule) (record { rule = 0; node = 0 }) (record { rule = k; node = m.0 }) (ne_eqb k no_rule q)) ∙ e)
+-- what failed first is the answer to its own number and node
+pub answered : (f : std.Option Failure) → f ≡ verdict_for (verdict_at (least f) (node_in f))
+answered None = refl
+answered (Some f) = go f.rule
+  where
+    go : (r : Rule) → Some (record { rule = r; node = f.node }) ≡ verdict_for (verdict_at (number r) f.node.0)
+    go Rule.CommitMonotonicity = refl
+    go Rule.ConfigurationMonotonicity = refl
+    go Rule.ConfigurationIdentity = refl
+    go Rule.LogBounds = refl
 
 -- the model's verdict comes back from the answer: where no rule fails its node is 0
 pub verdict_back : (rs : List model.Row) → verdict_of (verdict_for (verdict rs)) ≡ verdict rs

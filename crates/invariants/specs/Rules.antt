@@ -1,11 +1,12 @@
 -- The first rule that a row fails, the walk over the rows, and what the code answers, in the model's words.
 -- Assumes nothing.
-use Rattle.std.specs.Prelude.{ℕ, cond, List, [], ◌∷◌, ltb, eqb}
+use Rattle.std.specs.Prelude.{ℕ, cond, List, [], ◌∷◌, ltb, eqb, Option, Some, None}
 use Rattle.model.specs.Record as model
 use Rattle.model.specs.Rows as rows
 use Rattle.record_walk.specs.declared.walk.Row.{Row}
 use Rattle.record_walk.specs.declared.walk.Configuration.{Configuration}
-use Rattle.invariants.specs.declared.commit_safety.Verdict.{Verdict}
+use Rattle.invariants.specs.declared.commit_safety.Rule.{Rule}
+use Rattle.invariants.specs.declared.commit_safety.Failure.{Failure}
 
 abbrev pub configuration_of : Configuration → model.Configuration
 configuration_of c = record { present = c.present; index = c.index.0; identity = c.identity }
@@ -38,6 +39,31 @@ configured f a =
 abbrev pub no_rule : ℕ
 no_rule = 5
 
+-- document 01's number of a rule
+abbrev pub number : Rule → ℕ
+number Rule.CommitMonotonicity = 1
+number Rule.ConfigurationMonotonicity = 2
+number Rule.ConfigurationIdentity = 3
+number Rule.LogBounds = 4
+
+-- the rule of a number
+abbrev pub rule_of : ℕ → Rule
+rule_of k =
+    cond (eqb k 1) Rule.CommitMonotonicity (cond (eqb k 2) Rule.ConfigurationMonotonicity (cond (eqb k 3) Rule.ConfigurationIdentity Rule.LogBounds))
+
+abbrev pub rank : Option Rule → ℕ
+rank None = no_rule
+rank (Some r) = number r
+
+-- the rule that failed so far, and the node
+abbrev pub least : Option Failure → ℕ
+least None = no_rule
+least (Some f) = number f.rule
+
+abbrev pub node_in : Option Failure → ℕ
+node_in None = 0
+node_in (Some f) = f.node.0
+
 -- the first rule that a row fails
 unfoldable pub first_rule : model.Row → ℕ
 first_rule r = cond (rows.rule1 r) 1 (cond (rows.rule2 r) 2 (cond (rows.rule3 r) 3 (cond (rows.rule4 r) 4 no_rule)))
@@ -52,10 +78,10 @@ least_from k n [] = verdict_at k n
 least_from k n (r ∷ rs) = cond (ltb (first_rule r) k) (least_from (first_rule r) r.node rs) (least_from k n rs)
 
 -- the model's verdict as the code answers it: rule 0 is none
-abbrev pub verdict_for : rows.Verdict → Verdict
-verdict_for v = cond (eqb v.rule 0) Verdict.Holds (Verdict.Fails v.rule (record { 0 = v.node }))
+abbrev pub verdict_for : rows.Verdict → Option Failure
+verdict_for v = cond (eqb v.rule 0) None (Some (record { rule = rule_of v.rule; node = record { 0 = v.node } }))
 
 -- a verdict as the model numbers it: 0 and 0 where no row fails
-abbrev pub verdict_of : Verdict → rows.Verdict
-verdict_of Verdict.Holds = record { rule = 0; node = 0 }
-verdict_of (Verdict.Fails k n) = record { rule = k; node = n.0 }
+abbrev pub verdict_of : Option Failure → rows.Verdict
+verdict_of None = record { rule = 0; node = 0 }
+verdict_of (Some f) = record { rule = number f.rule; node = f.node.0 }

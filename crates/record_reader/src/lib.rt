@@ -1,4 +1,4 @@
-// The record with its next bit, and two fields in a row. Stands on bit_fields.
+// The record with its next bit, from which its fields are taken in a row. Stands on bit_fields.
 #![tactic(auto)]
 
 pub mod reader;

@@ -15,11 +15,6 @@ use Rattle.model.specs.Refusal.{Refusal, bitsMissing, outOfLimit, notAbove}
 use Rattle.model.specs.Record.{Shown, Configuration, Row}
 use Rattle.model.specs.Reading.{field_at, bytes_at, Part, got, fault, Reader, onward, require, return, field, limited, governed, yes_no, content, entry_index, row_node, shown, configuration, row}
 use Rattle.bit_fields.proofs.Widths.{field_lt}
-use Rattle.bit_fields.specs.declared.bits.Number.{Number}
-use Rattle.bit_fields.specs.declared.bits.Fault.{Fault}
-use Rattle.record_scan.specs.declared.scan.Item.{Item}
-use Rattle.bit_fields.specs.Answers.{refusal_of, number_part}
-use Rattle.record_scan.specs.Scans.{scan_part}
 use Rattle.record_scan.specs.Places.{index_at, term_at, length_at, content_at, next_at, shown_at, configuration_at, row_at, after_row}
 
 -- ---- chains
@@ -29,16 +24,6 @@ fault≢got e = let z : ◌≡◌ {A = ℕ} 0 1 = cc in omega arith
 
 pub got_same : {A : Type 0} {a b : A} {k j : ℕ} → ◌≡◌ {A = Part A} (got a k) (got b j) → (b ≡ a) × (j ≡ k)
 got_same e = (cc, cc)
-
--- what the code's answer says of the part
-pub number_is : {p : Part ℕ} {r : Number} {v k : ℕ} → p ≡ number_part r k → r ≡ Number.Is v → p ≡ got v k
-number_is {k = k} e q = e ∙ ap (λ (r : Number). number_part r k) q
-
-pub item_is : {p : Part ℕ} {r : Item} {i k : ℕ} → p ≡ scan_part r → r ≡ Item.On i k → p ≡ got i k
-item_is e q = e ∙ ap scan_part q
-
-pub item_not : {p : Part ℕ} {r : Item} {f : Fault} → p ≡ scan_part r → r ≡ Item.Not f → p ≡ fault (refusal_of f)
-item_not e q = e ∙ ap scan_part q
 
 -- a chain that gave something: what its first reader gave, and its rest from there
 pub record Went {A B : Type 0} (s : Bytes) (p : Part A) (f : A → Reader B) (b : B) (j : ℕ) : Type 0 where

@@ -2,7 +2,8 @@
 -- and the step of a walk.
 -- Assumes nothing.
 use Prim.Native.Nat.{ℕ, zero, suc, ◌+◌, ◌-◌, ◌*◌, ◌^◌, ◌≤◌, ◌<◌}
-use mathlib.Core.Path.{◌≡◌, refl, ap, sym, ◌∙◌}
+use mathlib.Core.Path.{◌≡◌, refl, ap, sym, ◌∙◌, subst}
+use Rattle.std.specs.Prelude.{Result, Err}
 use mathlib.Core.List.{List, [], ◌∷◌}
 use native.Mathlib.Omega.{arith}
 use lib.ListN.{length}
@@ -10,10 +11,8 @@ use Rattle.model.specs.Sizes.{Bytes}
 use Rattle.model.specs.Refusal.{Refusal}
 use Rattle.model.specs.Reading.{Part, got, fault, Reader, onward, return, many}
 use Rattle.bit_fields.specs.declared.bits.Fault.{Fault}
-use Rattle.record_scan.specs.declared.scan.Done.{Done}
-use Rattle.record_scan.specs.declared.scan.End.{End}
 use Rattle.bit_fields.specs.Answers.{refusal_of}
-use Rattle.record_scan.specs.Scans.{keyed, ended, end_part, done_part}
+use Rattle.record_scan.specs.Scans.{keyed, ended, end_part}
 use Rattle.record_scan.specs.Places.{items_at, end_at, Listed}
 use Rattle.record_scan.proofs.Given.{fault≢got, got_same, went}
 
@@ -33,16 +32,8 @@ pub keyed_fault : {A : Type 0} (key : A → ℕ) (p : Part A) {r : Refusal} → 
 keyed_fault key (got x k) e = absurd (fault≢got (sym e))
 keyed_fault key (fault q) e = ap fault (cc)
 
--- a part of an item that was scanned
-pub done_is : {A : Type 0} (p : Part A) {r : Done} {k : ℕ} → ended p ≡ done_part r k → r ≡ Done.Whole
-    → Keyed (λ x. 0) p 0 k
-done_is p {k = k} e q = keyed_is (λ x. 0) p (e ∙ ap (λ (r : Done). done_part r k) q)
-
-pub done_not : {A : Type 0} (p : Part A) {r : Done} (k : ℕ) {f : Fault} → ended p ≡ done_part r k → r ≡ Done.Not f
-    → p ≡ fault (refusal_of f)
-done_not p k e q = keyed_fault (λ x. 0) p (e ∙ ap (λ (r : Done). done_part r k) q)
-
-pub end_not : {A : Type 0} (p : Part A) {r : End} {f : Fault} → ended p ≡ end_part r → r ≡ End.Not f
+-- the fault of a list that was scanned
+pub end_not : {A : Type 0} (p : Part A) {r : Result ℕ Fault} {f : Fault} → ended p ≡ end_part r → r ≡ Err f
     → p ≡ fault (refusal_of f)
 end_not p e q = keyed_fault (λ x. 0) p (e ∙ ap end_part q)
 
@@ -62,27 +53,22 @@ module _ {A : Type 0} (item : ℕ → Reader A) (key : A → ℕ) (s : Bytes) wh
       rw q.part (ended_cons s q.value (many item key (key q.value + 1) n s j) ∙ ap (λ (m : ℕ). ended (many item key (m + 1) n s j)) q.same)
 
   -- none is left
-  pub scan_end : {t : Part ℕ} (least k n : ℕ) → t ≡ ended (many item key least n s k) → n ≤ 0 → t ≡ got 0 k
+  pub scan_end : {t : Part ℕ} (least k n : ℕ) → t ≡ ended (many item key least n s k) → n ≡ 0 → t ≡ got 0 k
   unfolding many
-  scan_end least k zero e h = e
-  scan_end least k (suc n) e h = absurd (omega arith)
+  scan_end {t = t} least k n e h = subst (λ (n : ℕ). t ≡ ended (many item key least n s k)) h e
 
-  -- the next item is whole
-  pub scan_next : {t : Part ℕ} (least k n i j : ℕ) → t ≡ ended (many item key least n s k) → 0 < n
+  -- the next item is whole, and m are left
+  pub scan_next : {t : Part ℕ} (least k n m i j : ℕ) → t ≡ ended (many item key least n s k) → n ≡ suc m
       → keyed key (item least s k) ≡ got i j
-      → t ≡ ended (many item key (i + 1) (n - 1) s j)
-  scan_next least k zero i j e h q = absurd (omega arith)
-  scan_next least k (suc n) i j e h q =
-      let d : suc n - 1 ≡ n = omega arith in
-      rw d (e ∙ many_more least k i j n q)
+      → t ≡ ended (many item key (i + 1) m s j)
+  scan_next least k n m i j e h q = rw h at e ∙ many_more least k i j m q
 
   -- the next item has a fault
-  pub scan_stop : {t : Part ℕ} {r : Refusal} (least k n : ℕ) → t ≡ ended (many item key least n s k) → 0 < n
+  pub scan_stop : {t : Part ℕ} {r : Refusal} (least k n m : ℕ) → t ≡ ended (many item key least n s k) → n ≡ suc m
       → keyed key (item least s k) ≡ fault r
       → t ≡ fault r
   unfolding many
-  scan_stop least k zero e h q = absurd (omega arith)
-  scan_stop least k (suc n) e h q = e ∙ rw (keyed_fault key (item least s k) q)
+  scan_stop least k n m e h q = rw h at e ∙ rw (keyed_fault key (item least s k) q)
 
 -- ---- what a list that was read is
 

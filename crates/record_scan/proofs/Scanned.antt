@@ -1,16 +1,16 @@
 -- Laws of the scanning loops: an entry and a row as they stand in the bytes, and lists that were scanned.
 -- Assumes nothing.
-use Prim.Native.Nat.{ℕ, ◌+◌, ◌≤◌}
+use Prim.Native.Nat.{ℕ}
 use mathlib.Core.Path.{◌≡◌, ap, ◌∙◌}
+use Rattle.std.specs.Prelude.{Result, Ok}
 use mathlib.Core.List.{List}
 use native.Mathlib.Omega.{arith}
 use Rattle.model.specs.Sizes.{Bytes}
 use Rattle.model.specs.Record.{Shown, Row}
 use Rattle.model.specs.Reading.{got, many, shown, row}
-use Rattle.record_scan.specs.declared.scan.End.{End}
-use Rattle.record_scan.specs.Scans.{keyed, ended, end_part}
+use Rattle.bit_fields.specs.declared.bits.Fault.{Fault}
+use Rattle.record_scan.specs.Scans.{ended, end_part}
 use Rattle.record_scan.specs.Places.{index_of, node_of, shown_at, next_at, entries_at, row_at, after_row, rows_at}
-use Rattle.bit_fields.proofs.Widths.{field_lt}
 use Rattle.record_scan.proofs.Given.{shown_is, row_is}
 use Rattle.record_scan.proofs.Listed.{Stands, keyed_is, many_is}
 
@@ -30,35 +30,19 @@ row_stands s least k x j e =
     let h = row_is s least k e in
     record { value = h.value; end = h.next; within = omega arith }
 
--- ---- for the scanning loops
-
--- an entry's index is small, and the entry has at most 304 bits
-pub entry_near : (s : Bytes) (least k i j : ℕ) → keyed index_of (shown least s k) ≡ got i j → (i ≤ 256) × (j ≤ k + 304)
-entry_near s least k i j e =
-    let q = keyed_is index_of (shown least s k) e in
-    let h = shown_is s least k q.part in
-    let v = ap index_of h.value in
-    (omega (arith, h.within, v, q.same), omega (arith, h.next, h.short))
-
--- a row's node is below 64, and the row has 122 bits
-pub row_near : (s : Bytes) (least k i j : ℕ) → keyed node_of (row least s k) ≡ got i j → (i ≤ 256) × (j ≤ k + 122)
-row_near s least k i j e =
-    let q = keyed_is node_of (row least s k) e in
-    let h = row_is s least k q.part in
-    let v = ap node_of h.value in
-    (omega (arith, field_lt s k 6, v, q.same), omega (arith, h.next))
+-- ---- lists that were scanned
 
 -- entries that were scanned are those in the bytes
-pub entries_scanned : (s : Bytes) (k n : ℕ) {r : End} {e : ℕ} → ended (many shown index_of 0 n s k) ≡ end_part r
-    → r ≡ End.At e → many shown index_of 0 n s k ≡ got (entries_at s k n) e
+pub entries_scanned : (s : Bytes) (k n : ℕ) {r : Result ℕ Fault} {e : ℕ} → ended (many shown index_of 0 n s k) ≡ end_part r
+    → r ≡ Ok e → many shown index_of 0 n s k ≡ got (entries_at s k n) e
 entries_scanned s k n {e = e} p q =
     let d = keyed_is (λ x. 0) (many shown index_of 0 n s k) (p ∙ ap end_part q) in
     let m = many_is shown index_of shown_at next_at 304 s (entry_stands s) 0 k n d.part in
     d.part ∙ ap (λ (es : List Shown). got es e) m.values
 
 -- rows that were scanned are those in the bytes
-pub rows_scanned : (s : Bytes) (k n : ℕ) {r : End} {e : ℕ} → ended (many row node_of 0 n s k) ≡ end_part r
-    → r ≡ End.At e → many row node_of 0 n s k ≡ got (rows_at s k n) e
+pub rows_scanned : (s : Bytes) (k n : ℕ) {r : Result ℕ Fault} {e : ℕ} → ended (many row node_of 0 n s k) ≡ end_part r
+    → r ≡ Ok e → many row node_of 0 n s k ≡ got (rows_at s k n) e
 rows_scanned s k n {e = e} p q =
     let d = keyed_is (λ x. 0) (many row node_of 0 n s k) (p ∙ ap end_part q) in
     let m = many_is row node_of row_at after_row 122 s (row_stands s) 0 k n d.part in

@@ -1,6 +1,6 @@
 -- The entries and rows that a walk gives, as the code's values.
 -- Assumes nothing.
-use Rattle.std.specs.Prelude.{ℕ, ◌+◌, ◌-◌, ◌*◌, ◌^◌, ◌≤◌, List, ◌++◌, eqb, length, replicate}
+use Rattle.std.specs.Prelude.{ℕ, ◌+◌, ◌-◌, ◌*◌, ◌^◌, ◌≤◌, List, ◌++◌, eqb, length, replicate, suc, ◌≡◌, Option, Some, None}
 use Rattle.model.specs.Sizes.{Bytes}
 use Rattle.model.specs.Reading.{field_at}
 use Rattle.record_walk.specs.declared.walk.ShownEntry.{ShownEntry}
@@ -54,3 +54,8 @@ row_value s k =
 pub record RowHere (s : Bytes) (k : ℕ) : Type 0 where
   pub near : k ≤ 2 ^ 32
   pub whole : after_row s k ≤ 8 * length s
+
+-- a step of a walk: with none left there is none to give, and else the entry at bit k, with the walk moved past it
+abbrev pub EntryTaken : Bytes → ℕ → ℕ → Option ShownEntry → Bytes → ℕ → ℕ → Type 0
+EntryTaken s k n None t j m = (n ≡ 0) × (t ≡ s) × (j ≡ k) × (m ≡ n)
+EntryTaken s k n (Some e) t j m = (e ≡ shown_entry s k) × (t ≡ s) × (j ≡ next_at s k) × (n ≡ suc m)

@@ -4,7 +4,8 @@ ghost use Rattle.std.specs.Prelude.{◌≡◌, ◌+◌, ◌*◌, ◌^◌, ◌≤
 ghost use Rattle.model.specs.Reading as reading;
 ghost use Rattle.model.specs.Record as model;
 ghost use Rattle.record_scan.specs.Places as places;
-ghost use Rattle.record_walk.specs.Values.{padded, shown_entry, configuration_value, row_value, Here, RowHere};
+ghost use Rattle.record_walk.specs.Values.{padded, shown_entry, configuration_value, row_value, Here, RowHere, EntryTaken};
+ghost use Rattle.std.specs.Iterator.{at_most};
 
 use bit_fields::bits::bits_at;
 use units::{LogIndex, NodeId, Term};
@@ -16,7 +17,7 @@ pub const FIRST_ENTRY: usize = 20;
 pub const FIRST_ROW: usize = 14;
 
 // An entry of a view, with the index it was shown under. Of the content's 32 bytes the first `length` count; the others
-// are zero.
+// are zero: memory is fixed, and an entry is copied whole.
 #[derive(Clone, Copy)]
 pub struct ShownEntry {
     pub index: LogIndex,
@@ -26,7 +27,8 @@ pub struct ShownEntry {
     pub next: usize,
 }
 
-// A row's configuration; where it is absent, its index and identity are zero.
+// A row's configuration; where it is absent, its index and identity are zero. They stand beside a flag, and in no Option:
+// `row_at` promises the numbers that the bits have, of any row, and absent ones too.
 #[derive(Clone, Copy)]
 pub struct Configuration {
     pub present: bool,
@@ -46,12 +48,6 @@ pub struct Row {
     pub next: usize,
 }
 
-fn wide(x: u8) -> u16
-    ensures { (result ≡ x) × (result ≤ 255) }
-{
-    x as u16
-}
-
 // The n bytes from bit `at` on, each through a window of two bytes, and zeros after them. Where `at` begins a byte, both
 // bytes of the window are that one.
 fn content_at(s: &[u8], at: usize, n: usize) -> [u8; 32]
@@ -62,11 +58,9 @@ fn content_at(s: &[u8], at: usize, n: usize) -> [u8; 32]
     let second = (at + 7) / 8;
     let shift = 8 - at % 8;
     let mut out = [0u8; 32];
-    let mut i = 0;
-    while i < n {
-        let window = wide(s[first + i]) * 256 + wide(s[second + i]);
+    for i in 0..n {
+        let window = u16::from(s[first + i]) * 256 + u16::from(s[second + i]);
         out[i] = ((window >> shift) % 256) as u8;
-        i += 1;
     }
     out
 }
@@ -88,6 +82,7 @@ pub fn next_at(s: &[u8], at: usize) -> usize
 }
 
 // The entry at bit `at`. Its index, term and content length are 48 bits, taken at once.
+#[tactic(auto, using(bit_fields::proofs::Widths::head_parts))]
 pub fn entry_at(s: &[u8], at: usize) -> ShownEntry
     requires { Here s.now at }
     ensures { result ≡ shown_entry s.now at }
@@ -104,7 +99,36 @@ pub fn entry_at(s: &[u8], at: usize) -> ShownEntry
     }
 }
 
+// The entries of a view that are left to walk, from bit `next` on.
+#[derive(Drop)]
+pub struct Entries<'a> {
+    pub bytes: &'a [u8],
+    pub next: usize,
+    pub left: usize,
+}
+
+impl<'a> Iterator for Entries<'a> {
+    type Item = ShownEntry;
+
+    ghost can_next = { λ w. places.Walk w.bytes.now w.next w.left };
+
+    ghost next_gives = { λ w r t. EntryTaken w.bytes.now w.next w.left r t.bytes.now t.next t.left };
+
+    ghost remaining = { λ w. at_most w.left };
+
+    fn next(&mut self) -> Option<ShownEntry> {
+        if self.left == 0 {
+            return None;
+        }
+        let e = entry_at(self.bytes, self.next);
+        self.next = e.next;
+        self.left -= 1;
+        Some(e)
+    }
+}
+
 // The configuration at bit `at`.
+#[tactic(auto, using(bit_fields::proofs::Widths::field_lt))]
 fn configuration_at(s: &[u8], at: usize) -> Configuration
     requires { (at ≤ 2 ^ 33) × (at + 43 ≤ 8 * length s.now) }
     ensures { result ≡ configuration_value s.now at }
@@ -120,6 +144,7 @@ fn configuration_at(s: &[u8], at: usize) -> Configuration
 }
 
 // The row at bit `at`.
+#[tactic(auto, using(bit_fields::proofs::Widths::field_lt))]
 pub fn row_at(s: &[u8], at: usize) -> Row
     requires { RowHere s.now at }
     ensures { result ≡ row_value s.now at }
@@ -142,17 +167,16 @@ pub fn row_at(s: &[u8], at: usize) -> Row
 }
 
 // The index of the last of `count` entries from bit `from` on, past a gap too; `before` where there is none.
+#[tactic(auto, using(crate::proofs::Walks::here, crate::proofs::Walks::last_end))]
 pub fn last_index(s: &[u8], from: usize, count: usize, before: LogIndex) -> LogIndex
     requires { places.Walk s.now from count }
     ensures { result.0 ≡ model.last_from before.0 (places.entries_at s.now from count) }
 {
     let mut at = from;
-    let mut left = count;
     let mut last = before;
-    while 0 < left {
+    for _ in 0..count {
         last = index_at(s, at);
         at = next_at(s, at);
-        left -= 1;
     }
     last
 }

@@ -2,6 +2,8 @@
 -- rows, which are the ones in the bytes, in order, each readable.
 -- Assumes nothing.
 use Prim.Native.Nat.{ℕ, ◌≤◌}
+use Rattle.std.specs.Prelude.{Result, Ok, Err}
+use Rattle.bit_fields.specs.declared.bits.Fault.{Fault}
 use mathlib.Core.Path.{◌≡◌, refl, ap, sym, ◌∙◌}
 use mathlib.Core.Bool.{Bool, true, false, cond}
 use mathlib.Core.List.{List}
@@ -189,12 +191,12 @@ rows_read s rs e =
 
 -- ---- the limits of each kind's fields, and what `read` tells
 
-limits : (s : Bytes) (r : Head) → read s ≡ reading_of s r → Within r
+limits : (s : Bytes) (r : Result Head Fault) → read s ≡ reading_of s r → Within r
 unfolding fields_of commit_fields terms_fields election_fields
-limits s (Head.View n c) e =
+limits s (Ok (Head.View n c)) e =
     let v = view_read s n.0 (entries_at s first_entry c) e in
     (omega (arith, v.node, field_lt s 4 6), omega (arith, v.count, entries_length s first_entry c))
-limits s (Head.Commit n i) e =
+limits s (Ok (Head.Commit n i)) e =
     let w = whole s (commit n.0 i.0) e in
     let g₁ = went s (field 6 s 4) _ w.fields in
     let g₂ = went s (limited 10 256 s g₁.place) _ g₁.rest in
@@ -203,7 +205,7 @@ limits s (Head.Commit n i) e =
   where
     commit_same : {a b x y : ℕ} → ◌≡◌ {A = Record} (commit a x) (commit b y) → (a ≡ b) × (x ≡ y)
     commit_same q = (cc, cc)
-limits s (Head.Terms o n t) e =
+limits s (Ok (Head.Terms o n t)) e =
     let w = whole s (terms o.0 n.0 t.0) e in
     let g₁ = went s (limited 10 256 s 4) _ w.fields in
     let g₂ = went s (limited 10 256 s g₁.place) _ g₁.rest in
@@ -216,7 +218,7 @@ limits s (Head.Terms o n t) e =
   where
     terms_same : {a b x y u v : ℕ} → ◌≡◌ {A = Record} (terms a x u) (terms b y v) → (a ≡ b) × (x ≡ y) × (u ≡ v)
     terms_same q = (cc, cc, cc)
-limits s (Head.Election l t p n) e =
+limits s (Ok (Head.Election l t p n)) e =
     let w = whole s (election l.0 t.0 p n) e in
     let g₁ = went s (field 6 s 4) _ w.fields in
     let g₂ = went s (field 32 s g₁.place) _ g₁.rest in
@@ -230,22 +232,22 @@ limits s (Head.Election l t p n) e =
   where
     election_same : {a b x y u v : ℕ} {p q : Bool} → ◌≡◌ {A = Record} (election a x p u) (election b y q v) → (a ≡ b) × (x ≡ y) × (u ≡ v)
     election_same q = (cc, cc, cc)
-limits s Head.Check e = tt
-limits s (Head.Rows c) e = omega (arith, (rows_read s (rows_at s first_row c) e).count, rows_length s first_row c)
-limits s (Head.Unreadable f) e = tt
+limits s (Ok Head.Check) e = tt
+limits s (Ok (Head.Rows c)) e = omega (arith, (rows_read s (rows_at s first_row c) e).count, rows_length s first_row c)
+limits s (Err f) e = tt
 
 -- an answer that stands for what the model reads
-pub told : (s : Bytes) (r : Head) → read s ≡ reading_of s r → Told s r
+pub told : (s : Bytes) (r : Result Head Fault) → read s ≡ reading_of s r → Told s r
 told s r e = record { head = head_back s r ∙ ap head_of (sym e); reading = e; within = limits s r e }
 
 -- the walk over a view's entries, and over the rows, from what `read` told
 
-pub view_walk : (s : Bytes) (r : Head) (n : NodeId) (c : ℕ) → Told s r → r ≡ Head.View n c → Walk s first_entry c
+pub view_walk : (s : Bytes) (r : Result Head Fault) (n : NodeId) (c : ℕ) → Told s r → r ≡ Ok (Head.View n c) → Walk s first_entry c
 view_walk s r n c t e =
     let l = entries_length s first_entry c in
     rw l at (view_read s n.0 (entries_at s first_entry c) (t.reading ∙ ap (reading_of s) e)).walk
 
-pub rows_walk : (s : Bytes) (r : Head) (c : ℕ) → Told s r → r ≡ Head.Rows c → RowWalk s first_row c
+pub rows_walk : (s : Bytes) (r : Result Head Fault) (c : ℕ) → Told s r → r ≡ Ok (Head.Rows c) → RowWalk s first_row c
 rows_walk s r c t e =
     let l = rows_length s first_row c in
     rw l at (rows_read s (rows_at s first_row c) (t.reading ∙ ap (reading_of s) e)).walk

@@ -1,6 +1,6 @@
 -- What the reader answers of a whole record, in the model's words, and the model's reading as such an answer.
 -- Assumes nothing.
-use Rattle.std.specs.Prelude.{ℕ, ◌^◌, ◌≤◌, ◌<◌, ◌≡◌, cond, length}
+use Rattle.std.specs.Prelude.{ℕ, ◌^◌, ◌≤◌, ◌<◌, ◌≡◌, cond, length, Result, Ok, Err}
 use Rattle.model.specs.Sizes.{Bytes}
 use Rattle.model.specs.Refusal.{Refusal, unknownKind, bitsMissing, filling, outOfLimit, notAbove, prefixesFull, findingsFull, old_exceeds_new, lengthExceedsFront, certificatesFull, numberTaken}
 use Rattle.model.specs.Record.{Record, view, commit, terms, election, check, rows}
@@ -11,22 +11,22 @@ use Rattle.bit_fields.specs.Answers.{refusal_of}
 use Rattle.record_scan.specs.Places.{entries_at, rows_at, first_entry, first_row}
 
 -- the record that an answer stands for: the entries and rows are those in the bytes
-abbrev pub reading_of : Bytes → Head → Reading
-reading_of s (Head.View n c) = readable (view n.0 (entries_at s first_entry c))
-reading_of s (Head.Commit n i) = readable (commit n.0 i.0)
-reading_of s (Head.Terms o n t) = readable (terms o.0 n.0 t.0)
-reading_of s (Head.Election l t p n) = readable (election l.0 t.0 p n)
-reading_of s Head.Check = readable check
-reading_of s (Head.Rows c) = readable (rows (rows_at s first_row c))
-reading_of s (Head.Unreadable f) = unreadable (refusal_of f)
+abbrev pub reading_of : Bytes → Result Head Fault → Reading
+reading_of s (Ok (Head.View n c)) = readable (view n.0 (entries_at s first_entry c))
+reading_of s (Ok (Head.Commit n i)) = readable (commit n.0 i.0)
+reading_of s (Ok (Head.Terms o n t)) = readable (terms o.0 n.0 t.0)
+reading_of s (Ok (Head.Election l t p n)) = readable (election l.0 t.0 p n)
+reading_of s (Ok Head.Check) = readable check
+reading_of s (Ok (Head.Rows c)) = readable (rows (rows_at s first_row c))
+reading_of s (Err f) = unreadable (refusal_of f)
 
 -- the answer r stands for what the fields of a kind, which follow its 4 bits, say
-abbrev pub Reads : Reader Record → Bytes → Head → Type 0
+abbrev pub Reads : Reader Record → Bytes → Result Head Fault → Type 0
 Reads fields s r = finish s (fields s 4) ≡ reading_of s r
 
 -- the head, or 3 where what follows the fields is not the filling
-abbrev pub finished : Bytes → ℕ → Head → Head
-finished s k h = cond (filled s k) h (Head.Unreadable Fault.Filling)
+abbrev pub finished : Bytes → ℕ → Head → Result Head Fault
+finished s k h = cond (filled s k) (Ok h) (Err Fault.Filling)
 
 -- a refusal as a fault of reading. Reading gives no other refusal, so the last ones do not matter.
 abbrev pub fault_of : Refusal → Fault
@@ -43,28 +43,28 @@ fault_of certificatesFull = Fault.UnknownKind
 fault_of numberTaken = Fault.UnknownKind
 
 -- the answer that the model's reading asks for
-abbrev pub head_of : Reading → Head
-head_of (readable (view n es)) = Head.View (record { 0 = n }) (length es)
-head_of (readable (commit n i)) = Head.Commit (record { 0 = n }) (record { 0 = i })
-head_of (readable (terms o n t)) = Head.Terms (record { 0 = o }) (record { 0 = n }) (record { 0 = t })
-head_of (readable (election l t p n)) = Head.Election (record { 0 = l }) (record { 0 = t }) p n
-head_of (readable check) = Head.Check
-head_of (readable (rows rs)) = Head.Rows (length rs)
-head_of (unreadable r) = Head.Unreadable (fault_of r)
+abbrev pub head_of : Reading → Result Head Fault
+head_of (readable (view n es)) = Ok (Head.View (record { 0 = n }) (length es))
+head_of (readable (commit n i)) = Ok (Head.Commit (record { 0 = n }) (record { 0 = i }))
+head_of (readable (terms o n t)) = Ok (Head.Terms (record { 0 = o }) (record { 0 = n }) (record { 0 = t }))
+head_of (readable (election l t p n)) = Ok (Head.Election (record { 0 = l }) (record { 0 = t }) p n)
+head_of (readable check) = Ok Head.Check
+head_of (readable (rows rs)) = Ok (Head.Rows (length rs))
+head_of (unreadable r) = Err (fault_of r)
 
 -- the fields of an answer are within document 01's limits
-abbrev pub Within : Head → Type 0
-Within (Head.View n c) = (n.0 < 64) × (c ≤ 256)
-Within (Head.Commit n i) = (n.0 < 64) × (i.0 ≤ 256)
-Within (Head.Terms o n t) = (o.0 ≤ 256) × (n.0 ≤ 256) × (t.0 < 2 ^ 32)
-Within (Head.Election l t p n) = (l.0 < 64) × (t.0 < 2 ^ 32) × (n ≤ 256)
-Within Head.Check = Unit {0}
-Within (Head.Rows c) = c ≤ 256
-Within (Head.Unreadable f) = Unit {0}
+abbrev pub Within : Result Head Fault → Type 0
+Within (Ok (Head.View n c)) = (n.0 < 64) × (c ≤ 256)
+Within (Ok (Head.Commit n i)) = (n.0 < 64) × (i.0 ≤ 256)
+Within (Ok (Head.Terms o n t)) = (o.0 ≤ 256) × (n.0 ≤ 256) × (t.0 < 2 ^ 32)
+Within (Ok (Head.Election l t p n)) = (l.0 < 64) × (t.0 < 2 ^ 32) × (n ≤ 256)
+Within (Ok Head.Check) = Unit {0}
+Within (Ok (Head.Rows c)) = c ≤ 256
+Within (Err f) = Unit {0}
 
 -- what `read` promises of its answer r to any bytes: it is the model's, it stands for just what the model reads, and its
 -- fields are within their limits
-pub record Told (s : Bytes) (r : Head) : Type 0 where
+pub record Told (s : Bytes) (r : Result Head Fault) : Type 0 where
   pub head : r ≡ head_of (read s)
   pub reading : read s ≡ reading_of s r
   pub within : Within r

@@ -1,12 +1,13 @@
 // A whole record, read: its kind with its plain fields, or the first fault from the left. Nothing is asked of the bytes.
-ghost use Rattle.std.specs.Prelude.{◌≡◌};
+ghost use Rattle.std.specs.Prelude.{◌≡◌, ◌+◌, ◌^◌, ◌≤◌, ◌<◌, IfOk};
 ghost use Rattle.model.specs.Reading as reading;
+ghost use Rattle.bit_fields.specs.Answers.{part_of};
 ghost use Rattle.records.specs.Heads.{Reads, finished, Told};
 
-use bit_fields::bits::{Fault, Number, field, filled};
-use record_fields::fields::{Flag, governed, index, within, yes_no};
-use record_reader::reader::two_fields;
-use record_scan::scan::{End, scan_entries, scan_rows};
+use bit_fields::bits::{Fault, field, filled};
+use record_fields::fields::{governed, index, within, yes_no};
+use record_reader::reader::RecordReader;
+use record_scan::scan::{Entry, Row, scan_items};
 use units::{LogIndex, NodeId, Term};
 
 // What a record says. A view's entries and the rows are walked where they are wanted (`record_walk`).
@@ -28,7 +29,8 @@ pub enum Head {
         new: LogIndex,
         term: Term,
     },
-    // A leader was elected in a term, with that many entries of its front, if its log is present.
+    // A leader was elected in a term, with that many entries of its front, if its log is present. Flag and length stand apart, and in
+    // no Option: the model's record and the stored certificate have both, and an Option would be made here to be taken apart there.
     Election {
         leader: NodeId,
         term: Term,
@@ -41,170 +43,132 @@ pub enum Head {
     Rows {
         count: usize,
     },
-    // The first fault.
-    Unreadable(Fault),
 }
 
 // The head, where the fields that end before bit `at` fill the record.
-fn finish(s: &[u8], at: usize, head: Head) -> Head
+fn finish(s: &[u8], at: usize, head: Head) -> Result<Head, Fault>
     ensures { result ≡ finished s.now at head }
 {
     if filled(s, at) {
-        head
+        Ok(head)
     } else {
-        Head::Unreadable(Fault::Filling)
+        Err(Fault::Filling)
     }
+}
+
+// The next index, count or length.
+#[tactic(auto, unfolding(model::specs::Reading::limited))]
+fn take_index(fields: &mut RecordReader) -> Result<u64, Fault>
+    requires { fields.old.next + 10 < 2 ^ 64 }
+    ensures reads { reading.index fields.old.bytes.now fields.old.next ≡ part_of result (fields.old.next + 10) }
+    ensures within { IfOk result (λ i. i ≤ 256) }
+    ensures bytes { fields.new.bytes ≡ fields.old.bytes }
+    ensures next { fields.new.next ≡ fields.old.next + 10 }
+{
+    within(fields.take(10), 256)
 }
 
 // 1 view: node, count, entries.
-fn read_view(s: &[u8]) -> Head
+#[tactic(auto, unfolding(model::specs::Reading::view_fields))]
+fn read_view(s: &[u8]) -> Result<Head, Fault>
     ensures { Reads reading.view_fields s.now result }
 {
-    let fields = two_fields(s, 4, 6, 10);
-    let node = fields.first;
-    let entries = fields.second;
-    let n = match node {
-        Number::Is(n) => n,
-        Number::Not(f) => return Head::Unreadable(f),
-    };
-    let c = match within(entries, 256) {
-        Number::Is(c) => c,
-        Number::Not(f) => return Head::Unreadable(f),
-    };
-    let count = c as usize;
-    match scan_entries(s, 20, count) {
-        End::At(end) => finish(
-            s,
-            end,
-            Head::View {
-                node: NodeId(n as u8),
-                count,
-            },
-        ),
-        End::Not(f) => Head::Unreadable(f),
-    }
+    let mut fields = RecordReader::new(s, 4);
+    let node = fields.take(6)?;
+    let count = take_index(&mut fields)? as usize;
+    let end = scan_items::<Entry>(s, 20, count)?;
+    finish(
+        s,
+        end,
+        Head::View {
+            node: NodeId(node as u8),
+            count,
+        },
+    )
 }
 
 // 2 commit: node, commit index.
-fn read_commit(s: &[u8]) -> Head
+#[tactic(auto, unfolding(model::specs::Reading::commit_fields))]
+fn read_commit(s: &[u8]) -> Result<Head, Fault>
     ensures { Reads reading.commit_fields s.now result }
 {
-    let fields = two_fields(s, 4, 6, 10);
-    let node = fields.first;
-    let commit = fields.second;
-    let n = match node {
-        Number::Is(n) => n,
-        Number::Not(f) => return Head::Unreadable(f),
-    };
-    let i = match within(commit, 256) {
-        Number::Is(i) => i,
-        Number::Not(f) => return Head::Unreadable(f),
-    };
+    let mut fields = RecordReader::new(s, 4);
+    let node = fields.take(6)?;
+    let index = take_index(&mut fields)?;
     finish(
         s,
         20,
         Head::Commit {
-            node: NodeId(n as u8),
-            index: LogIndex(i as usize),
+            node: NodeId(node as u8),
+            index: LogIndex(index as usize),
         },
     )
 }
 
 // 3 commit terms: old, new, term.
-fn read_terms(s: &[u8]) -> Head
+#[tactic(auto, unfolding(model::specs::Reading::terms_fields))]
+fn read_terms(s: &[u8]) -> Result<Head, Fault>
     ensures { Reads reading.terms_fields s.now result }
 {
-    let fields = two_fields(s, 4, 10, 10);
-    let old = fields.first;
-    let new = fields.second;
-    let o = match within(old, 256) {
-        Number::Is(o) => o,
-        Number::Not(f) => return Head::Unreadable(f),
-    };
-    let n = match within(new, 256) {
-        Number::Is(n) => n,
-        Number::Not(f) => return Head::Unreadable(f),
-    };
-    let t = match field(s, 24, 32) {
-        Number::Is(t) => t,
-        Number::Not(f) => return Head::Unreadable(f),
-    };
+    let mut fields = RecordReader::new(s, 4);
+    let old = take_index(&mut fields)?;
+    let new = take_index(&mut fields)?;
+    let term = fields.take(32)?;
     finish(
         s,
         56,
         Head::Terms {
-            old: LogIndex(o as usize),
-            new: LogIndex(n as usize),
-            term: Term(t as u32),
+            old: LogIndex(old as usize),
+            new: LogIndex(new as usize),
+            term: Term(term as u32),
         },
     )
 }
 
 // 4 election: leader, term, log present, length.
-fn read_election(s: &[u8]) -> Head
+#[tactic(auto, unfolding(model::specs::Reading::election_fields))]
+fn read_election(s: &[u8]) -> Result<Head, Fault>
     ensures { Reads reading.election_fields s.now result }
 {
-    let fields = two_fields(s, 4, 6, 32);
-    let leader = fields.first;
-    let term = fields.second;
-    let l = match leader {
-        Number::Is(l) => l,
-        Number::Not(f) => return Head::Unreadable(f),
-    };
-    let t = match term {
-        Number::Is(t) => t,
-        Number::Not(f) => return Head::Unreadable(f),
-    };
-    let p = match yes_no(s, 42) {
-        Flag::Says(p) => p,
-        Flag::Not(f) => return Head::Unreadable(f),
-    };
-    let n = match governed(s, 43, p, 10, 256) {
-        Number::Is(n) => n,
-        Number::Not(f) => return Head::Unreadable(f),
-    };
+    let mut fields = RecordReader::new(s, 4);
+    let leader = fields.take(6)?;
+    let elected_in = fields.take(32)?;
+    let present = yes_no(s, 42)?;
+    let length = governed(s, 43, present, 10, 256)?;
     finish(
         s,
         53,
         Head::Election {
-            leader: NodeId(l as u8),
-            term: Term(t as u32),
-            present: p,
-            length: n as usize,
+            leader: NodeId(leader as u8),
+            term: Term(elected_in as u32),
+            present,
+            length: length as usize,
         },
     )
 }
 
 // 6 rows: count, rows.
-fn read_rows(s: &[u8]) -> Head
+#[tactic(auto, unfolding(model::specs::Reading::rows_fields))]
+fn read_rows(s: &[u8]) -> Result<Head, Fault>
     ensures { Reads reading.rows_fields s.now result }
 {
-    let c = match index(s, 4) {
-        Number::Is(c) => c,
-        Number::Not(f) => return Head::Unreadable(f),
-    };
-    let count = c as usize;
-    match scan_rows(s, 14, count) {
-        End::At(end) => finish(s, end, Head::Rows { count }),
-        End::Not(f) => Head::Unreadable(f),
-    }
+    let count = index(s, 4)? as usize;
+    let end = scan_items::<Row>(s, 14, count)?;
+    finish(s, end, Head::Rows { count })
 }
 
 // Any bytes: every record starts with a kind of 4 bits.
-pub fn read(s: &[u8]) -> Head
+#[tactic(auto, using(crate::proofs::Readable::told, crate::proofs::Heads::finish_head), unfolding(model::specs::Reading::read, model::specs::Reading::record_fields, model::specs::Reading::fields_of))]
+pub fn read(s: &[u8]) -> Result<Head, Fault>
     ensures { Told s.now result }
 {
-    let kind = match field(s, 0, 4) {
-        Number::Is(kind) => kind,
-        Number::Not(f) => return Head::Unreadable(f),
-    };
-    match kind {
+    match field(s, 0, 4)? {
         1 => read_view(s),
         2 => read_commit(s),
         3 => read_terms(s),
         4 => read_election(s),
         5 => finish(s, 4, Head::Check),
         6 => read_rows(s),
-        _ => Head::Unreadable(Fault::UnknownKind),
+        _ => Err(Fault::UnknownKind),
     }
 }

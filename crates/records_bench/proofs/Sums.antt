@@ -5,27 +5,23 @@ use mathlib.Core.Path.{◌≡◌, sym, ◌∙◌}
 use mathlib.Core.List.{List}
 use native.Mathlib.Omega.{arith}
 use native.Mathlib.Numerals.{add-one}
-use lib.ListN.{length, get_or, take, drop, drop_of_length-le}
-use lib.Seq.{drop-cons, get_or-take, length-take-le}
+use lib.ListN.{length, get_or, drop, drop_of_length-le}
+use lib.Seq.{drop-cons}
 use Rattle.model.specs.Sizes.{Bytes}
 use Rattle.record_scan.specs.Places.{entries_at, next_at, content_at}
 use Rattle.record_walk.proofs.Walks.{entries_next, entries_none}
 use Rattle.records_bench.specs.Used.{sum_of, contents_of}
 
--- the first n bytes of a content, from the i-th on
-module _ (c : List ℕ) (n v i : ℕ) (fits : n ≤ length c) where
-  pub sum_next : {t : ℕ} (x : ℕ) → t ≡ v + sum_of (drop i (take n c)) → i < n → x ≡ get_or c i 0
-      → t ≡ v + x + sum_of (drop (i + 1) (take n c))
+-- the bytes of a content, from the i-th on
+module _ (xs : List ℕ) (v i : ℕ) where
+  pub sum_next : {t : ℕ} (x : ℕ) → t ≡ v + sum_of (drop i xs) → i < length xs → x ≡ get_or xs i 0
+      → t ≡ v + x + sum_of (drop (i + 1) xs)
   unfolding sum_of
-  sum_next x e h q =
-      let l : i < length (take n c) = omega (arith, length-take-le n c fits) in
-      e ∙ rw (drop-cons (take n c) i 0 l, add-one i, get_or-take n c i 0 h, q) (omega arith)
+  sum_next x e h q = e ∙ rw (drop-cons xs i 0 h, add-one i, q) (omega arith)
 
-  pub sum_end : {t : ℕ} → t ≡ v + sum_of (drop i (take n c)) → n ≤ i → v ≡ t
+  pub sum_end : {t : ℕ} → t ≡ v + sum_of (drop i xs) → length xs ≤ i → v ≡ t
   unfolding sum_of
-  sum_end e h =
-      let l : length (take n c) ≤ i = omega (arith, length-take-le n c fits) in
-      sym (e ∙ rw (drop_of_length-le (take n c) l) (omega arith))
+  sum_end e h = sym (e ∙ rw (drop_of_length-le xs h) (omega arith))
 
 module _ (s : Bytes) (k n v : ℕ) where
   pub contents_next : {t : ℕ} (x : ℕ) → t ≡ v + contents_of (entries_at s k n) → 0 < n → x ≡ sum_of (content_at s k)

@@ -2,13 +2,11 @@
 -- Assumes nothing.
 use Prim.Native.Nat.{◌+◌, ◌-◌, ◌*◌, ◌≤◌}
 use mathlib.Core.Path.{◌≡◌}
-use Rattle.record_scan.specs.Places.{Walk, entries_at, first_entry}
+use Rattle.record_scan.specs.Places.{entries_at, first_entry}
 use Rattle.records_bench.specs.Used.{contents_of}
 use Rattle.records_bench.proofs.walk.Given as goal
 
-abbrev pub invariant-loop-left : goal.invariant-loop-left
-invariant-loop-left l =
-    (l.left ≤ l.count) × (l.sum ≤ 8160 * (l.count - l.left)) × Walk l.s l.at l.left × (contents_of (entries_at l.s first_entry l.count) ≡ l.sum + contents_of (entries_at l.s l.at l.left))
-
-abbrev pub decreases-loop-left : goal.decreases-loop-left
-decreases-loop-left l = l.left
+abbrev pub invariant-loop-e : goal.invariant-loop-e
+invariant-loop-e l =
+    let w = l.e-iterator in
+    (w.bytes.now ≡ l.s) × (w.left ≤ l.count) × (l.sum ≤ 8160 * (l.count - w.left)) × (contents_of (entries_at l.s first_entry l.count) ≡ l.sum + contents_of (entries_at l.s w.next w.left))

@@ -1,10 +1,10 @@
--- `records_limits::run` meets its contract: each line starts after the one before it.
+-- `records_limits::run` meets its contract: each case is shorter than what was left before it.
 -- Assumes nothing.
-use Rattle.std.proofs.Common.{length, ◌+◌, ◌-◌}
+use Rattle.std.proofs.Common.{length, ◌≤◌}
 use Rattle.records_limits.proofs.run.Given as goal
 
-abbrev pub invariant-loop-at : goal.invariant-loop-at
-invariant-loop-at g l = Unit {0}
+abbrev pub invariant-loop-space : goal.invariant-loop-space
+invariant-loop-space g l = length l.rest ≤ length l.s
 
-abbrev pub decreases-loop-at : goal.decreases-loop-at
-decreases-loop-at g l = length l.s + 1 - l.at
+abbrev pub decreases-loop-space : goal.decreases-loop-space
+decreases-loop-space g l = length l.rest

@@ -1,38 +1,21 @@
--- `records::head::read_commit` meets its contract: each exit rewrites the model's chain by what was read on the way.
+-- `records::head::read_commit` meets its contract: the model's chain is rewritten by what was taken on the way.
 -- Assumes nothing.
 use mathlib.Core.Path.{refl}
 use native.Mathlib.Omega.{arith}
 use Rattle.model.specs.Reading.{commit_fields}
-use Rattle.records.proofs.Heads.{finish_head}
-use Rattle.record_fields.proofs.LimitLaws.{limited_within}
-use Rattle.record_scan.proofs.Given.{number_is, field_below}
+use Rattle.records.proofs.Heads.{finish_head, fault_read, field_taken, index_taken}
 use Rattle.records.proofs.head.read_commit.Goals as goal
 
-pub returns-in-Not : goal.returns-in-Not
+pub returns-in_err-index : goal.returns-in_err-index
 unfolding commit_fields
-returns-in-Not c = rw (c.two_fields-fields.ensures.0, c.in-Not.is)
-
-pub returns-in-Not-within : goal.returns-in-Not-within
-unfolding commit_fields
-returns-in-Not-within c =
-    rw (
-      c.two_fields-fields.ensures.0,
-      c.in-Is.is,
-      limited_within _ _ 10 256 c.two_fields-fields.result.second c.two_fields-fields.ensures.1 c.within.ensures,
-      c.in-Not-within.is,
-    )
-
-pub overflow_cast-n : goal.overflow_cast-n
-overflow_cast-n c =
-    omega (arith, field_below _ _ 6 (number_is c.two_fields-fields.ensures.0 c.in-Is.is))
+returns-in_err-index c =
+    let first = field_taken c.args.s.now 4 6 c.take.ensures.reads c.in_ok-node.was (cc) (omega arith) in
+    let second = index_taken c.args.s.now 10 c.take_index.ensures.reads c.in_err-index.was (cc) (omega arith) in
+    rw (first, second) (fault_read _ _ _ c.from_residual-in_err-index.ensures.1)
 
 pub returns : goal.returns
 unfolding commit_fields
 returns c =
-    rw (
-      c.two_fields-fields.ensures.0,
-      c.in-Is.is,
-      limited_within _ _ 10 256 c.two_fields-fields.result.second c.two_fields-fields.ensures.1 c.within.ensures,
-      c.in-Is-within.is,
-      c.finish.ensures,
-    ) (finish_head _ _ _ _ refl)
+    let first = field_taken c.args.s.now 4 6 c.take.ensures.reads c.in_ok-node.was (cc) (omega arith) in
+    let second = index_taken c.args.s.now 10 c.take_index.ensures.reads c.in_ok-index.was (cc) (omega arith) in
+    rw (first, second, c.finish.ensures) (finish_head _ _ _ _ refl)

@@ -1,53 +1,30 @@
--- `records::head::read_terms` meets its contract: each exit rewrites the model's chain by what was read on the way.
+-- `records::head::read_terms` meets its contract: the model's chain is rewritten by what was taken on the way.
 -- Assumes nothing.
 use mathlib.Core.Path.{refl}
 use native.Mathlib.Omega.{arith}
 use Rattle.model.specs.Reading.{terms_fields}
-use Rattle.records.proofs.Heads.{finish_head}
-use Rattle.record_fields.proofs.LimitLaws.{limited_within}
-use Rattle.record_scan.proofs.Given.{number_is, field_below}
+use Rattle.records.proofs.Heads.{finish_head, fault_read, field_taken, index_taken}
 use Rattle.records.proofs.head.read_terms.Goals as goal
 
-pub returns-in-Not : goal.returns-in-Not
+pub returns-in_err-new : goal.returns-in_err-new
 unfolding terms_fields
-returns-in-Not c =
-    rw (limited_within _ _ 10 256 c.two_fields-fields.result.first c.two_fields-fields.ensures.0 c.within.ensures, c.in-Not.is)
+returns-in_err-new c =
+    let old = index_taken c.args.s.now 4 c.take_index.ensures.reads c.in_ok-old.was (cc) (omega arith) in
+    let new = index_taken c.args.s.now 14 c.take_index-2.ensures.reads c.in_err-new.was (cc) (omega arith) in
+    rw (old, new) (fault_read _ _ _ c.from_residual-in_err-new.ensures.1)
 
-pub returns-in-Not-within : goal.returns-in-Not-within
+pub returns-in_err-term : goal.returns-in_err-term
 unfolding terms_fields
-returns-in-Not-within c =
-    rw (
-      limited_within _ _ 10 256 c.two_fields-fields.result.first c.two_fields-fields.ensures.0 c.within.ensures,
-      c.in-Is.is,
-      limited_within _ _ 10 256 c.two_fields-fields.result.second c.two_fields-fields.ensures.1 c.within-2.ensures,
-      c.in-Not-within.is,
-    )
-
-pub returns-in-Not-field : goal.returns-in-Not-field
-unfolding terms_fields
-returns-in-Not-field c =
-    rw (
-      limited_within _ _ 10 256 c.two_fields-fields.result.first c.two_fields-fields.ensures.0 c.within.ensures,
-      c.in-Is.is,
-      limited_within _ _ 10 256 c.two_fields-fields.result.second c.two_fields-fields.ensures.1 c.within-2.ensures,
-      c.in-Is-within.is,
-      c.field.ensures,
-      c.in-Not-field.is,
-    )
-
-pub overflow_cast-t : goal.overflow_cast-t
-overflow_cast-t c =
-    omega (arith, field_below _ _ 32 (number_is c.field.ensures c.in-Is-field.is))
+returns-in_err-term c =
+    let old = index_taken c.args.s.now 4 c.take_index.ensures.reads c.in_ok-old.was (cc) (omega arith) in
+    let new = index_taken c.args.s.now 14 c.take_index-2.ensures.reads c.in_ok-new.was (cc) (omega arith) in
+    let term = field_taken c.args.s.now 24 32 c.take.ensures.reads c.in_err-term.was (cc) (omega arith) in
+    rw (old, new, term) (fault_read _ _ _ c.from_residual-in_err-term.ensures.1)
 
 pub returns : goal.returns
 unfolding terms_fields
 returns c =
-    rw (
-      limited_within _ _ 10 256 c.two_fields-fields.result.first c.two_fields-fields.ensures.0 c.within.ensures,
-      c.in-Is.is,
-      limited_within _ _ 10 256 c.two_fields-fields.result.second c.two_fields-fields.ensures.1 c.within-2.ensures,
-      c.in-Is-within.is,
-      c.field.ensures,
-      c.in-Is-field.is,
-      c.finish.ensures,
-    ) (finish_head _ _ _ _ refl)
+    let old = index_taken c.args.s.now 4 c.take_index.ensures.reads c.in_ok-old.was (cc) (omega arith) in
+    let new = index_taken c.args.s.now 14 c.take_index-2.ensures.reads c.in_ok-new.was (cc) (omega arith) in
+    let term = field_taken c.args.s.now 24 32 c.take.ensures.reads c.in_ok-term.was (cc) (omega arith) in
+    rw (old, new, term, c.finish.ensures) (finish_head _ _ _ _ refl)
