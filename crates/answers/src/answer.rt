@@ -1,11 +1,33 @@
-// What a record is answered.
+// What a record is answered: that it is accepted, or why it is refused.
+ghost use Rattle.std.specs.Prelude.{◌≡◌, Ok};
+ghost use Rattle.answers.specs.Numbers.{accepted_with, number_of};
+ghost use Rattle.answers.specs.declared.answer.Refusal.{Refusal};
+
 use bit_fields::bits::Fault;
 use units::NodeId;
 
-#[derive(Clone, Copy)]
-pub enum Answer {
-    // With its value, and the node of a failing row or 0.
-    Accepted { value: usize, node: NodeId },
+// A record that is accepted, with its value and the node of a failing row or 0.
+#[derive(Clone, Copy, PartialEq, Eq)]
+pub struct Accepted {
+    pub value: usize,
+    pub node: NodeId,
+}
+
+impl Accepted {
+    // No row fails.
+    pub fn with(value: usize) -> Accepted
+        ensures { Ok result ≡ accepted_with value }
+    {
+        Accepted {
+            value,
+            node: NodeId(0),
+        }
+    }
+}
+
+// Why a record is refused.
+#[derive(Clone, Copy, PartialEq, Eq)]
+pub enum Refusal {
     // 1 to 5: the first fault of its bytes.
     Unreadable(Fault),
     // 6
@@ -22,4 +44,30 @@ pub enum Answer {
     NumberTaken,
     // 12
     StorageBroken,
+}
+
+impl From<Fault> for Refusal {
+    ghost from_gives = { λ f result. result ≡ Refusal.Unreadable f };
+
+    fn from(f: Fault) -> Refusal {
+        Refusal::Unreadable(f)
+    }
+}
+
+// Document 01's number of a refusal.
+impl From<Refusal> for u8 {
+    ghost from_gives = { λ r result. result ≡ number_of r };
+
+    fn from(r: Refusal) -> u8 {
+        match r {
+            Refusal::Unreadable(f) => u8::from(f),
+            Refusal::PrefixesFull => 6,
+            Refusal::FindingsFull => 7,
+            Refusal::OldExceedsNew => 8,
+            Refusal::LengthExceedsFront => 9,
+            Refusal::CertificatesFull => 10,
+            Refusal::NumberTaken => 11,
+            Refusal::StorageBroken => 12,
+        }
+    }
 }

@@ -1,9 +1,8 @@
 // Document 01's numbers for an answer: its refusal or 0, its value and its node.
 ghost use Rattle.std.specs.Prelude.{◌≡◌};
-ghost use Rattle.answers.specs.Numbers.{refusal_in, reply_of};
+ghost use Rattle.answers.specs.Numbers.{reply_of};
 
-use crate::answer::Answer;
-use bit_fields::bits::fault_number;
+use crate::answer::{Accepted, Refusal};
 
 #[repr(C)]
 #[derive(Clone, Copy)]
@@ -16,32 +15,21 @@ pub struct Reply {
     pub node: u8,
 }
 
-fn refused(refusal: u8) -> Reply
-    ensures { result ≡ refusal_in refusal }
-{
-    Reply {
-        refusal,
-        value: 0,
-        node: 0,
-    }
-}
+impl From<Result<Accepted, Refusal>> for Reply {
+    ghost from_gives = { λ a result. result ≡ reply_of a };
 
-pub fn reply_of(a: Answer) -> Reply
-    ensures { result ≡ reply_of a }
-{
-    match a {
-        Answer::Accepted { value, node } => Reply {
-            refusal: 0,
-            value,
-            node: node.0,
-        },
-        Answer::Unreadable(f) => refused(fault_number(f)),
-        Answer::PrefixesFull => refused(6),
-        Answer::FindingsFull => refused(7),
-        Answer::OldExceedsNew => refused(8),
-        Answer::LengthExceedsFront => refused(9),
-        Answer::CertificatesFull => refused(10),
-        Answer::NumberTaken => refused(11),
-        Answer::StorageBroken => refused(12),
+    fn from(a: Result<Accepted, Refusal>) -> Reply {
+        match a {
+            Ok(accepted) => Reply {
+                refusal: 0,
+                value: accepted.value,
+                node: accepted.node.0,
+            },
+            Err(r) => Reply {
+                refusal: u8::from(r),
+                value: 0,
+                node: 0,
+            },
+        }
     }
 }

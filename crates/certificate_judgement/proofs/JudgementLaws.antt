@@ -6,7 +6,6 @@ use mathlib.Core.Path.{◌≡◌, sym, ◌∙◌, ap, subst}
 use mathlib.Core.Bool.{Bool, true, false, not}
 use mathlib.Core.List.{List, [], ◌∷◌}
 use lib.Dec.{eqb}
-use lib.ListN.{length}
 use borrow.Author.Tests.{eq-eqb, ne_eqb}
 use Rattle.model.specs.Sizes.{Bytes}
 use Rattle.model.proofs.Tests.{cond_true, cond_false}
@@ -16,7 +15,7 @@ use Rattle.storage_bytes.specs.Words.{word_at}
 use Rattle.storage.specs.Tables.{CertificateRow, certificate_row, certificates_part}
 use Rattle.storage_bytes.proofs.ListLaws.{tabulate_cons, tabulate_none}
 use Rattle.log_violation.specs.Violation.{held_all, bytes_all, NotedAll, note_where}
-use Rattle.log_violation.proofs.ViolationLaws.{Room, held_then, bytes_then, room_then}
+use Rattle.log_violation.proofs.ViolationLaws.{held_then, bytes_then}
 use Rattle.storage.proofs.WellFormed.{Formed}
 use Rattle.check_relevance.specs.Relevance.{relevant_in}
 use Rattle.committed_prefix.specs.Prefix.{agree_in}
@@ -81,19 +80,17 @@ pub record Walking (h t₀ : Bytes) (held m : ℕ) (t : Bytes) (b n k : ℕ) : T
   pub flag : flags_in h 0 (certificates_of h) ≡ flags_in h b (tabulate (certificate_row (certificates_part h)) k (m - k))
   pub holds : held_all t₀ held (lackings_in h (certificates_of h)) ≡ held_all t n (lackings_in h (tabulate (certificate_row (certificates_part h)) k (m - k)))
   pub table : bytes_all t₀ held (lackings_in h (certificates_of h)) ≡ bytes_all t n (lackings_in h (tabulate (certificate_row (certificates_part h)) k (m - k)))
-  pub room : Room t n
   pub within : k ≤ m
 
 module _ (h t₀ : Bytes) (held m : ℕ) where
-  pub walking_starts : m ≡ word_at h 6 1 → held ≤ 129 → length t₀ ≡ 1024 → Walking h t₀ held m t₀ 0 held 0
-  walking_starts e f l =
+  pub walking_starts : m ≡ word_at h 6 1 → Walking h t₀ held m t₀ 0 held 0
+  walking_starts e =
       let s : certificates_of h ≡ tabulate (certificate_row (certificates_part h)) 0 (m - 0) =
       ap (λ (x : ℕ). tabulate (certificate_row (certificates_part h)) 0 x) (let z : word_at h 6 1 ≡ m - 0 = omega arith in z) in
       record {
         flag = ap (flags_in h 0) s;
         holds = ap (λ (cs : List CertificateRow). held_all t₀ held (lackings_in h cs)) s;
         table = ap (λ (cs : List CertificateRow). bytes_all t₀ held (lackings_in h cs)) s;
-        room = record { few = f; long = l };
         within = omega arith;
       }
 
@@ -125,6 +122,5 @@ module _ (h t₀ : Bytes) (held m : ℕ) where
                 ∙ held_then t n (lacking_in h c) n' t' (j.holds, j.table) (lackings_in h rest);
             table = w.table ∙ ap (λ (cs : List CertificateRow). bytes_all t n (lackings_in h cs)) more
                 ∙ bytes_then t n (lacking_in h c) n' t' (j.holds, j.table) (lackings_in h rest);
-            room = room_then t n (lacking_in h c) n' t' (j.holds, j.table) w.room;
             within = omega arith;
           }

@@ -1,6 +1,6 @@
 -- Judging certificates on the bytes of a history, in the order of the walk: what is noted, and whether an index was relevant.
 -- Assumes nothing.
-use Rattle.std.specs.Prelude.{ℕ, ◌≤◌, ◌≡◌, Bool, true, cond, not, List, [], ◌∷◌, ◌++◌, eqb, length}
+use Rattle.std.specs.Prelude.{ℕ, ◌≤◌, ◌≡◌, Bool, true, cond, not, List, [], ◌∷◌, ◌++◌, eqb}
 use Rattle.model.specs.Sizes.{Bytes}
 use Rattle.model.specs.History.{Finding}
 use Rattle.storage_bytes.specs.Words.{word_at}
@@ -36,13 +36,11 @@ unfoldable pub flag_in : Bytes → CertificateRow → ℕ → ℕ
 unfolding relevant_in
 flag_in h c b = cond (eqb (relevant_in h c) 0) b 4
 
--- what noting asks: a well-formed history, the number of its committed prefix, a log that is stored, a table of findings
-pub record Noting (h : Bytes) (p : ℕ) (c : CertificateRow) (t : Bytes) (held : ℕ) : Type 0 where
+-- what noting asks: a well-formed history, the number of its committed prefix, a log that is stored
+pub record Noting (h : Bytes) (p : ℕ) (c : CertificateRow) : Type 0 where
   pub right : well_formed h ≡ true
   pub committed : p ≡ word_at h 4 2
   pub stored : c.log ≤ word_at h 0 2
-  pub long : length t ≡ 1024
-  pub few : held ≤ 129
 
 pub record JudgedAs (h : Bytes) (c : CertificateRow) (t : Bytes) (b held b' held' : ℕ) (t' : Bytes) : Type 0 where
   pub flag : b' ≡ flag_in h c b
@@ -61,11 +59,9 @@ unfolding flag_in
 flags_in h b [] = b
 flags_in h b (c ∷ cs) = flags_in h (flag_in h c b) cs
 
-pub record Judging (h : Bytes) (p : ℕ) (t : Bytes) (held : ℕ) : Type 0 where
+pub record Judging (h : Bytes) (p : ℕ) : Type 0 where
   pub right : well_formed h ≡ true
   pub committed : p ≡ word_at h 4 2
-  pub long : length t ≡ 1024
-  pub few : held ≤ 129
 
 pub record JudgedAll (h t : Bytes) (held b held' : ℕ) (t' : Bytes) : Type 0 where
   pub flag : b ≡ flags_in h 0 (certificates_of h)

@@ -1,32 +1,23 @@
 // A certificate judged: flag 4 where it has a relevant index, LG-05 where its log is absent, shorter or different through
-// it. Nothing of the history is written; findings are noted in a copy of its table.
-ghost use Rattle.std.specs.Prelude.{◌≡◌, ◌≤◌, true, length};
+// it. Nothing of the history is written; findings are noted in a copy of its table (`Notes`).
+ghost use Rattle.std.specs.Prelude.{◌≡◌, ◌≤◌, true};
 ghost use Rattle.storage_bytes.specs.Words.{word_at};
 ghost use Rattle.storage.specs.Rules.{well_formed};
 ghost use Rattle.storage.specs.Values.{committed_end};
 ghost use Rattle.certificate_rows.specs.Values.{certificate_value};
-ghost use Rattle.log_violation.specs.Violation.{NotedAll, note_where};
-ghost use Rattle.certificate_judgement.specs.Judgement.{lacks_through, lacking_of, Noting, Judging, JudgedAs, JudgedAll};
+ghost use Rattle.certificate_judgement.specs.Judgement.{lacks_through, Noting, Judging, JudgedAs, JudgedAll};
 
 use certificate_rows::certificates::{Certificate, LOG_ABSENT, certificate_at};
 use check_relevance::relevance::relevant_index;
 use committed_prefix::committed::agree_through;
-use log_violation::violation::note_where;
+use log_violation::violation::Notes;
 use storage::head::certificate_count;
-use storage_bytes::layout::certificate_table;
+use storage_bytes::layout::CERTIFICATES;
 use table_rows::findings::{Found, LG_05};
-use table_rows::terms::FoundIndex;
 use units::{LogIndex, LogPrefixWitness};
 
 // The flag of a relevant index.
 const RELEVANT_INDEX: usize = 4;
-
-// How far the judging has come: the sum of the flags, and how many findings are held.
-#[derive(Clone, Copy)]
-pub struct Judged {
-    pub flags: usize,
-    pub held: usize,
-}
 
 // The certificate's log is absent, or shorter than the committed prefix through the index, or different.
 fn lacks_through(
@@ -45,68 +36,49 @@ fn lacks_through(
     !agree_through(history, log, committed, index)
 }
 
-// LG-05 is noted where the log lacks the committed prefix through the index.
-fn note_lacking(
-    findings: &mut [u8],
-    n: usize,
-    lacks: bool,
-    c: Certificate,
-    index: LogIndex,
-) -> usize
-    requires { (n ≤ 129) × (length findings.old ≡ 1024) }
-    ensures { NotedAll findings.old n (note_where lacks (lacking_of (certificate_value c) index.0)) result findings.new }
-{
-    let node = c.leader;
-    let term = c.term;
-    let lg05 = Found {
-        name: LG_05,
-        node,
-        index,
-        term,
-    };
-    note_where(&mut findings[..], n, lacks, lg05)
-}
-
-// One certificate, by the committed prefix and its end.
+// One certificate, by the committed prefix and its end: the sum of the flags with its own. LG-05 is noted where its log lacks the
+// committed prefix through the relevant index.
 pub fn judge(
     history: &[u8],
     committed: LogPrefixWitness,
     end: LogIndex,
     c: Certificate,
-    findings: &mut [u8],
-    earlier: Judged,
-) -> Judged
-    requires { Noting history.now committed.0 (certificate_value c) findings.old earlier.held × (end.0 ≡ committed_end history.now) }
-    ensures { JudgedAs history.now (certificate_value c) findings.old earlier.flags earlier.held result.flags result.held findings.new }
+    notes: &mut Notes,
+    flags: usize,
+) -> usize
+    requires { Noting history.now committed.0 (certificate_value c) × (end.0 ≡ committed_end history.now) }
+    ensures { JudgedAs history.now (certificate_value c) notes.old.rows flags notes.old.held result notes.new.held notes.new.rows }
 {
-    let FoundIndex::At(index) = relevant_index(history, end, c) else {
-        return earlier;
+    let Some(index) = relevant_index(history, end, c) else {
+        return flags;
     };
     let lacks = lacks_through(history, committed, c, index);
-    let held = note_lacking(&mut findings[..], earlier.held, lacks, c, index);
-    Judged {
-        flags: RELEVANT_INDEX,
-        held,
-    }
+    let lg05 = Found {
+        name: LG_05,
+        node: c.leader,
+        index,
+        term: c.term,
+    };
+    notes.note_where(lacks, lg05);
+    RELEVANT_INDEX
 }
 
-// Every certificate, by term, then arrival, as they are stored.
+// Every certificate, by term, then arrival, as they are stored: the sum of the flags.
 pub fn judge_all(
     history: &[u8],
     committed: LogPrefixWitness,
     end: LogIndex,
-    findings: &mut [u8],
-    held: usize,
-) -> Judged
-    requires { Judging history.now committed.0 findings.old held × (end.0 ≡ committed_end history.now) }
-    ensures { JudgedAll history.now findings.old held result.flags result.held findings.new }
+    notes: &mut Notes,
+) -> usize
+    requires { Judging history.now committed.0 × (end.0 ≡ committed_end history.now) }
+    ensures { JudgedAll history.now notes.old.rows notes.old.held result notes.new.held notes.new.rows }
 {
     let m = certificate_count(history);
-    let certificates = certificate_table(history);
-    let mut earlier = Judged { flags: 0, held };
+    let certificates = CERTIFICATES.of(history);
+    let mut flags = 0;
     for k in 0..m {
         let c = certificate_at(certificates, k);
-        earlier = judge(history, committed, end, c, &mut findings[..], earlier);
+        flags = judge(history, committed, end, c, notes, flags);
     }
-    earlier
+    flags
 }

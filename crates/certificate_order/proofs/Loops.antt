@@ -5,8 +5,8 @@ use Prim.Native.Nat.{ℕ, zero, suc, ◌+◌, ◌-◌, ◌≤◌, ◌<◌}
 use native.Mathlib.Omega.{arith}
 use mathlib.Core.Path.{◌≡◌, refl, ap, sym, ◌∙◌, subst}
 use mathlib.Core.Bool.{Bool, true, false, ◌||◌}
-use lib.Dec.{leb, ltb, eqb}
-use borrow.Author.Tests.{ltb-true, ltb-false, eqb-true, eqb-false, le-leb, lt-leb, eq-eqb, ne_eqb}
+use lib.Dec.{leb, eqb}
+use borrow.Author.Tests.{le-leb, lt-leb, eq-eqb, ne_eqb}
 use Rattle.model.proofs.Tests.{cond_cases, cond_true, cond_false}
 use Rattle.storage.specs.Tables.{CertificateRow}
 use Rattle.certificate_order.specs.Order.{place_from, held_before, taken_from}
@@ -38,16 +38,15 @@ module _ (row : ℕ → CertificateRow) (t : ℕ) where
     before h = omega arith
 
     module _ (h : 0 < p) (x : ℕ) (e : x ≡ (row (p - 1)).term) where
-      pub place_stop : ltb t x ≡ false → p ≡ place_from row t n
+      pub place_stop : x ≤ t → p ≡ place_from row t n
       place_stop l =
-          sym
-          (inv ∙ ap (place_from row t) (before h) ∙ place_here (p - 1) (subst (λ (y : ℕ). y ≤ t) e (ltb-false t x l)) ∙ sym (before h))
+          sym (inv ∙ ap (place_from row t) (before h) ∙ place_here (p - 1) (subst (λ (y : ℕ). y ≤ t) e l) ∙ sym (before h))
 
-      pub place_next : ltb t x ≡ true → place_from row t n ≡ place_from row t (p - 1)
-      place_next l = inv ∙ ap (place_from row t) (before h) ∙ place_back (p - 1) (subst (λ (y : ℕ). t < y) e (ltb-true t x l))
+      pub place_next : t < x → place_from row t n ≡ place_from row t (p - 1)
+      place_next l = inv ∙ ap (place_from row t) (before h) ∙ place_back (p - 1) (subst (λ (y : ℕ). t < y) e l)
 
-    pub place_none : p ≤ 0 → p ≡ place_from row t n
-    place_none h = let e : p ≡ 0 = omega arith in e ∙ sym (inv ∙ ap (place_from row t) e ∙ place_zero)
+    pub place_none : p ≤ 0 → 0 ≡ place_from row t n
+    place_none h = let e : p ≡ 0 = omega arith in sym (inv ∙ ap (place_from row t) e ∙ place_zero)
 
   -- ---- how many are held
 
@@ -70,28 +69,28 @@ module _ (row : ℕ → CertificateRow) (t : ℕ) where
   held_within (suc k) =
       cond_cases (λ (r : ℕ). r ≤ suc k) (eqb (row k).term t) (suc (held_before row t k)) 0 (λ _. omega (arith, held_within k)) (λ _. omega arith)
 
-  pub held_start : (p : ℕ) → held_before row t p ≡ 0 + held_before row t (p - 0)
-  held_start p = let e : p ≡ p - 0 = omega arith in ap (held_before row t) e ∙ (let z : held_before row t (p - 0) ≡ 0 + held_before row t (p - 0) = omega arith in z)
+  pub held_start : (p : ℕ) → held_before row t p ≡ p - p + held_before row t p
+  held_start p = omega arith
 
-  module _ (p m : ℕ) (inv : held_before row t p ≡ m + held_before row t (p - m)) where
-    left : m < p → p - m ≡ suc (p - 1 - m)
-    left h = omega arith
+  -- those from k on up to place p were met
+  module _ (p k : ℕ) (within : k ≤ p) (inv : held_before row t p ≡ p - k + held_before row t k) where
+    module _ (h : 0 < k) (x : ℕ) (e : x ≡ (row (k - 1)).term) where
+      before_k : k ≡ suc (k - 1)
+      before_k = omega arith
 
-    module _ (h : m < p) (x : ℕ) (e : x ≡ (row (p - 1 - m)).term) where
-      pub held_next : eqb x t ≡ true → held_before row t p ≡ m + 1 + held_before row t (p - (m + 1))
+      pub held_next : x ≡ t → held_before row t p ≡ p - (k - 1) + held_before row t (k - 1)
       held_next l =
-          let a : held_before row t (p - m) ≡ suc (held_before row t (p - 1 - m)) = ap (held_before row t) (left h) ∙ held_more (p - 1 - m) (sym e ∙ eqb-true x t l) in
-          let b : held_before row t (p - 1 - m) ≡ held_before row t (p - (m + 1)) = ap (held_before row t) (omega arith) in
+          let a : held_before row t k ≡ suc (held_before row t (k - 1)) = ap (held_before row t) before_k ∙ held_more (k - 1) (sym e ∙ l) in
           omega (arith, inv)
 
-      pub held_stop : eqb x t ≡ false → m ≡ held_before row t p
+      pub held_stop : (x ≡ t → ⊥) → p - 1 - (k - 1) ≡ held_before row t p
       held_stop l =
-          let a : held_before row t (p - m) ≡ 0 = ap (held_before row t) (left h) ∙ held_end (p - 1 - m) (λ z. eqb-false x t l (e ∙ z)) in
+          let a : held_before row t k ≡ 0 = ap (held_before row t) before_k ∙ held_end (k - 1) (λ z. l (e ∙ z)) in
           omega (arith, inv)
 
-    pub held_none : p ≤ m → m ≡ held_before row t p
+    pub held_none : k ≤ 0 → p ≡ held_before row t p
     held_none h =
-        let a : held_before row t (p - m) ≡ 0 = ap (held_before row t) (let e : p - m ≡ 0 = omega arith in e) ∙ held_zero in
+        let a : held_before row t k ≡ 0 = ap (held_before row t) (let e : k ≡ 0 = omega arith in e) ∙ held_zero in
         omega (arith, inv)
 
 -- ---- taken

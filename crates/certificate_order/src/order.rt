@@ -12,11 +12,12 @@ pub fn place_of(certificates: &[u8], n: usize, term: Term) -> usize
     requires { (n ≤ 64) × (length certificates.now ≡ 704) }
     ensures { result ≡ place_from (certificate_row certificates.now) term.0 n }
 {
-    let mut place = n;
-    while 0 < place && term.0 < term_at(certificates, place - 1).0 {
-        place -= 1;
+    for k in (0..n).rev() {
+        if term_at(certificates, k) <= term {
+            return k + 1;
+        }
     }
-    place
+    0
 }
 
 // How many right before the place are of the term.
@@ -24,11 +25,12 @@ pub fn held_of(certificates: &[u8], place: usize, term: Term) -> usize
     requires { (place ≤ 64) × (length certificates.now ≡ 704) }
     ensures { result ≡ held_before (certificate_row certificates.now) term.0 place }
 {
-    let mut held = 0;
-    while held < place && term_at(certificates, place - 1 - held).0 == term.0 {
-        held += 1;
+    for k in (0..place).rev() {
+        if term_at(certificates, k) != term {
+            return place - 1 - k;
+        }
     }
-    held
+    place // all of them
 }
 
 // Whether one of the `held` right before the place has the number.

@@ -10,33 +10,31 @@ ghost use Rattle.check_relevance.specs.Relevance.{last_relevant, relevant_in};
 
 use certificate_rows::certificates::Certificate;
 use storage::head::last_recorded;
-use storage_bytes::layout::term_table;
-use table_rows::terms::{FoundIndex, term_of};
+use storage_bytes::layout::TERMS;
+use table_rows::terms::term_at;
 use units::{LogIndex, Term};
 
 // From the end back to the mark, so that the first one met is the last.
-fn last_relevant(terms: &[u8], end: LogIndex, mark: LogIndex, term: Term) -> FoundIndex
+fn last_relevant(terms: &[u8], end: LogIndex, mark: LogIndex, term: Term) -> Option<LogIndex>
     requires { (end.0 ≤ 256) × (length terms.now ≡ 1024) }
     ensures { result ≡ found_index (last_relevant (term_row terms.now) mark.0 term.0 end.0) }
 {
-    let mut index = end;
-    while mark.0 < index.0 {
-        if term_of(terms, index).0 < term.0 {
-            return FoundIndex::At(index);
+    for k in (mark.0..end.0).rev() {
+        if term_at(terms, k) < term {
+            return Some(LogIndex(k + 1));
         }
-        index = LogIndex(index.0 - 1);
     }
-    FoundIndex::Nothing
+    None
 }
 
 // The certificate's relevant index up to the committed end. Where that does not pass the mark, nothing else is read.
-pub fn relevant_index(history: &[u8], end: LogIndex, c: Certificate) -> FoundIndex
+pub fn relevant_index(history: &[u8], end: LogIndex, c: Certificate) -> Option<LogIndex>
     requires { (well_formed history.now ≡ true) × (end.0 ≡ committed_end history.now) }
     ensures { result ≡ found_index (relevant_in history.now (certificate_value c)) }
 {
-    if end.0 <= c.mark.0 {
-        return FoundIndex::Nothing;
+    if end <= c.mark {
+        return None;
     }
-    let last = end.earlier(last_recorded(history)); // an index without a recorded term is not relevant
-    last_relevant(term_table(history), last, c.mark, c.term)
+    let last = end.min(last_recorded(history)); // an index without a recorded term is not relevant
+    last_relevant(TERMS.of(history), last, c.mark, c.term)
 }

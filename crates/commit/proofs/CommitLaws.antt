@@ -19,19 +19,19 @@ use Rattle.model.proofs.Tests.{either, cond_true, cond_false, yes_same}
 use Rattle.storage_bytes.specs.Words.{word_at}
 use Rattle.storage.proofs.RuleLaws.{pass, stop}
 use Rattle.storage.proofs.Meanings.{Stands, with_noted, findings_read}
-use Rattle.prefix_lookup.specs.declared.lookup.Slice.{Slice}
 use Rattle.log_violation.specs.Violation.{room_for, noted_in}
 use Rattle.prefix_lookup.specs.Prefix.{witness, stored_of, front_through}
 use Rattle.committed_prefix.specs.Prefix.{agree_in, unseen_set, keep_bytes}
 use Rattle.commit.specs.Prefix.{longer_in, end_in, flags_of, difference, note_answer, note_leaves, commit_answer, commit_bytes, Inserted, Observed}
 use Rattle.prefix_lookup.proofs.StoredLaws.{stored_none, stored_read}
 use Rattle.prefix_lookup.proofs.Fronts.{Part, front_cut}
-use Rattle.commit.specs.declared.prefix.CommitAnswer.{CommitAnswer}
+use Rattle.log_violation.specs.declared.violation.FindingsFull.{FindingsFull}
 use Rattle.storage.proofs.WellFormed.{formed}
 use Rattle.commit.proofs.PrefixTurns.{insert_differs, keep_is, insert_longer, insert_shorter, observe_unseen, observe_zero, observe_first, observe_later}
 use Rattle.committed_prefix.proofs.PrefixLaws.{changed, at, committed_is, owner_is, empty_is, unseen_written, keep_written}
 use Rattle.commit.proofs.Ends.{longer_means, end_means, agree_means, end_limit}
 use Rattle.commit.proofs.Difference.{difference_noted}
+use Rattle.std.specs.Prelude.{None, Result, Ok, Err}
 
 -- ---- of the model alone
 
@@ -72,10 +72,10 @@ module _ (x : History) (n i : ℕ) where
     pub stands : Stands h' (commit_effect x n i)
 
   -- what an answer and the bytes after it, where h was before, come to
-  abbrev pub Outcome : Bytes → CommitAnswer → Bytes → Type 0
+  abbrev pub Outcome : Bytes → Result ℕ FindingsFull → Bytes → Type 0
   Outcome h r h' =
-      ((v : ℕ) × (r ≡ CommitAnswer.Accepted v) × Accepts v h')
-      ⊎ ((r ≡ CommitAnswer.FindingsFull) × (commit_refusal x n i ≡ some findingsFull) × (h' ≡ h))
+      ((v : ℕ) × (r ≡ Ok v) × Accepts v h')
+      ⊎ ((r ≡ Err (record {})) × (commit_refusal x n i ≡ some findingsFull) × (h' ≡ h))
 
   few : (fs : List Finding) → fs ≡ commit_findings x n i → length fs ≤ 128 → commit_refusal x n i ≡ none
   unfolding commit_refusal
@@ -229,14 +229,14 @@ module _ (h : Bytes) (x : History) (n i : ℕ) (s : Stands h x) (here : n < 64) 
   abbrev Told : Type 0
   Told = Outcome x n i h (commit_answer h n i) (commit_bytes h n i)
 
-  from : (r : CommitAnswer) (h' : Bytes) → Observed h n i r h' → Outcome x n i h r h' → Told
+  from : (r : Result ℕ FindingsFull) (h' : Bytes) → Observed h n i r h' → Outcome x n i h r h' → Told
   from r h' o w = subst₂ (Outcome x n i h) o.answers o.leaves w
 
   -- the front is shorter
-  not_reached : front_through h n i ≡ Slice.Beyond → length (front_of x n) < i → Told
+  not_reached : front_through h n i ≡ None → length (front_of x n) < i → Told
   not_reached e l =
       let short = lt-leb i (length (front_of x n)) l in
-      from (CommitAnswer.Accepted 0) (unseen_set h n i) (observe_unseen h n i (front_through h n i) refl e (unseen_set h n i) refl)
+      from (Ok 0) (unseen_set h n i) (observe_unseen h n i (front_through h n i) refl e (unseen_set h n i) refl)
       (inl (
         0,
         refl,
@@ -256,13 +256,13 @@ module _ (h : Bytes) (x : History) (n i : ℕ) (s : Stands h x) (here : n < 64) 
 
     index_zero : b.part ≡ 0 → Told
     index_zero z =
-        from (CommitAnswer.Accepted 0) (unseen_set h n 0) (observe_zero h n i (front_through h n i) refl (witness b.part) b.told z (unseen_set h n 0) refl)
+        from (Ok 0) (unseen_set h n 0) (observe_zero h n i (front_through h n i) refl (witness b.part) b.told z (unseen_set h n 0) refl)
         (inl (0, refl, nothing_seen x n i h s here limit 0 (omega arith) cleared (shown ∙ ap (at h x s) z)))
 
     module _ (some-seen : b.part ≡ 0 → ⊥) where
       first_one : word_at h 4 2 ≡ 0 → Told
       first_one z =
-          from (CommitAnswer.Accepted 0) (keep_bytes h n b.part)
+          from (Ok 0) (keep_bytes h n b.part)
           (observe_first h n i (front_through h n i) refl (witness b.part) b.told some-seen (stored_of (word_at h 4 2)) refl
           (sym (stored_none (word_at h 4 2) z)) (keep_bytes h n b.part) refl)
           (inl (0, refl, first_seen x n i h s here limit b.part b.within cleared shown some-seen (committed_is h x s ∙ ap (at h x s) z)))
@@ -271,7 +271,7 @@ module _ (h : Bytes) (x : History) (n i : ℕ) (s : Stands h x) (here : n < 64) 
         abbrev c : ℕ
         c = word_at h 4 2
 
-        later : (r : CommitAnswer) (h' : Bytes) → Inserted h n c b.part r h' → Outcome x n i h r h' → Told
+        later : (r : Result ℕ FindingsFull) (h' : Bytes) → Inserted h n c b.part r h' → Outcome x n i h r h' → Told
         later r h' w o =
             from r h'
             (observe_later h n i (front_through h n i) refl (witness b.part) b.told some-seen (stored_of c) refl (witness c)
@@ -286,11 +286,11 @@ module _ (h : Bytes) (x : History) (n i : ℕ) (s : Stands h x) (here : n < 64) 
             let v = flags_of (word_at h 8 1) n in
             ⊎_elim
             (λ l.
-            later (CommitAnswer.Accepted v) (keep_bytes h n b.part)
+            later (Ok v) (keep_bytes h n b.part)
             (insert_longer h n c b.part (end_in h c b.part) refl (agree_in h c b.part (end_in h c b.part)) refl e (word_at h 8 1) v refl refl (unseen_set h n 0) refl l (keep_bytes h n b.part) (keep_is h n b.part))
             (inl (v, refl, longer_seen x n i h s here limit b.part b.within cleared shown some-seen c lc (committed_is h x s) some-kept e l)))
             (λ l.
-            later (CommitAnswer.Accepted v) (unseen_set h n 0)
+            later (Ok v) (unseen_set h n 0)
             (insert_shorter h n c b.part (end_in h c b.part) refl (agree_in h c b.part (end_in h c b.part)) refl e (word_at h 8 1) v refl refl (unseen_set h n 0) refl l)
             (inl (v, refl, shorter_seen x n i h s here limit b.part b.within cleared shown some-seen c lc (committed_is h x s) some-kept e l)))
             (either (longer_in h c b.part))

@@ -3,16 +3,17 @@
 use Prim.Native.Nat.{ℕ, ◌≤◌, ◌<◌}
 use native.Mathlib.Omega.{arith}
 use mathlib.Core.Path.{◌≡◌, refl, sym, ◌∙◌, ap, subst}
-use mathlib.Core.Bool.{Bool, true, false}
+use mathlib.Core.Bool.{true, false}
 use mathlib.Core.Logic.{◌⊎◌, inl, inr, ⊎_elim}
 use mathlib.Core.List.Memᴰ
 use mathlib.Core.List.{List, [], ◌∷◌}
 use lib.ListN.{length}
 use borrow.Author.Tests.{le-leb, lt-leb}
+use Rattle.std.specs.Prelude.{Result, Ok, Err, is_ok, ⊤}
 use Rattle.model.specs.Sizes.{Bytes}
 use Rattle.model.specs.Entry.{with_all}
 use Rattle.model.specs.History.{Finding, History, noted}
-use Rattle.model.proofs.Tests.{cond_cases, cond_true, cond_false}
+use Rattle.model.proofs.Tests.{tf, either, cond_cases, cond_true, cond_false}
 use Rattle.storage_bytes.specs.Lists.{every}
 use Rattle.storage_bytes.specs.Words.{word_at}
 use Rattle.storage.specs.Tables.{finding_row, finding_rows, findings_part}
@@ -21,30 +22,39 @@ use Rattle.storage_bytes.proofs.ListLaws.{tabulate_length}
 use Rattle.storage.proofs.DecodeLaws.{FindingNamed}
 use Rattle.storage.proofs.Meanings.{Stands, with_noted, findings_stored, findings_taken, findings_right, noted_right}
 use Rattle.storage.proofs.WellFormed.{formed}
-use Rattle.log_violation.specs.Violation.{note_held, note_bytes, findings_written, room_for, noted_in}
+use Rattle.log_violation.specs.Violation.{note_held, note_bytes, findings_written, room_for, room_answer, noted_in}
 use Rattle.log_violation.proofs.ViolationLaws.{Holds, note_holds, note_length, findings_long, in_length}
 use Rattle.committed_prefix.specs.Prefix.{unseen_set}
 use Rattle.committed_prefix.proofs.PrefixTurns.{unseen_length}
 use Rattle.commit.specs.Prefix.{difference, note_answer, note_leaves, Noted}
-use Rattle.commit.specs.declared.prefix.CommitAnswer.{CommitAnswer}
+use Rattle.log_violation.specs.declared.violation.FindingsFull.{FindingsFull}
 
-module _ (h : Bytes) (n i : ℕ) (b : Bool) (u : Bytes) (em : (b ≡ room_for h (difference n i)) × (u ≡ noted_in h (difference n i))) where
-  pub note_full : b ≡ false → Noted h n i CommitAnswer.FindingsFull u
+module _ (h : Bytes) (n i : ℕ) (r : Result ⊤ FindingsFull) (u : Bytes)
+    (em : (r ≡ room_answer h (difference n i)) × (u ≡ noted_in h (difference n i))) where
+  no_room : (e : FindingsFull) → r ≡ Err e → room_for h (difference n i) ≡ false
+  unfolding room_answer
+  no_room e z = ⊎_elim (λ t. absurd (tf (sym (ap is_ok (sym z ∙ em.0 ∙ cond_true _ _ _ t))))) (λ f. f) (either (room_for h (difference n i)))
+
+  some_room : (v : ⊤) → r ≡ Ok v → room_for h (difference n i) ≡ true
+  unfolding room_answer
+  some_room v z = ⊎_elim (λ t. t) (λ f. absurd (tf (ap is_ok (sym z ∙ em.0 ∙ cond_false _ _ _ f)))) (either (room_for h (difference n i)))
+
+  pub note_full : (e : FindingsFull) → r ≡ Err e → Noted h n i (Err (record {})) u
   unfolding note_answer note_leaves noted_in
-  note_full z =
-      let r : room_for h (difference n i) ≡ false = sym em.0 ∙ z in
+  note_full e z =
+      let full = no_room e z in
       record {
-        answers = sym (cond_false (room_for h (difference n i)) _ _ r);
-        leaves = em.1 ∙ cond_false (room_for h (difference n i)) _ h r ∙ sym (cond_false (room_for h (difference n i)) _ h r);
+        answers = sym (cond_false (room_for h (difference n i)) _ _ full);
+        leaves = em.1 ∙ cond_false (room_for h (difference n i)) _ h full ∙ sym (cond_false (room_for h (difference n i)) _ h full);
       }
 
-  pub note_so : b ≡ true → (w : Bytes) → w ≡ unseen_set u n 0 → Noted h n i (CommitAnswer.Accepted 0) w
+  pub note_so : (v : ⊤) → r ≡ Ok v → (w : Bytes) → w ≡ unseen_set u n 0 → Noted h n i (Ok 0) w
   unfolding note_answer note_leaves
-  note_so z w ew =
-      let r : room_for h (difference n i) ≡ true = sym em.0 ∙ z in
+  note_so v z w ew =
+      let room = some_room v z in
       record {
-        answers = sym (cond_true (room_for h (difference n i)) _ _ r);
-        leaves = ew ∙ ap (λ (y : Bytes). unseen_set y n 0) em.1 ∙ sym (cond_true (room_for h (difference n i)) _ h r);
+        answers = sym (cond_true (room_for h (difference n i)) _ _ room);
+        leaves = ew ∙ ap (λ (y : Bytes). unseen_set y n 0) em.1 ∙ sym (cond_true (room_for h (difference n i)) _ h room);
       }
 
 pub note_leaves_length : (h : Bytes) (n i : ℕ) → length (note_leaves h n i) ≡ length h

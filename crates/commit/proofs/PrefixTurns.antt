@@ -11,14 +11,13 @@ use Rattle.model.proofs.Tests.{cond_cases, cond_true, cond_false}
 use Rattle.storage_bytes.specs.Words.{word_at}
 use Rattle.storage.specs.Writes.{committed_set}
 use Rattle.prefix_lookup.specs.Prefix.{stored_of, front_through}
-use Rattle.prefix_lookup.specs.declared.lookup.Slice.{Slice}
 use Rattle.committed_prefix.specs.Prefix.{agree_in, unseen_set, keep_bytes}
 use Rattle.commit.specs.Prefix.{longer_in, end_in, flags_of, note_answer, note_leaves, Noted, insert_answer, insert_leaves, kept_answer, kept_leaves, seen_answer, seen_leaves, commit_answer, commit_bytes, Inserted, Observed}
-use Rattle.prefix_lookup.specs.declared.lookup.Stored.{Stored}
 use Rattle.units.specs.declared.LogPrefixWitness.{LogPrefixWitness}
-use Rattle.commit.specs.declared.prefix.CommitAnswer.{CommitAnswer}
+use Rattle.log_violation.specs.declared.violation.FindingsFull.{FindingsFull}
 use Rattle.committed_prefix.proofs.PrefixTurns.{unseen_length, keep_length}
 use Rattle.commit.proofs.Difference.{note_leaves_length}
+use Rattle.std.specs.Prelude.{Option, Some, None, Result, Ok}
 
 -- ---- lengths
 
@@ -39,7 +38,7 @@ module _ (h : Bytes) (n c p i : ℕ) (ei : i ≡ end_in h c p) (b : Bool) (eb : 
   agree_is : agree_in h c p (end_in h c p) ≡ b
   agree_is = ap (agree_in h c p) (sym ei) ∙ sym eb
 
-  pub insert_differs : b ≡ false → (r : CommitAnswer) (h' : Bytes) → Noted h n i r h' → Inserted h n c p r h'
+  pub insert_differs : b ≡ false → (r : Result ℕ FindingsFull) (h' : Bytes) → Noted h n i r h' → Inserted h n c p r h'
   unfolding insert_answer insert_leaves
   insert_differs f r h' w =
       record {
@@ -48,13 +47,13 @@ module _ (h : Bytes) (n c p i : ℕ) (ei : i ≡ end_in h c p) (b : Bool) (eb : 
       }
 
   module _ (f : b ≡ true) (o v : ℕ) (eo : o ≡ word_at h 8 1) (ev : v ≡ flags_of o n) (u : Bytes) (eu : u ≡ unseen_set h n 0) where
-    flags_are : CommitAnswer.Accepted v ≡ insert_answer h n c p
+    flags_are : Ok v ≡ insert_answer h n c p
     unfolding insert_answer
     flags_are =
-        ap CommitAnswer.Accepted (ev ∙ ap (λ (y : ℕ). flags_of y n) eo)
+        ap Ok (ev ∙ ap (λ (y : ℕ). flags_of y n) eo)
         ∙ sym (cond_true (agree_in h c p (end_in h c p)) _ _ (agree_is ∙ f))
 
-    pub insert_longer : longer_in h c p ≡ true → (h' : Bytes) → h' ≡ committed_set u p n → Inserted h n c p (CommitAnswer.Accepted v) h'
+    pub insert_longer : longer_in h c p ≡ true → (h' : Bytes) → h' ≡ committed_set u p n → Inserted h n c p (Ok v) h'
     unfolding insert_leaves
     insert_longer g h' w =
         record {
@@ -64,7 +63,7 @@ module _ (h : Bytes) (n c p i : ℕ) (ei : i ≡ end_in h c p) (b : Bool) (eb : 
               ∙ sym (cond_true (agree_in h c p (end_in h c p)) _ _ (agree_is ∙ f) ∙ cond_true (longer_in h c p) _ _ g);
         }
 
-    pub insert_shorter : longer_in h c p ≡ false → Inserted h n c p (CommitAnswer.Accepted v) u
+    pub insert_shorter : longer_in h c p ≡ false → Inserted h n c p (Ok v) u
     unfolding insert_leaves
     insert_shorter g =
         record {
@@ -74,8 +73,8 @@ module _ (h : Bytes) (n c p i : ℕ) (ei : i ≡ end_in h c p) (b : Bool) (eb : 
 
 -- ---- observed
 
-module _ (h : Bytes) (n i : ℕ) (s : Slice) (es : s ≡ front_through h n i) where
-  pub observe_unseen : s ≡ Slice.Beyond → (h' : Bytes) → h' ≡ unseen_set h n i → Observed h n i (CommitAnswer.Accepted 0) h'
+module _ (h : Bytes) (n i : ℕ) (s : Option LogPrefixWitness) (es : s ≡ front_through h n i) where
+  pub observe_unseen : s ≡ None → (h' : Bytes) → h' ≡ unseen_set h n i → Observed h n i (Ok 0) h'
   unfolding commit_answer commit_bytes
   observe_unseen e h' w =
       record {
@@ -83,8 +82,8 @@ module _ (h : Bytes) (n i : ℕ) (s : Slice) (es : s ≡ front_through h n i) wh
         leaves = w ∙ sym (ap (seen_leaves h n i) (sym es ∙ e));
       }
 
-  module _ (p : LogPrefixWitness) (e : s ≡ Slice.Prefix p) where
-    pub observe_zero : p.0 ≡ 0 → (h' : Bytes) → h' ≡ unseen_set h n 0 → Observed h n i (CommitAnswer.Accepted 0) h'
+  module _ (p : LogPrefixWitness) (e : s ≡ Some p) where
+    pub observe_zero : p.0 ≡ 0 → (h' : Bytes) → h' ≡ unseen_set h n 0 → Observed h n i (Ok 0) h'
     unfolding commit_answer commit_bytes
     observe_zero z h' w =
         record {
@@ -92,7 +91,7 @@ module _ (h : Bytes) (n i : ℕ) (s : Slice) (es : s ≡ front_through h n i) wh
           leaves = w ∙ sym (ap (seen_leaves h n i) (sym es ∙ e) ∙ cond_true (eqb p.0 0) _ _ (eq-eqb p.0 0 z));
         }
 
-    module _ (z : p.0 ≡ 0 → ⊥) (k : Stored) (ek : k ≡ stored_of (word_at h 4 2)) where
+    module _ (z : p.0 ≡ 0 → ⊥) (k : Option LogPrefixWitness) (ek : k ≡ stored_of (word_at h 4 2)) where
       answer_is : commit_answer h n i ≡ kept_answer h n p.0 k
       unfolding commit_answer
       answer_is = ap (seen_answer h n) (sym es ∙ e) ∙ cond_false (eqb p.0 0) _ _ (ne_eqb p.0 0 z) ∙ ap (kept_answer h n p.0) (sym ek)
@@ -101,11 +100,11 @@ module _ (h : Bytes) (n i : ℕ) (s : Slice) (es : s ≡ front_through h n i) wh
       unfolding commit_bytes
       bytes_are = ap (seen_leaves h n i) (sym es ∙ e) ∙ cond_false (eqb p.0 0) _ _ (ne_eqb p.0 0 z) ∙ ap (kept_leaves h n p.0) (sym ek)
 
-      pub observe_first : k ≡ Stored.Nothing → (h' : Bytes) → h' ≡ keep_bytes h n p.0 → Observed h n i (CommitAnswer.Accepted 0) h'
+      pub observe_first : k ≡ None → (h' : Bytes) → h' ≡ keep_bytes h n p.0 → Observed h n i (Ok 0) h'
       observe_first g h' w =
           record { answers = sym (answer_is ∙ ap (kept_answer h n p.0) g); leaves = w ∙ sym (bytes_are ∙ ap (kept_leaves h n p.0) g) }
 
-      pub observe_later : (c : LogPrefixWitness) → k ≡ Stored.Prefix c → (r : CommitAnswer) (h' : Bytes) → Inserted h n c.0 p.0 r h' → Observed h n i r h'
+      pub observe_later : (c : LogPrefixWitness) → k ≡ Some c → (r : Result ℕ FindingsFull) (h' : Bytes) → Inserted h n c.0 p.0 r h' → Observed h n i r h'
       observe_later c g r h' w =
           record {
             answers = w.answers ∙ sym (answer_is ∙ ap (kept_answer h n p.0) g);

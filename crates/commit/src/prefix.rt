@@ -6,22 +6,13 @@ ghost use Rattle.storage.specs.Rules.{well_formed};
 ghost use Rattle.commit.specs.Prefix.{flags_of, Noted, Inserted, Observed};
 
 use committed_prefix::committed::{agree_through, committed_prefix, keep, set_unseen};
-use log_violation::violation::note_in;
-use prefix_lookup::lookup::{Slice, Stored, front_through};
+use log_violation::violation::{FindingsFull, note_in};
+use prefix_lookup::lookup::front_through;
 use prefix_rows::prefixes::through;
 use storage::head::{owner, set_committed};
-use storage_bytes::layout::prefix_table;
+use storage_bytes::layout::PREFIXES;
 use table_rows::findings::{Found, LG_04};
 use units::{LogIndex, LogPrefixWitness, NodeId, Term};
-
-// What observing a node's commit index answers.
-#[derive(Clone, Copy)]
-pub enum CommitAnswer {
-    // The sum of its flags: 1 for agreement with the committed prefix, 2 where its owner is another node.
-    Accepted(usize),
-    // The findings would exceed their limit: refusal 7.
-    FindingsFull,
-}
 
 // The flag of agreement with the committed prefix.
 const AGREEMENT: usize = 1;
@@ -33,7 +24,7 @@ const OTHER_OWNER: usize = 2;
 fn flags(owner: NodeId, node: NodeId) -> usize
     ensures { result ≡ flags_of owner.0 node.0 }
 {
-    if owner.0 == node.0 {
+    if owner == node {
         AGREEMENT
     } else {
         AGREEMENT + OTHER_OWNER
@@ -41,7 +32,7 @@ fn flags(owner: NodeId, node: NodeId) -> usize
 }
 
 // A difference through the shorter end adds LG-04 and changes nothing else. The finding is noted in place: it is the only one.
-fn note_difference(history: &mut [u8], node: NodeId, end: LogIndex) -> CommitAnswer
+fn note_difference(history: &mut [u8], node: NodeId, end: LogIndex) -> Result<usize, FindingsFull>
     requires { (well_formed history.old ≡ true) × (node.0 < 64) }
     ensures { Noted history.old node.0 end.0 result history.new }
 {
@@ -51,11 +42,9 @@ fn note_difference(history: &mut [u8], node: NodeId, end: LogIndex) -> CommitAns
         index: end,
         term: Term::ZERO,
     };
-    if !note_in(&mut history[..], lg04) {
-        return CommitAnswer::FindingsFull;
-    }
+    note_in(&mut history[..], lg04)?;
     set_unseen(&mut history[..], node, LogIndex::ZERO);
-    CommitAnswer::Accepted(0)
+    Ok(0)
 }
 
 // The prefix seen is compared with the committed one; a longer one replaces it.
@@ -64,42 +53,47 @@ fn insert_committed_prefix(
     node: NodeId,
     committed: LogPrefixWitness,
     seen: LogPrefixWitness,
-) -> CommitAnswer
+) -> Result<usize, FindingsFull>
     requires { (well_formed history.old ≡ true) × (node.0 < 64) × (committed.0 ≤ word_at history.old 0 2) × (seen.0 ≤ word_at history.old 0 2) }
     ensures { Inserted history.old node.0 committed.0 seen.0 result history.new }
 {
-    let prefixes = prefix_table(&history[..]);
+    let prefixes = PREFIXES.of(&history[..]);
     let committed_end = through(prefixes, committed);
     let seen_end = through(prefixes, seen);
-    let end = committed_end.earlier(seen_end);
+    let end = committed_end.min(seen_end);
     if !agree_through(&history[..], committed, seen, end) {
         return note_difference(&mut history[..], node, end);
     }
     let former = owner(&history[..]);
     let sum = flags(former, node);
     set_unseen(&mut history[..], node, LogIndex::ZERO);
-    if committed_end.0 < seen_end.0 {
+    if committed_end < seen_end {
         set_committed(&mut history[..], seen, node);
     }
-    CommitAnswer::Accepted(sum)
+    Ok(sum)
 }
 
-// A node's commit index: the committed prefix that it shows is unseen, kept, or compared.
-pub fn observe_committed_prefixes(history: &mut [u8], node: NodeId, index: LogIndex) -> CommitAnswer
+// A node's commit index: the committed prefix that it shows is unseen, kept, or compared. The sum of its flags: 1 for agreement
+// with the committed prefix, 2 where its owner is another node.
+pub fn observe_committed_prefixes(
+    history: &mut [u8],
+    node: NodeId,
+    index: LogIndex,
+) -> Result<usize, FindingsFull>
     requires { (well_formed history.old ≡ true) × (node.0 < 64) }
     ensures { Observed history.old node.0 index.0 result history.new }
 {
-    let Slice::Prefix(seen) = front_through(&history[..], node, index) else {
+    let Some(seen) = front_through(&history[..], node, index) else {
         set_unseen(&mut history[..], node, index);
-        return CommitAnswer::Accepted(0);
+        return Ok(0);
     };
-    if seen.0 == LogPrefixWitness::EMPTY.0 {
+    if seen == LogPrefixWitness::EMPTY {
         set_unseen(&mut history[..], node, LogIndex::ZERO); // index zero does nothing more
-        return CommitAnswer::Accepted(0);
+        return Ok(0);
     }
-    let Stored::Prefix(committed) = committed_prefix(&history[..]) else {
+    let Some(committed) = committed_prefix(&history[..]) else {
         keep(&mut history[..], node, seen);
-        return CommitAnswer::Accepted(0);
+        return Ok(0);
     };
     insert_committed_prefix(&mut history[..], node, committed, seen)
 }

@@ -16,7 +16,7 @@ use Rattle.model.proofs.Tests.{either, cond_true, cond_false}
 use Rattle.storage.proofs.Meanings.{Stands}
 use Rattle.storage.proofs.Answered.{Means, accepts, refuses}
 use Rattle.commit_terms.specs.Terms.{terms_answer, terms_bytes, record_bytes, terms_reply}
-use Rattle.commit_terms.specs.declared.terms.TermsAnswer.{TermsAnswer}
+use Rattle.std.specs.Prelude.{Ok, Err}
 use Rattle.commit_terms.proofs.TermLaws.{record_means}
 
 -- kind 3
@@ -27,10 +27,10 @@ terms_mean h x old new t s b f =
     ⊎_elim
     (λ e.
     refuses h x (terms old new t) _ _ old_exceeds_new s (cond_true (ltb new old) (some old_exceeds_new) none e)
-    (ap terms_reply (cond_true (ltb new old) TermsAnswer.OldExceedsNew TermsAnswer.Recorded e)) (cond_true (ltb new old) h (record_bytes h old new t) e))
+    (ap terms_reply (cond_true (ltb new old) (Err (record {})) (Ok tt) e)) (cond_true (ltb new old) h (record_bytes h old new t) e))
     (λ e.
     accepts h x (terms old new t) _ _ (cond_false (ltb new old) (some old_exceeds_new) none e)
-    (ap terms_reply (cond_false (ltb new old) TermsAnswer.OldExceedsNew TermsAnswer.Recorded e))
+    (ap terms_reply (cond_false (ltb new old) (Err (record {})) (Ok tt) e))
     (subst (λ (u : Bytes). Stands u (effect x (terms old new t))) (sym (cond_false (ltb new old) h (record_bytes h old new t) e))
     (record_means h x old new t s (ltb-false new old e) b f)))
     (either (ltb new old))

@@ -22,11 +22,11 @@ use Rattle.storage.proofs.RowLaws.{word_before, word_after}
 use Rattle.storage.proofs.RuleLaws.{pass, stop}
 use Rattle.units.specs.declared.LogIndex.{LogIndex}
 use Rattle.table_rows.specs.TermSearch.{found_index}
-use Rattle.table_rows.specs.declared.terms.FoundIndex.{FoundIndex}
 use Rattle.table_rows.proofs.TermSearchLaws.{index_found, index_none, index_told, nothing_told}
 use Rattle.term_marks.specs.Marks.{lower_back}
 use Rattle.commit_terms.specs.Terms.{lengthened_to, term_in, is_replaced, first_replaced, replace_bytes, replace_all, changed_from, record_bytes, terms_answer, terms_bytes}
-use Rattle.commit_terms.specs.declared.terms.TermsAnswer.{TermsAnswer}
+use Rattle.commit_terms.specs.declared.terms.OldExceedsNew.{OldExceedsNew}
+use Rattle.std.specs.Prelude.{Option, Some, None, Result, Ok, Err, ⊤}
 
 -- ---- lengthening
 
@@ -120,11 +120,11 @@ module _ (row : ℕ → ℕ) (t old new : ℕ) where
   abbrev pub Searching : ℕ → Type 0
   Searching k = first_replaced row t old (new - old) ≡ first_replaced row t k (new - k)
 
-  abbrev Found : FoundIndex → Type 0
+  abbrev Found : Option LogIndex → Type 0
   Found r = r ≡ found_index (first_replaced row t old (new - old))
 
   module _ (k : ℕ) (w : Searching k) where
-    pub searching_none : new ≤ k → Found FoundIndex.Nothing
+    pub searching_none : new ≤ k → Found None
     unfolding first_replaced
     searching_none l = index_none _ (sym (w ∙ ap (first_replaced row t k) (let e : new - k ≡ 0 = omega arith in e)))
 
@@ -132,7 +132,7 @@ module _ (row : ℕ → ℕ) (t old new : ℕ) where
       look : is_replaced t (row k) ≡ b
       look = ap (is_replaced t) (sym (e ∙ ap row (place_is k))) ∙ sym eb
 
-      pub searching_found : b ≡ true → Found (FoundIndex.At (record { 0 = k + 1 }))
+      pub searching_found : b ≡ true → Found (Some (record { 0 = k + 1 }))
       unfolding first_replaced
       searching_found f =
           index_found _ _
@@ -190,37 +190,37 @@ replace_all_certificates h t k (suc n) = replace_all_certificates (replace_bytes
 
 -- ---- the record
 
-abbrev pub Recorded : Bytes → ℕ → ℕ → ℕ → TermsAnswer → Bytes → Type 0
+abbrev pub Recorded : Bytes → ℕ → ℕ → ℕ → Result ⊤ OldExceedsNew → Bytes → Type 0
 Recorded h old new t r h' = (r ≡ terms_answer old new) × (h' ≡ terms_bytes h old new t)
 
 module _ (h : Bytes) (old new t : ℕ) where
-  pub record_refused : new < old → Recorded h old new t TermsAnswer.OldExceedsNew h
+  pub record_refused : new < old → Recorded h old new t (Err (record {})) h
   unfolding terms_answer terms_bytes
   record_refused l =
       let f = lt-ltb new old l in (
-        sym (cond_true (ltb new old) TermsAnswer.OldExceedsNew TermsAnswer.Recorded f),
+        sym (cond_true (ltb new old) (Err (record {})) (Ok tt) f),
         sym (cond_true (ltb new old) h (record_bytes h old new t) f),
       )
 
   module _ (l : old ≤ new) (u : Bytes) (eu : u ≡ lengthened_to h new) (ts : Bytes) (et : ts ≡ terms_part u)
-      (found : FoundIndex) (ef : found ≡ found_index (first_replaced (term_row ts) t old (new - old))) where
-    accepted : (z : Bytes) → z ≡ changed_from u new t (first_replaced (term_row ts) t old (new - old)) → Recorded h old new t TermsAnswer.Recorded z
+      (found : Option LogIndex) (ef : found ≡ found_index (first_replaced (term_row ts) t old (new - old))) where
+    accepted : (z : Bytes) → z ≡ changed_from u new t (first_replaced (term_row ts) t old (new - old)) → Recorded h old new t (Ok tt) z
     unfolding terms_answer terms_bytes record_bytes
     accepted z e =
         let f = le-ltb new old l in
         let g = ap (λ (r : Bytes). first_replaced (term_row r) t old (new - old)) (et ∙ ap terms_part eu) in (
-          sym (cond_false (ltb new old) TermsAnswer.OldExceedsNew TermsAnswer.Recorded f),
+          sym (cond_false (ltb new old) (Err (record {})) (Ok tt) f),
           e ∙ (λ i. changed_from (eu i) new t (g i)) ∙ sym (cond_false (ltb new old) h (record_bytes h old new t) f),
         )
 
-    pub record_unchanged : found ≡ FoundIndex.Nothing → Recorded h old new t TermsAnswer.Recorded u
+    pub record_unchanged : found ≡ None → Recorded h old new t (Ok tt) u
     unfolding changed_from
     record_unchanged q =
         let k = first_replaced (term_row ts) t old (new - old) in
         accepted u (sym (cond_true (eqb k 0) u _ (eq-eqb k 0 (nothing_told k found ef q))))
 
-    pub record_changed : (first : LogIndex) → found ≡ FoundIndex.At first → (v : Bytes) → v ≡ replace_all u t (first.0 - 1) (new + 1 - first.0)
-        → (z : Bytes) → z ≡ lower_back v t first.0 (word_at v 6 1) → Recorded h old new t TermsAnswer.Recorded z
+    pub record_changed : (first : LogIndex) → found ≡ Some first → (v : Bytes) → v ≡ replace_all u t (first.0 - 1) (new + 1 - first.0)
+        → (z : Bytes) → z ≡ lower_back v t first.0 (word_at v 6 1) → Recorded h old new t (Ok tt) z
     unfolding changed_from
     record_changed first q v ev z ez =
         let k = first_replaced (term_row ts) t old (new - old) in

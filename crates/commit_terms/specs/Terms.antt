@@ -1,7 +1,7 @@
 -- Commit terms on the bytes of a history, in the order of the code: the list lengthened, the first changed index found, each place
 -- from there on replaced, marks lowered. The term of index k + 1 is in place k.
 -- Assumes nothing.
-use Rattle.std.specs.Prelude.{ℕ, zero, suc, ◌+◌, ◌-◌, ◌*◌, Bool, cond, ◌&&◌, ◌||◌, ltb, eqb}
+use Rattle.std.specs.Prelude.{ℕ, zero, suc, ◌+◌, ◌-◌, ◌*◌, Bool, cond, ◌&&◌, ◌||◌, ltb, eqb, Result, Ok, Err, ⊤}
 use Rattle.model.specs.Sizes.{Bytes}
 use Rattle.model.specs.Refusal.{old_exceeds_new}
 use Rattle.model.specs.Answer.{Answer, accepted, refused}
@@ -9,7 +9,7 @@ use Rattle.storage_bytes.specs.Words.{word_at, word_bytes, put_bytes}
 use Rattle.storage.specs.Tables.{term_row, terms_part}
 use Rattle.storage.specs.Writes.{terms_lengthened}
 use Rattle.term_marks.specs.Marks.{lower_back}
-use Rattle.commit_terms.specs.declared.terms.TermsAnswer.{TermsAnswer}
+use Rattle.commit_terms.specs.declared.terms.OldExceedsNew.{OldExceedsNew}
 
 -- the list with zeros to new, where it is shorter
 unfoldable pub lengthened_to : Bytes → ℕ → Bytes
@@ -55,14 +55,14 @@ record_bytes h old new t =
     changed_from u new t (first_replaced (term_row (terms_part u)) t old (new - old))
 
 -- the answer and the bytes after it: 8 leaves every byte
-unfoldable pub terms_answer : ℕ → ℕ → TermsAnswer
-terms_answer old new = cond (ltb new old) TermsAnswer.OldExceedsNew TermsAnswer.Recorded
+unfoldable pub terms_answer : ℕ → ℕ → Result ⊤ OldExceedsNew
+terms_answer old new = cond (ltb new old) (Err (record {})) (Ok tt)
 
 unfoldable pub terms_bytes : Bytes → ℕ → ℕ → ℕ → Bytes
 unfolding record_bytes
 terms_bytes h old new t = cond (ltb new old) h (record_bytes h old new t)
 
 -- the answer in the model's words
-abbrev pub terms_reply : TermsAnswer → Answer
-terms_reply TermsAnswer.Recorded = accepted 0 0
-terms_reply TermsAnswer.OldExceedsNew = refused old_exceeds_new
+abbrev pub terms_reply : Result ⊤ OldExceedsNew → Answer
+terms_reply (Ok x) = accepted 0 0
+terms_reply (Err e) = refused old_exceeds_new

@@ -8,18 +8,15 @@ ghost use Rattle.commit_terms.specs.Terms.{lengthened_to, is_replaced, first_rep
 
 use storage::fresh::clear;
 use storage::head::{last_recorded, set_last_recorded};
-use storage_bytes::layout::{TERM_WIDTH, TERMS_START, term_table};
-use table_rows::terms::{FoundIndex, set_term, term_of};
+use storage::rows::set;
+use storage_bytes::layout::{TERM_WIDTH, TERMS};
+use table_rows::terms::{CommitTerm, term_of};
 use term_marks::marks::lower_marks;
 use units::{LogIndex, Term};
 
-// What recording commit terms answers.
-#[derive(Clone, Copy)]
-pub enum TermsAnswer {
-    Recorded,
-    // Old exceeds new: refusal 8.
-    OldExceedsNew,
-}
+// Old exceeds new: refusal 8.
+#[derive(Clone, Copy, PartialEq, Eq)]
+pub struct OldExceedsNew;
 
 // The list is lengthened with zeros to `new`: the places first, then the count, once.
 fn lengthen(history: &mut [u8], new: LogIndex)
@@ -27,11 +24,11 @@ fn lengthen(history: &mut [u8], new: LogIndex)
     ensures { history.new ≡ lengthened_to history.old new.0 }
 {
     let recorded = last_recorded(&history[..]);
-    if new.0 <= recorded.0 {
+    if new <= recorded {
         return;
     }
-    let a = TERMS_START + recorded.0 * TERM_WIDTH;
-    let e = TERMS_START + new.0 * TERM_WIDTH;
+    let a = TERMS.start + recorded.0 * TERM_WIDTH;
+    let e = TERMS.start + new.0 * TERM_WIDTH;
     clear(&mut history[a..e]);
     set_last_recorded(&mut history[..], new);
 }
@@ -40,21 +37,21 @@ fn lengthen(history: &mut [u8], new: LogIndex)
 fn is_replaced(x: Term, term: Term) -> bool
     ensures { result ≡ is_replaced term.0 x.0 }
 {
-    term.0 != Term::ZERO.0 && (x.0 == Term::ZERO.0 || term.0 < x.0)
+    term != Term::ZERO && (x == Term::ZERO || term < x)
 }
 
 // The first index from old + 1 to new whose place the term replaces, where there is one. Nothing is written.
-fn first_replaced(terms: &[u8], old: LogIndex, new: LogIndex, term: Term) -> FoundIndex
+fn first_replaced(terms: &[u8], old: LogIndex, new: LogIndex, term: Term) -> Option<LogIndex>
     requires { (old.0 ≤ new.0) × (new.0 ≤ 256) × (length terms.now ≡ 1024) }
     ensures { result ≡ found_index (first_replaced (term_row terms.now) term.0 old.0 (new.0 - old.0)) }
 {
     for k in old.0..new.0 {
         let index = LogIndex(k + 1);
         if is_replaced(term_of(terms, index), term) {
-            return FoundIndex::At(index);
+            return Some(index);
         }
     }
-    FoundIndex::Nothing
+    None
 }
 
 // The place of the index, where the term replaces it.
@@ -62,9 +59,9 @@ fn replace_term(history: &mut [u8], index: LogIndex, term: Term)
     requires { (1 ≤ index.0) × (index.0 ≤ 256) × (length history.old ≡ 24137) }
     ensures { history.new ≡ replace_bytes history.old (index.0 - 1) term.0 }
 {
-    let x = term_of(term_table(&history[..]), index);
+    let x = term_of(TERMS.of(&history[..]), index);
     if is_replaced(x, term) {
-        set_term(&mut history[..], index, term);
+        set(&mut history[..], index.0 - 1, CommitTerm(term));
     }
 }
 
@@ -84,18 +81,18 @@ pub fn record_commit_terms(
     old: LogIndex,
     new: LogIndex,
     term: Term,
-) -> TermsAnswer
+) -> Result<(), OldExceedsNew>
     requires { (well_formed history.old ≡ true) × (new.0 ≤ 256) }
     ensures { (result ≡ terms_answer old.0 new.0) × (history.new ≡ terms_bytes history.old old.0 new.0 term.0) }
 {
-    if new.0 < old.0 {
-        return TermsAnswer::OldExceedsNew;
+    if new < old {
+        return Err(OldExceedsNew);
     }
     lengthen(&mut history[..], new);
-    let found = first_replaced(term_table(&history[..]), old, new, term);
-    if let FoundIndex::At(first) = found {
+    let found = first_replaced(TERMS.of(&history[..]), old, new, term);
+    if let Some(first) = found {
         replace_terms(&mut history[..], first, new, term);
         lower_marks(&mut history[..], term, first);
     }
-    TermsAnswer::Recorded
+    Ok(())
 }

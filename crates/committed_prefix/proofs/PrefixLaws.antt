@@ -18,13 +18,14 @@ use Rattle.storage.proofs.RowFacts.{Facts}
 use Rattle.storage.proofs.Meanings.{Stands, prefixes_read, owner_read, last_read, node_written, committed_written, prefixes_stored, committed_stored}
 use Rattle.prefix_lookup.specs.Prefix.{slice_of}
 use Rattle.log_comparison.specs.Comparison.{same_from}
-use Rattle.prefix_lookup.specs.declared.lookup.Slice.{Slice}
 use Rattle.prefix_lookup.proofs.TableLaws.{rows_length, rows_at}
 use Rattle.prefix_lookup.proofs.Fronts.{Part, slice_is, front_is}
 use Rattle.log_comparison.proofs.ComparisonLaws.{same_prefix}
 use Rattle.committed_prefix.specs.Prefix.{rows_of, node_of, same_slices, agree_in, unseen_set, keep_bytes}
 use Rattle.committed_prefix.proofs.PrefixTurns.{none_first}
 use Rattle.storage.proofs.WellFormed.{Formed, formed, formed_rows}
+use Rattle.std.specs.Prelude.{Option}
+use Rattle.units.specs.declared.LogPrefixWitness.{LogPrefixWitness}
 
 -- the history with a node's unseen mark, the committed prefix with its owner, and the findings anew
 abbrev pub changed : History → ℕ → ℕ → Prefix → ℕ → List Finding → History
@@ -106,7 +107,7 @@ module _ (h : Bytes) (x : History) (s : Stands h x) where
     pub agree_beyond : (i : ℕ) → length (at c) < i → agree_in h c p i ≡ false
     unfolding agree_in
     agree_beyond i l =
-        ⊎_elim (λ b. ap (λ (y : Slice). same_slices (rows_of h) y (slice_of (rows_of h) p i)) b.0 ∙ none_first (rows_of h) (slice_of (rows_of h) p i))
+        ⊎_elim (λ b. ap (λ (y : Option LogPrefixWitness). same_slices (rows_of h) y (slice_of (rows_of h) p i)) b.0 ∙ none_first (rows_of h) (slice_of (rows_of h) p i))
         (λ b. absurd (let z = b.reaches in omega arith)) (slice_is h x s c i lc)
 
   -- ---- what is written

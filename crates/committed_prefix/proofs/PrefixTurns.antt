@@ -11,21 +11,20 @@ use Rattle.storage.specs.Writes.{node_bytes, committed_set}
 use Rattle.storage_bytes.proofs.WordLaws.{put_length}
 use Rattle.prefix_lookup.specs.Prefix.{stored_of, slice_of}
 use Rattle.log_comparison.specs.Comparison.{same_from}
-use Rattle.prefix_lookup.specs.declared.lookup.Slice.{Slice}
-use Rattle.prefix_lookup.specs.declared.lookup.Stored.{Stored}
 use Rattle.prefix_lookup.proofs.StoredLaws.{stored_number}
 use Rattle.prefix_lookup.proofs.TableLaws.{whole_table, slice_within}
 use Rattle.prefix_lookup.proofs.FrontLaws.{node_read}
 use Rattle.committed_prefix.specs.Prefix.{rows_of, node_of, same_slices, agree_in, unseen_set, keep_bytes}
 use Rattle.units.specs.declared.LogPrefixWitness.{LogPrefixWitness}
 use Rattle.storage.proofs.WellFormed.{Formed}
+use Rattle.std.specs.Prelude.{Option, Some, None}
 
 -- a part of a stored prefix is stored
-stored_within : (h : Bytes) (p i : ℕ) (q : LogPrefixWitness) → Formed h → p ≤ word_at h 0 2 → slice_of (rows_of h) p i ≡ Slice.Prefix q → q.0 ≤ word_at h 0 2
+stored_within : (h : Bytes) (p i : ℕ) (q : LogPrefixWitness) → Formed h → p ≤ word_at h 0 2 → slice_of (rows_of h) p i ≡ Some q → q.0 ≤ word_at h 0 2
 stored_within h p i q f l e = slice_within (prefixes_part h) (word_at h 0 2) p i q (whole_table h f) l e
 
 -- the committed prefix, where one is kept, is stored
-pub kept_within : (h : Bytes) → Formed h → (k : Stored) → k ≡ stored_of (word_at h 4 2) → (c : LogPrefixWitness) → k ≡ Stored.Prefix c → c.0 ≤ word_at h 0 2
+pub kept_within : (h : Bytes) → Formed h → (k : Option LogPrefixWitness) → k ≡ stored_of (word_at h 4 2) → (c : LogPrefixWitness) → k ≡ Some c → c.0 ≤ word_at h 0 2
 kept_within h f k ek c g = subst (λ (x : ℕ). x ≤ word_at h 0 2) (sym (stored_number (word_at h 4 2) k ek c g).0) f.committed
 
 -- ---- the unseen mark
@@ -39,35 +38,35 @@ unseen_is h n q eq x ex m u e =
 -- ---- compared
 
 -- where the first is not there
-pub none_first : (row : ℕ → PrefixRow) (s : Slice) → same_slices row Slice.Beyond s ≡ false
-none_first row (Slice.Prefix p) = refl
-none_first row Slice.Beyond = refl
+pub none_first : (row : ℕ → PrefixRow) (s : Option LogPrefixWitness) → same_slices row None s ≡ false
+none_first row (Some p) = refl
+none_first row None = refl
 
-module _ (h : Bytes) (a b i : ℕ) (q : Bytes) (eq : q ≡ prefixes_part h) (r : Slice) (er : r ≡ slice_of (prefix_row q) a i) where
+module _ (h : Bytes) (a b i : ℕ) (q : Bytes) (eq : q ≡ prefixes_part h) (r : Option LogPrefixWitness) (er : r ≡ slice_of (prefix_row q) a i) where
   first_slice : slice_of (rows_of h) a i ≡ r
   first_slice = sym (er ∙ ap (λ (u : Bytes). slice_of (prefix_row u) a i) eq)
 
-  pub agree_short : r ≡ Slice.Beyond → false ≡ agree_in h a b i
+  pub agree_short : r ≡ None → false ≡ agree_in h a b i
   unfolding agree_in
   agree_short e =
-      sym (ap (λ (x : Slice). same_slices (rows_of h) x (slice_of (rows_of h) b i)) (first_slice ∙ e) ∙ none_first (rows_of h) (slice_of (rows_of h) b i))
+      sym (ap (λ (x : Option LogPrefixWitness). same_slices (rows_of h) x (slice_of (rows_of h) b i)) (first_slice ∙ e) ∙ none_first (rows_of h) (slice_of (rows_of h) b i))
 
-  pub slice_kept : (p : LogPrefixWitness) → Formed h → a ≤ word_at h 0 2 → r ≡ Slice.Prefix p → p.0 ≤ word_at h 0 2
+  pub slice_kept : (p : LogPrefixWitness) → Formed h → a ≤ word_at h 0 2 → r ≡ Some p → p.0 ≤ word_at h 0 2
   slice_kept p f l e = stored_within h a i p f l (first_slice ∙ e)
 
-  module _ (p : LogPrefixWitness) (e : r ≡ Slice.Prefix p) (s : Slice) (es : s ≡ slice_of (prefix_row q) b i) where
-    both_slices : agree_in h a b i ≡ same_slices (rows_of h) (Slice.Prefix p) s
+  module _ (p : LogPrefixWitness) (e : r ≡ Some p) (s : Option LogPrefixWitness) (es : s ≡ slice_of (prefix_row q) b i) where
+    both_slices : agree_in h a b i ≡ same_slices (rows_of h) (Some p) s
     unfolding agree_in
     both_slices =
-        ap (λ (x : Slice). same_slices (rows_of h) x (slice_of (rows_of h) b i)) (first_slice ∙ e)
-        ∙ ap (same_slices (rows_of h) (Slice.Prefix p)) (sym (es ∙ ap (λ (u : Bytes). slice_of (prefix_row u) b i) eq))
+        ap (λ (x : Option LogPrefixWitness). same_slices (rows_of h) x (slice_of (rows_of h) b i)) (first_slice ∙ e)
+        ∙ ap (same_slices (rows_of h) (Some p)) (sym (es ∙ ap (λ (u : Bytes). slice_of (prefix_row u) b i) eq))
 
-    pub agree_short_2 : s ≡ Slice.Beyond → false ≡ agree_in h a b i
-    agree_short_2 g = sym (both_slices ∙ ap (same_slices (rows_of h) (Slice.Prefix p)) g)
+    pub agree_short_2 : s ≡ None → false ≡ agree_in h a b i
+    agree_short_2 g = sym (both_slices ∙ ap (same_slices (rows_of h) (Some p)) g)
 
-    pub agree_same : (p' : LogPrefixWitness) → s ≡ Slice.Prefix p' → (v : Bool) → v ≡ same_from (prefix_row q) p.0 p.0 p'.0 → v ≡ agree_in h a b i
+    pub agree_same : (p' : LogPrefixWitness) → s ≡ Some p' → (v : Bool) → v ≡ same_from (prefix_row q) p.0 p.0 p'.0 → v ≡ agree_in h a b i
     agree_same p' g v w =
-        w ∙ ap (λ (u : Bytes). same_from (prefix_row u) p.0 p.0 p'.0) eq ∙ sym (both_slices ∙ ap (same_slices (rows_of h) (Slice.Prefix p)) g)
+        w ∙ ap (λ (u : Bytes). same_from (prefix_row u) p.0 p.0 p'.0) eq ∙ sym (both_slices ∙ ap (same_slices (rows_of h) (Some p)) g)
 
 -- ---- lengths
 

@@ -1,13 +1,13 @@
 -- The committed prefix on the bytes of a history, in the order of the code: how two prefixes compare, and what is kept.
 -- Assumes nothing.
-use Rattle.std.specs.Prelude.{ℕ, ◌+◌, ◌*◌, Bool, false}
+use Rattle.std.specs.Prelude.{ℕ, ◌+◌, ◌*◌, Bool, false, Option, Some, None}
 use Rattle.model.specs.Sizes.{Bytes}
 use Rattle.storage_bytes.specs.Words.{put_bytes}
 use Rattle.storage.specs.Tables.{PrefixRow, NodeRow, row_of_node, prefix_row, nodes_part, prefixes_part}
 use Rattle.storage.specs.Writes.{node_bytes, committed_set}
 use Rattle.prefix_lookup.specs.Prefix.{slice_of}
 use Rattle.log_comparison.specs.Comparison.{same_from}
-use Rattle.prefix_lookup.specs.declared.lookup.Slice.{Slice}
+use Rattle.units.specs.declared.LogPrefixWitness.{LogPrefixWitness}
 
 -- ---- judged: nothing is written
 
@@ -18,11 +18,11 @@ abbrev pub node_of : Bytes → ℕ → NodeRow
 node_of h n = row_of_node (nodes_part h) n
 
 -- both parts are there and the same
-abbrev pub same_slices : (ℕ → PrefixRow) → Slice → Slice → Bool
-same_slices row (Slice.Prefix p) (Slice.Prefix q) = same_from row p.0 p.0 q.0
-same_slices row (Slice.Prefix p) Slice.Beyond = false
-same_slices row Slice.Beyond (Slice.Prefix q) = false
-same_slices row Slice.Beyond Slice.Beyond = false
+abbrev pub same_slices : (ℕ → PrefixRow) → Option LogPrefixWitness → Option LogPrefixWitness → Bool
+same_slices row (Some p) (Some q) = same_from row p.0 p.0 q.0
+same_slices row (Some p) None = false
+same_slices row None (Some q) = false
+same_slices row None None = false
 
 unfoldable pub agree_in : Bytes → ℕ → ℕ → ℕ → Bool
 unfolding slice_of same_from

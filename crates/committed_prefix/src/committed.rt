@@ -6,22 +6,23 @@ ghost use Rattle.prefix_lookup.specs.Prefix.{stored_of};
 ghost use Rattle.committed_prefix.specs.Prefix.{unseen_set, agree_in, keep_bytes};
 
 use log_comparison::comparison::same_prefix;
-use prefix_lookup::lookup::{Slice, Stored, slice_through};
+use prefix_lookup::lookup::slice_through;
 use storage::head::{committed, set_committed};
-use storage_bytes::layout::{node_table, prefix_table};
-use table_rows::nodes::{node_at, set_node};
+use storage::rows::set;
+use storage_bytes::layout::{NODES, PREFIXES};
+use table_rows::nodes::{Node, node_at};
 use units::{LogIndex, LogPrefixWitness, NodeId};
 
 // The committed prefix, where one is kept.
-pub fn committed_prefix(history: &[u8]) -> Stored
+pub fn committed_prefix(history: &[u8]) -> Option<LogPrefixWitness>
     requires { 9 ≤ length history.now }
     ensures { result ≡ stored_of (word_at history.now 4 2) }
 {
     let p = committed(history);
-    if p.0 == LogPrefixWitness::EMPTY.0 {
-        return Stored::Nothing;
+    if p == LogPrefixWitness::EMPTY {
+        return None;
     }
-    Stored::Prefix(p)
+    Some(p)
 }
 
 // The node's unseen mark is set; its view stays.
@@ -30,9 +31,8 @@ pub fn set_unseen(history: &mut [u8], node: NodeId, mark: LogIndex)
     ensures { history.new ≡ unseen_set history.old node.0 mark.0 }
 {
     let k = node.0 as usize;
-    let mut x = node_at(node_table(&history[..]), k);
-    x.unseen = mark;
-    set_node(&mut history[..], k, x);
+    let x = node_at(NODES.of(&history[..]), k);
+    set(&mut history[..], k, Node { unseen: mark, ..x });
 }
 
 // Both prefixes reach the index, and are the same through it.
@@ -45,11 +45,11 @@ pub fn agree_through(
     requires { (well_formed history.now ≡ true) × (a.0 ≤ word_at history.now 0 2) × (b.0 ≤ word_at history.now 0 2) }
     ensures { result ≡ agree_in history.now a.0 b.0 index.0 }
 {
-    let prefixes = prefix_table(history);
-    let Slice::Prefix(p) = slice_through(prefixes, a, index) else {
+    let prefixes = PREFIXES.of(history);
+    let Some(p) = slice_through(prefixes, a, index) else {
         return false;
     };
-    let Slice::Prefix(q) = slice_through(prefixes, b, index) else {
+    let Some(q) = slice_through(prefixes, b, index) else {
         return false;
     };
     same_prefix(prefixes, p, q)

@@ -11,16 +11,16 @@ use Rattle.storage_bytes.specs.Words.{word_at}
 use Rattle.storage.specs.Tables.{findings_part, prefixes_part}
 use Rattle.log_violation.specs.Violation.{held_all, bytes_all, findings_kept}
 use Rattle.log_violation.proofs.Kept.{kept_length}
-use Rattle.completeness.specs.declared.leader_completeness.Checked.{Checked}
+use Rattle.log_violation.specs.declared.violation.FindingsFull.{FindingsFull}
 use Rattle.storage.specs.Values.{certificates_of, number_index, committed_end}
 use Rattle.units.specs.declared.LogPrefixWitness.{LogPrefixWitness}
 use Rattle.prefix_lookup.specs.Prefix.{stored_of}
-use Rattle.prefix_lookup.specs.declared.lookup.Stored.{Stored}
 use Rattle.prefix_lookup.proofs.StoredLaws.{stored_number, stored_nothing}
 use Rattle.certificate_judgement.specs.Judgement.{lackings_in, JudgedAll}
 use Rattle.check_marks.specs.Marks.{marks_moved}
 use Rattle.completeness.specs.Check.{check_held, check_table, check_written, judged_answer, judged_bytes, kept_answer, kept_bytes, check_answer, check_bytes, CheckedAs}
 use Rattle.check_marks.proofs.MarkLaws.{marks_length}
+use Rattle.std.specs.Prelude.{Option, Some, None, Result, Ok, Err}
 
 -- ---- written
 
@@ -35,12 +35,12 @@ module _ (h t : Bytes) (held end : ℕ) where
 
 -- ---- the committed prefix taken apart
 
-module _ (h : Bytes) (k : Stored) (ek : k ≡ stored_of (word_at h 4 2)) where
-  pub checked_nothing : k ≡ Stored.Nothing → CheckedAs h (Checked.Accepted 0) h
+module _ (h : Bytes) (k : Option LogPrefixWitness) (ek : k ≡ stored_of (word_at h 4 2)) where
+  pub checked_nothing : k ≡ None → CheckedAs h (Ok 0) h
   unfolding check_answer check_bytes
   checked_nothing g = record { is = ap (kept_answer h) (sym g ∙ ek); bytes = ap (kept_bytes h) (sym g ∙ ek) }
 
-  module _ (p : LogPrefixWitness) (g : k ≡ Stored.Prefix p) where
+  module _ (p : LogPrefixWitness) (g : k ≡ Some p) where
     pub number_is : p.0 ≡ word_at h 4 2
     number_is = (stored_number (word_at h 4 2) k ek p g).0
 
@@ -48,20 +48,20 @@ module _ (h : Bytes) (k : Stored) (ek : k ≡ stored_of (word_at h 4 2)) where
     unfolding committed_end
     end_read q eq end e = e ∙ (λ i. number_index (eq i) (number_is i))
 
-    pub checked_kept : (r : Checked) (h' : Bytes) → (r ≡ judged_answer h) × (h' ≡ judged_bytes h) → CheckedAs h r h'
+    pub checked_kept : (r : Result ℕ FindingsFull) (h' : Bytes) → (r ≡ judged_answer h) × (h' ≡ judged_bytes h) → CheckedAs h r h'
     unfolding check_answer check_bytes
     checked_kept r h' w =
         record { is = w.0 ∙ ap (kept_answer h) (sym g ∙ ek); bytes = w.1 ∙ ap (kept_bytes h) (sym g ∙ ek) }
 
 -- what holds in both cases holds of the check
-pub check_cases : (h : Bytes) (P : Checked → Bytes → Type 0) → (word_at h 4 2 ≡ 0 → P (Checked.Accepted 0) h)
+pub check_cases : (h : Bytes) (P : Result ℕ FindingsFull → Bytes → Type 0) → (word_at h 4 2 ≡ 0 → P (Ok 0) h)
     → P (judged_answer h) (judged_bytes h) → P (check_answer h) (check_bytes h)
 unfolding check_answer check_bytes
 check_cases h P nothing kept = by (stored_of (word_at h 4 2)) refl
   where
-    by : (k : Stored) → k ≡ stored_of (word_at h 4 2) → P (kept_answer h k) (kept_bytes h k)
-    by Stored.Nothing e = nothing (stored_nothing (word_at h 4 2) Stored.Nothing e refl)
-    by (Stored.Prefix p) e = kept
+    by : (k : Option LogPrefixWitness) → k ≡ stored_of (word_at h 4 2) → P (kept_answer h k) (kept_bytes h k)
+    by None e = nothing (stored_nothing (word_at h 4 2) None e refl)
+    by (Some p) e = kept
 
 -- ---- judged on a copy of the findings
 
@@ -74,17 +74,17 @@ module _ (h u : Bytes) (n b m : ℕ) (t : Bytes) (eu : (n ≡ word_at h 7 1) × 
   unfolding check_table
   table_is = j.table ∙ (λ i. bytes_all (eu.1 i) (eu.0 i) (lackings_in h (certificates_of h)))
 
-  pub judged_refused : 128 < m → (Checked.FindingsFull ≡ judged_answer h) × (h ≡ judged_bytes h)
+  pub judged_refused : 128 < m → (Err (record {}) ≡ judged_answer h) × (h ≡ judged_bytes h)
   unfolding judged_answer judged_bytes
   judged_refused l =
       let f = lt-ltb 128 (check_held h) (subst (λ (x : ℕ). 128 < x) held_is l) in
-      (sym (cond_true (ltb 128 (check_held h)) Checked.FindingsFull _ f), sym (cond_true (ltb 128 (check_held h)) h _ f))
+      (sym (cond_true (ltb 128 (check_held h)) (Err (record {})) _ f), sym (cond_true (ltb 128 (check_held h)) h _ f))
 
   pub judged_accepted : m ≤ 128 → (end : ℕ) → end ≡ committed_end h → (h' : Bytes) → h' ≡ check_written h t m end
-      → (Checked.Accepted b ≡ judged_answer h) × (h' ≡ judged_bytes h)
+      → (Ok b ≡ judged_answer h) × (h' ≡ judged_bytes h)
   unfolding judged_answer judged_bytes
   judged_accepted l end ee h' eh =
       let f = le-ltb 128 (check_held h) (subst (λ (x : ℕ). x ≤ 128) held_is l) in (
-        ap Checked.Accepted j.flag ∙ sym (cond_false (ltb 128 (check_held h)) Checked.FindingsFull _ f),
+        ap Ok j.flag ∙ sym (cond_false (ltb 128 (check_held h)) (Err (record {})) _ f),
         eh ∙ (λ i. check_written h (table_is i) (held_is i) (ee i)) ∙ sym (cond_false (ltb 128 (check_held h)) h _ f),
       )

@@ -11,6 +11,7 @@ use mathlib.Core.Option.{none, some}
 use lib.Dec.{ltb}
 use lib.ListN.{length}
 use borrow.Author.Tests.{lt-ltb, le-ltb}
+use Rattle.std.specs.Prelude.{Result, Ok, Err}
 use Rattle.model.specs.Sizes.{Bytes}
 use Rattle.model.specs.Refusal.{findingsFull}
 use Rattle.model.specs.Record.{check}
@@ -29,7 +30,7 @@ use Rattle.storage.proofs.Meanings.{Stands, with_elections, with_noted, certific
 use Rattle.storage.proofs.Answered.{Means, accepts, refuses}
 use Rattle.log_violation.proofs.Kept.{findings_kept_lem}
 use Rattle.log_violation.proofs.ViolationLaws.{Holds, all_hold, all_length, findings_long}
-use Rattle.completeness.specs.declared.leader_completeness.Checked.{Checked}
+use Rattle.log_violation.specs.declared.violation.FindingsFull.{FindingsFull}
 use Rattle.storage.specs.Values.{certificates_of, committed_end}
 use Rattle.certificate_judgement.specs.Judgement.{lackings_in, flags_in}
 use Rattle.check_marks.specs.Marks.{marks_moved}
@@ -92,9 +93,9 @@ module _ (h : Bytes) (x : History) (s : Stands h x) where
     unfolding check_refusal
     model_accepts = cond_false (ltb 128 (length (check_findings x))) (some findingsFull) none (le-ltb 128 (length (check_findings x)) (let z = count in omega arith))
 
-    accepted : judged_answer h ≡ Checked.Accepted (check_value x)
+    accepted : judged_answer h ≡ Ok (check_value x)
     unfolding judged_answer
-    accepted = cond_false (ltb 128 (check_held h)) Checked.FindingsFull _ (le-ltb 128 _ few) ∙ ap Checked.Accepted flag
+    accepted = cond_false (ltb 128 (check_held h)) (Err (record {})) _ (le-ltb 128 _ few) ∙ ap Ok flag
 
     table_kept : length (check_table h) ≡ 1024
     unfolding check_table
@@ -120,9 +121,9 @@ module _ (h : Bytes) (x : History) (s : Stands h x) where
     unfolding check_refusal
     model_refuses = cond_true (ltb 128 (length (check_findings x))) (some findingsFull) none (lt-ltb 128 _ more)
 
-    refused : judged_answer h ≡ Checked.FindingsFull
+    refused : judged_answer h ≡ Err (record {})
     unfolding judged_answer
-    refused = cond_true (ltb 128 (check_held h)) Checked.FindingsFull _ over
+    refused = cond_true (ltb 128 (check_held h)) (Err (record {})) _ over
 
     unchanged : judged_bytes h ≡ h
     unfolding judged_bytes
@@ -132,20 +133,20 @@ module _ (h : Bytes) (x : History) (s : Stands h x) where
     refused_means = refuses h x check _ (judged_bytes h) findingsFull s model_refuses (ap check_reply refused) unchanged
 
 -- nothing is committed: accepted, and nothing changes
-nothing_means : (h : Bytes) (x : History) → Stands h x → word_at h 4 2 ≡ 0 → Means h x check (check_reply (Checked.Accepted 0)) h
+nothing_means : (h : Bytes) (x : History) → Stands h x → word_at h 4 2 ≡ 0 → Means h x check (check_reply (Ok 0)) h
 nothing_means h x s e =
     let none_kept : x.committed ≡ [] = sym (committed_stored h x s) ∙ ap (prefix_at x.prefixes) e in
     let count : word_at h 7 1 ≡ length x.findings =
     sym (tabulate_length (finding_row (findings_part h)) 0 (word_at h 7 1)) ∙ ap length (findings_stored h x s) in
     let held = (formed h s.right).findings in
     accepts h x check _ h (nothing_refused x none_kept (omega arith))
-    (ap (λ (v : ℕ). check_reply (Checked.Accepted v)) (sym (nothing_flagged x none_kept)))
+    (ap (λ (v : ℕ). check_reply (Ok v)) (sym (nothing_flagged x none_kept)))
     (subst (Stands h) (sym (nothing_changed x none_kept)) s)
 
 -- the check of bytes that stand for a history is the model's check of it
-pub check_means : (h : Bytes) (x : History) (answer : Checked) (after : Bytes) → Stands h x → CheckedAs h answer after
+pub check_means : (h : Bytes) (x : History) (answer : Result ℕ FindingsFull) (after : Bytes) → Stands h x → CheckedAs h answer after
     → Means h x check (check_reply answer) after
 check_means h x answer after s c =
-    subst₂ (λ (a : Checked) (u : Bytes). Means h x check (check_reply a) u) (sym c.is) (sym c.bytes)
-    (check_cases h (λ (a : Checked) (u : Bytes). Means h x check (check_reply a) u) (nothing_means h x s)
+    subst₂ (λ (a : Result ℕ FindingsFull) (u : Bytes). Means h x check (check_reply a) u) (sym c.is) (sym c.bytes)
+    (check_cases h (λ (a : Result ℕ FindingsFull) (u : Bytes). Means h x check (check_reply a) u) (nothing_means h x s)
     (⊎_elim (λ a. accepted_means h x s a.0 a.1) (λ a. refused_means h x s a.0 a.1) (holds h x s)))

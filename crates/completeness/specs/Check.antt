@@ -1,6 +1,6 @@
 -- The check of a history in bytes: its answer and the bytes that it leaves. A refused check leaves every byte.
 -- Assumes nothing.
-use Rattle.std.specs.Prelude.{ℕ, ◌≡◌, cond, ltb}
+use Rattle.std.specs.Prelude.{ℕ, ◌≡◌, cond, ltb, Option, Some, None, Result, Ok, Err}
 use Rattle.model.specs.Sizes.{Bytes}
 use Rattle.model.specs.Refusal.{findingsFull}
 use Rattle.model.specs.Answer.{Answer, accepted, refused}
@@ -8,17 +8,16 @@ use Rattle.storage_bytes.specs.Words.{word_at}
 use Rattle.storage.specs.Tables.{findings_part}
 use Rattle.log_violation.specs.Violation.{held_all, bytes_all, findings_kept}
 use Rattle.prefix_lookup.specs.Prefix.{stored_of}
-use Rattle.prefix_lookup.specs.declared.lookup.Stored.{Stored}
 use Rattle.storage.specs.Values.{certificates_of, committed_end}
 use Rattle.certificate_judgement.specs.Judgement.{lackings_in, flags_in}
 use Rattle.check_marks.specs.Marks.{marks_moved}
-use Rattle.completeness.specs.declared.leader_completeness.Checked.{Checked}
-use Rattle.completeness.specs.declared.leader_completeness.Checked.TheVariants.{Accepted, FindingsFull}
+use Rattle.log_violation.specs.declared.violation.FindingsFull.{FindingsFull}
+use Rattle.units.specs.declared.LogPrefixWitness.{LogPrefixWitness}
 
 -- the answer in the model's words
-abbrev pub check_reply : Checked → Answer
-check_reply (Accepted v) = accepted v 0
-check_reply FindingsFull = refused findingsFull
+abbrev pub check_reply : Result ℕ FindingsFull → Answer
+check_reply (Ok v) = accepted v 0
+check_reply (Err e) = refused findingsFull
 
 -- ---- held against a committed prefix
 
@@ -36,9 +35,9 @@ unfoldable pub check_written : Bytes → Bytes → ℕ → ℕ → Bytes
 unfolding word_at marks_moved findings_kept
 check_written h t held end = findings_kept (marks_moved h end 0 (word_at h 6 1)) t held
 
-unfoldable pub judged_answer : Bytes → Checked
+unfoldable pub judged_answer : Bytes → Result ℕ FindingsFull
 unfolding check_held flags_in word_at
-judged_answer h = cond (ltb 128 (check_held h)) FindingsFull (Accepted (flags_in h 0 (certificates_of h)))
+judged_answer h = cond (ltb 128 (check_held h)) (Err (record {})) (Ok (flags_in h 0 (certificates_of h)))
 
 unfoldable pub judged_bytes : Bytes → Bytes
 unfolding check_held check_table check_written committed_end
@@ -46,16 +45,16 @@ judged_bytes h = cond (ltb 128 (check_held h)) h (check_written h (check_table h
 
 -- ---- the check: where nothing is committed no mark is passed
 
-abbrev pub kept_answer : Bytes → Stored → Checked
-kept_answer h Stored.Nothing = Accepted 0
-kept_answer h (Stored.Prefix p) = judged_answer h
+abbrev pub kept_answer : Bytes → Option LogPrefixWitness → Result ℕ FindingsFull
+kept_answer h None = Ok 0
+kept_answer h (Some p) = judged_answer h
 
-abbrev pub kept_bytes : Bytes → Stored → Bytes
-kept_bytes h Stored.Nothing = h
-kept_bytes h (Stored.Prefix p) = judged_bytes h
+abbrev pub kept_bytes : Bytes → Option LogPrefixWitness → Bytes
+kept_bytes h None = h
+kept_bytes h (Some p) = judged_bytes h
 
 -- the answer, and the bytes after it
-unfoldable pub check_answer : Bytes → Checked
+unfoldable pub check_answer : Bytes → Result ℕ FindingsFull
 unfolding stored_of judged_answer word_at
 check_answer h = kept_answer h (stored_of (word_at h 4 2))
 
@@ -63,6 +62,6 @@ unfoldable pub check_bytes : Bytes → Bytes
 unfolding stored_of judged_bytes word_at
 check_bytes h = kept_bytes h (stored_of (word_at h 4 2))
 
-pub record CheckedAs (h : Bytes) (answer : Checked) (after : Bytes) : Type 0 where
+pub record CheckedAs (h : Bytes) (answer : Result ℕ FindingsFull) (after : Bytes) : Type 0 where
   pub is : answer ≡ check_answer h
   pub bytes : after ≡ check_bytes h

@@ -32,21 +32,24 @@ use Rattle.storage.proofs.Meanings as meanings
 use Rattle.storage.proofs.Meanings.{Stands, with_elections, certificates_stored}
 use Rattle.storage.proofs.OrderLaws.{held_is, election_written}
 use Rattle.prefix_lookup.specs.Prefix.{witness, front_through}
-use Rattle.prefix_lookup.specs.declared.lookup.Slice.{Slice}
 use Rattle.prefix_lookup.proofs.Fronts.{front_cut}
-use Rattle.election.specs.declared.certificate.ElectionAnswer.{ElectionAnswer}
+use Rattle.election.specs.declared.certificate.ElectionRefusal.{ElectionRefusal}
 use Rattle.certificate_order.specs.Order.{taken_of}
 use Rattle.election_judging.specs.declared.judging.Numbering.{Numbering}
+use Rattle.election_judging.specs.declared.judging.NumberTaken.{NumberTaken}
 use Rattle.election_judging.specs.Certify.{numbering_in}
 use Rattle.election_judging.proofs.Ordered.{numbering_is}
 use Rattle.election.specs.Certify.{full_in, answer_of, kept, bytes_of, answer_in, bytes_in}
+use Rattle.std.specs.Prelude as prelude
+use Rattle.std.specs.Prelude.{Some, None, Result, Ok, Err, is_ok, ⊤}
+use Rattle.units.specs.declared.LogPrefixWitness.{LogPrefixWitness}
 
 -- the model's refusal, or none
-abbrev pub refusal_of : ElectionAnswer → Option Refusal
-refusal_of ElectionAnswer.Accepted = none
-refusal_of ElectionAnswer.LengthExceedsFront = some lengthExceedsFront
-refusal_of ElectionAnswer.CertificatesFull = some certificatesFull
-refusal_of ElectionAnswer.NumberTaken = some numberTaken
+abbrev pub refusal_of : Result ⊤ ElectionRefusal → Option Refusal
+refusal_of (Ok x) = none
+refusal_of (Err ElectionRefusal.LengthExceedsFront) = some lengthExceedsFront
+refusal_of (Err ElectionRefusal.CertificatesFull) = some certificatesFull
+refusal_of (Err ElectionRefusal.NumberTaken) = some numberTaken
 
 -- ---- rows
 
@@ -73,30 +76,24 @@ log_is ps l t m false q n f e = refl
 
 -- ---- what was found, and the answer
 
-abbrev pub is_accepted : ElectionAnswer → Bool
-is_accepted ElectionAnswer.Accepted = true
-is_accepted ElectionAnswer.LengthExceedsFront = false
-is_accepted ElectionAnswer.CertificatesFull = false
-is_accepted ElectionAnswer.NumberTaken = false
-
 -- the number is taken, or it is the next of the term at that place
-abbrev found : Bool → ℕ → ℕ → Numbering
-found b place number = cond b Numbering.Taken (Numbering.Next place number)
+abbrev found : Bool → ℕ → ℕ → Result Numbering NumberTaken
+found b place number = cond b (Err (record {})) (Ok (record { place = place; number = number }))
 
 room_is : (q : ℕ) (a b : Bool) (place number : ℕ)
-    → refusal_of (answer_of (Slice.Prefix (witness q)) a (found b place number)) ≡ cond a (some certificatesFull) (cond b (some numberTaken) none)
+    → refusal_of (answer_of (Some (witness q)) a (found b place number)) ≡ cond a (some certificatesFull) (cond b (some numberTaken) none)
 room_is q true b place number = refl
 room_is q false true place number = refl
 room_is q false false place number = refl
 
 -- a refused election leaves the bytes
-left : (h : Bytes) (l t : ℕ) (p : Bool) (s : Slice) (full : Bool) (m : Numbering) → is_accepted (answer_of s full m) ≡ false → bytes_of h l t p s full m ≡ h
-left h l t p Slice.Beyond full m e = refl
-left h l t p (Slice.Prefix q) true m e = refl
-left h l t p (Slice.Prefix q) false Numbering.Taken e = refl
-left h l t p (Slice.Prefix q) false (Numbering.Next place number) e = absurd (tf e)
+left : (h : Bytes) (l t : ℕ) (p : Bool) (s : prelude.Option LogPrefixWitness) (full : Bool) (m : Result Numbering NumberTaken) → is_ok (answer_of s full m) ≡ false → bytes_of h l t p s full m ≡ h
+left h l t p None full m e = refl
+left h l t p (Some q) true m e = refl
+left h l t p (Some q) false (Err r) e = refl
+left h l t p (Some q) false (Ok k) e = absurd (tf e)
 
-pub bytes_left : (h : Bytes) (l t : ℕ) (p : Bool) (n : ℕ) → is_accepted (answer_in h l t n) ≡ false → bytes_in h l t p n ≡ h
+pub bytes_left : (h : Bytes) (l t : ℕ) (p : Bool) (n : ℕ) → is_ok (answer_in h l t n) ≡ false → bytes_in h l t p n ≡ h
 unfolding answer_in bytes_in
 bytes_left h l t p n e = left h l t p (front_through h l n) (full_in h) (numbering_in h t) e
 
@@ -133,12 +130,12 @@ module _ (h : Bytes) (x : History) (s : Stands h x) where
 
   -- 10 and 11 are the model's
   room_same : (t q : ℕ)
-      → refusal_of (answer_of (Slice.Prefix (witness q)) (full_in h) (numbering_in h t))
+      → refusal_of (answer_of (Some (witness q)) (full_in h) (numbering_in h t))
       ≡ cond (leb 64 (length x.certificates)) (some certificatesFull) (cond (taken t (held t x.certificates) x.certificates) (some numberTaken) none)
   room_same t q =
       let k = taken_same t (number t) ∙ ap (λ (m : ℕ). taken t m x.certificates) (held_same t) in
       let c = count_is in
-      ap (λ (m : Numbering). refusal_of (answer_of (Slice.Prefix (witness q)) (full_in h) m)) (numbering_same t)
+      ap (λ (m : Result Numbering NumberTaken). refusal_of (answer_of (Some (witness q)) (full_in h) m)) (numbering_same t)
       ∙ room_is q (full_in h) (taken_of t (number t) cs) (place t) (number t)
       ∙ (λ i. cond (leb 64 (c i)) (some certificatesFull) (cond (k i) (some numberTaken) none))
 
@@ -153,16 +150,16 @@ module _ (h : Bytes) (x : History) (s : Stands h x) where
     unfolding election_refusal
     model_within b = cond_false (ltb (length (front_of x l)) n) _ _ (le-ltb (length (front_of x l)) n b)
 
-    answer_beyond : front_through h l n ≡ Slice.Beyond → answer_in h l t n ≡ ElectionAnswer.LengthExceedsFront
+    answer_beyond : front_through h l n ≡ None → answer_in h l t n ≡ Err ElectionRefusal.LengthExceedsFront
     unfolding answer_in
-    answer_beyond e = ap (λ (y : Slice). answer_of y (full_in h) (numbering_in h t)) e
+    answer_beyond e = ap (λ (y : prelude.Option LogPrefixWitness). answer_of y (full_in h) (numbering_in h t)) e
 
-    answer_within : (q : ℕ) → front_through h l n ≡ Slice.Prefix (witness q) → answer_in h l t n ≡ answer_of (Slice.Prefix (witness q)) (full_in h) (numbering_in h t)
+    answer_within : (q : ℕ) → front_through h l n ≡ Some (witness q) → answer_in h l t n ≡ answer_of (Some (witness q)) (full_in h) (numbering_in h t)
     unfolding answer_in
-    answer_within q e = ap (λ (y : Slice). answer_of y (full_in h) (numbering_in h t)) e
+    answer_within q e = ap (λ (y : prelude.Option LogPrefixWitness). answer_of y (full_in h) (numbering_in h t)) e
 
-    bytes_within : (q : ℕ) → front_through h l n ≡ Slice.Prefix (witness q)
-        → bytes_of h l t p (Slice.Prefix (witness q)) (full_in h) (found (taken_of t (number t) cs) (place t) (number t)) ≡ bytes_in h l t p n
+    bytes_within : (q : ℕ) → front_through h l n ≡ Some (witness q)
+        → bytes_of h l t p (Some (witness q)) (full_in h) (found (taken_of t (number t) cs) (place t) (number t)) ≡ bytes_in h l t p n
     unfolding bytes_in
     bytes_within q e = sym (λ i. bytes_of h l t p (e i) (full_in h) (numbering_same t i))
 
@@ -220,18 +217,18 @@ module _ (h : Bytes) (x : History) (s : Stands h x) where
 
     -- an accepted election is kept
     effect_within : (q : ℕ) → q ≤ word_at h 0 2 → prefix_at x.prefixes q ≡ take n (front_of x l) → (a b : Bool) → full_in h ≡ a
-        → answer_of (Slice.Prefix (witness q)) a (found b (place t) (number t)) ≡ ElectionAnswer.Accepted
-        → Stands (bytes_of h l t p (Slice.Prefix (witness q)) a (found b (place t) (number t))) (election_effect x l t p n)
-    effect_within q stored log true b e r = absurd (tf (sym (ap is_accepted r)))
-    effect_within q stored log false true e r = absurd (tf (sym (ap is_accepted r)))
+        → answer_of (Some (witness q)) a (found b (place t) (number t)) ≡ Ok tt
+        → Stands (bytes_of h l t p (Some (witness q)) a (found b (place t) (number t))) (election_effect x l t p n)
+    effect_within q stored log true b e r = absurd (tf (sym (ap is_ok r)))
+    effect_within q stored log false true e r = absurd (tf (sym (ap is_ok r)))
     effect_within q stored log false false e r = kept_stands q stored log (leb-false 64 (word_at h 6 1) e)
 
     -- the bytes after an accepted election stand for the model's history
-    pub effect_stands : answer_in h l t n ≡ ElectionAnswer.Accepted → Stands (bytes_in h l t p n) (election_effect x l t p n)
+    pub effect_stands : answer_in h l t n ≡ Ok tt → Stands (bytes_in h l t p n) (election_effect x l t p n)
     effect_stands a =
-        ⊎_elim (λ c. absurd (tf (sym (ap is_accepted a) ∙ ap is_accepted (answer_beyond c.0))))
+        ⊎_elim (λ c. absurd (tf (sym (ap is_ok a) ∙ ap is_ok (answer_beyond c.0))))
         (λ c.
         subst (λ (y : Bytes). Stands y (election_effect x l t p n)) (bytes_within c.part c.told)
         (effect_within c.part c.within c.first (full_in h) (taken_of t (number t) cs) refl
-        (sym (ap (λ (m : Numbering). answer_of (Slice.Prefix (witness c.part)) (full_in h) m) (numbering_same t)) ∙ sym (answer_within c.part c.told) ∙ a)))
+        (sym (ap (λ (m : Result Numbering NumberTaken). answer_of (Some (witness c.part)) (full_in h) m) (numbering_same t)) ∙ sym (answer_within c.part c.told) ∙ a)))
         (front_cut h x s l leads n)

@@ -4,24 +4,31 @@ ghost use Rattle.std.specs.Prelude.{◌≡◌, ◌<◌, true};
 ghost use Rattle.storage.specs.Rules.{well_formed};
 ghost use Rattle.certificate_rows.specs.Values.{certificate_value};
 ghost use Rattle.election.specs.Certify.{kept, Recorded};
+ghost use Rattle.election.specs.declared.certificate.ElectionRefusal.{ElectionRefusal};
 
 use certificate_rows::certificates::{Certificate, LOG_ABSENT, LOG_PRESENT, add_certificate};
-use election_judging::judging::{Numbering, number_in_term};
-use prefix_lookup::lookup::{Slice, front_through};
+use election_judging::judging::{NumberTaken, number_in_term};
+use prefix_lookup::lookup::front_through;
 use storage::head::certificate_count;
 use units::{CERTIFICATE_LIMIT, LogIndex, LogPrefixWitness, NodeId, Term};
 
-// Accepted, or why not.
-#[derive(Clone, Copy)]
-pub enum ElectionAnswer {
-    // The certificate is kept.
-    Accepted,
+// Why an election is refused.
+#[derive(Clone, Copy, PartialEq, Eq)]
+pub enum ElectionRefusal {
     // 9: the length exceeds the leader's front.
     LengthExceedsFront,
     // 10: 64 certificates are held.
     CertificatesFull,
     // 11: its number within its term is taken.
     NumberTaken,
+}
+
+impl From<NumberTaken> for ElectionRefusal {
+    ghost from_gives = { λ _ e. e ≡ ElectionRefusal.NumberTaken };
+
+    fn from(_e: NumberTaken) -> ElectionRefusal {
+        ElectionRefusal::NumberTaken
+    }
 }
 
 // A new certificate: nothing of its log is checked yet.
@@ -50,22 +57,21 @@ pub fn record_election(
     history: &mut [u8],
     leader: NodeId,
     term: Term,
+    // not an Option: the length is held against the front also where the log is absent
     present: bool,
     length: LogIndex,
-) -> ElectionAnswer
+) -> Result<(), ElectionRefusal>
     requires { (well_formed history.old ≡ true) × (leader.0 < 64) }
     ensures { Recorded history.old leader.0 term.0 present length.0 result history.new }
 {
-    let Slice::Prefix(log) = front_through(&history[..], leader, length) else {
-        return ElectionAnswer::LengthExceedsFront;
+    let Some(log) = front_through(&history[..], leader, length) else {
+        return Err(ElectionRefusal::LengthExceedsFront);
     };
     if CERTIFICATE_LIMIT <= certificate_count(&history[..]) {
-        return ElectionAnswer::CertificatesFull;
+        return Err(ElectionRefusal::CertificatesFull);
     }
-    let Numbering::Next { place, number } = number_in_term(&history[..], term) else {
-        return ElectionAnswer::NumberTaken;
-    };
-    let c = new_certificate(leader, term, number, present, log);
-    add_certificate(&mut history[..], place, c);
-    ElectionAnswer::Accepted
+    let next = number_in_term(&history[..], term)?;
+    let c = new_certificate(leader, term, next.number, present, log);
+    add_certificate(&mut history[..], next.place, c);
+    Ok(())
 }

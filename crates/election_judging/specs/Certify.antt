@@ -1,20 +1,21 @@
 -- The place and the number of a new certificate, on the bytes of a history.
 -- Assumes nothing.
-use Rattle.std.specs.Prelude.{ℕ, cond}
+use Rattle.std.specs.Prelude.{ℕ, cond, Result, Ok, Err}
 use Rattle.model.specs.Sizes.{Bytes}
 use Rattle.storage_bytes.specs.Words.{word_at}
 use Rattle.storage.specs.Tables.{CertificateRow, certificate_row, certificates_part}
 use Rattle.election_judging.specs.declared.judging.Numbering.{Numbering}
+use Rattle.election_judging.specs.declared.judging.NumberTaken.{NumberTaken}
 use Rattle.certificate_order.specs.Order.{place_from, held_before, taken_from, taken_before}
 
 -- the place and the number of a new certificate of term t behind n rows, or that its number is taken
-unfoldable pub numbering_of : (ℕ → CertificateRow) → ℕ → ℕ → Numbering
+unfoldable pub numbering_of : (ℕ → CertificateRow) → ℕ → ℕ → Result Numbering NumberTaken
 unfolding place_from held_before taken_from
 numbering_of row t n =
     let place = place_from row t n in
     let number = held_before row t place in
-    cond (taken_before row number place number) Numbering.Taken (Numbering.Next place number)
+    cond (taken_before row number place number) (Err (record {})) (Ok (record { place = place; number = number }))
 
 -- the same in the bytes of a history
-abbrev pub numbering_in : Bytes → ℕ → Numbering
+abbrev pub numbering_in : Bytes → ℕ → Result Numbering NumberTaken
 numbering_in h t = numbering_of (certificate_row (certificates_part h)) t (word_at h 6 1)

@@ -6,27 +6,31 @@ ghost use Rattle.election_judging.specs.Certify.{numbering_in};
 
 use certificate_order::order::{held_of, is_taken, place_of};
 use storage::head::certificate_count;
-use storage_bytes::layout::certificate_table;
+use storage_bytes::layout::CERTIFICATES;
 use units::Term;
 
-// The place of a new certificate of a term and its number within the term, or that one of the term has that number.
+// The place of a new certificate, and its number within its term.
 #[derive(Clone, Copy)]
-pub enum Numbering {
-    Next { place: usize, number: usize },
-    Taken,
+pub struct Numbering {
+    pub place: usize,
+    pub number: usize,
 }
 
+// One of the term has the number: refusal 11.
+#[derive(Clone, Copy, PartialEq, Eq)]
+pub struct NumberTaken;
+
 // The place and the number are found once. The number is how many the term holds.
-pub fn number_in_term(history: &[u8], term: Term) -> Numbering
+pub fn number_in_term(history: &[u8], term: Term) -> Result<Numbering, NumberTaken>
     requires { well_formed history.now ≡ true }
     ensures { result ≡ numbering_in history.now term.0 }
 {
     let n = certificate_count(history);
-    let certificates = certificate_table(history);
+    let certificates = CERTIFICATES.of(history);
     let place = place_of(certificates, n, term);
     let number = held_of(certificates, place, term);
     if is_taken(certificates, place, number, number) {
-        return Numbering::Taken;
+        return Err(NumberTaken);
     }
-    Numbering::Next { place, number }
+    Ok(Numbering { place, number })
 }

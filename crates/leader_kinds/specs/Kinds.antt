@@ -1,26 +1,29 @@
 -- The own answers of elections, checks and rows as answers of the history.
 -- Assumes nothing.
+use Rattle.std.specs.Prelude.{ℕ, Option, Some, None, Result, Ok, Err, ⊤}
 use Rattle.model.specs.Rows as rows
-use Rattle.election.specs.declared.certificate.ElectionAnswer.{ElectionAnswer}
-use Rattle.completeness.specs.declared.leader_completeness.Checked.{Checked}
-use Rattle.invariants.specs.declared.commit_safety.Verdict.{Verdict}
-use Rattle.answers.specs.declared.answer.Answer.{Answer}
+use Rattle.log_violation.specs.declared.violation.FindingsFull.{FindingsFull}
+use Rattle.election.specs.declared.certificate.ElectionRefusal.{ElectionRefusal}
+use Rattle.invariants.specs.declared.commit_safety.Failure.{Failure}
+use Rattle.invariants.specs.Rules.{number}
+use Rattle.answers.specs.declared.answer.Accepted.{Accepted}
+use Rattle.answers.specs.declared.answer.Refusal.{Refusal}
 use Rattle.answers.specs.Numbers.{accepted_with}
 
-abbrev pub of_election : ElectionAnswer → Answer
-of_election ElectionAnswer.Accepted = accepted_with 0
-of_election ElectionAnswer.LengthExceedsFront = Answer.LengthExceedsFront
-of_election ElectionAnswer.CertificatesFull = Answer.CertificatesFull
-of_election ElectionAnswer.NumberTaken = Answer.NumberTaken
+abbrev pub of_election : Result ⊤ ElectionRefusal → Result Accepted Refusal
+of_election (Ok v) = accepted_with 0
+of_election (Err ElectionRefusal.LengthExceedsFront) = Err Refusal.LengthExceedsFront
+of_election (Err ElectionRefusal.CertificatesFull) = Err Refusal.CertificatesFull
+of_election (Err ElectionRefusal.NumberTaken) = Err Refusal.NumberTaken
 
-abbrev pub of_check : Checked → Answer
-of_check (Checked.Accepted v) = accepted_with v
-of_check Checked.FindingsFull = Answer.FindingsFull
+abbrev pub of_check : Result ℕ FindingsFull → Result Accepted Refusal
+of_check (Ok v) = accepted_with v
+of_check (Err e) = Err Refusal.FindingsFull
 
-abbrev pub of_rows : rows.Verdict → Answer
-of_rows v = Answer.Accepted v.rule (record { 0 = v.node })
+abbrev pub of_rows : rows.Verdict → Result Accepted Refusal
+of_rows v = Ok (record { value = v.rule; node = record { 0 = v.node } })
 
 -- the code's own verdict
-abbrev pub of_verdict : Verdict → Answer
-of_verdict Verdict.Holds = accepted_with 0
-of_verdict (Verdict.Fails k n) = Answer.Accepted k n
+abbrev pub of_verdict : Option Failure → Result Accepted Refusal
+of_verdict None = accepted_with 0
+of_verdict (Some f) = Ok (record { value = number f.rule; node = f.node })

@@ -1,5 +1,5 @@
 // Kinds 4, 5 and 6: the own answer of each as an answer of the history.
-ghost use Rattle.std.specs.Prelude.{◌≡◌, true, ◌<◌};
+ghost use Rattle.std.specs.Prelude.{◌≡◌, true, ◌<◌, Ok, Err};
 ghost use Rattle.model.specs.Rows.{verdict};
 ghost use Rattle.record_scan.specs.Places as places;
 ghost use Rattle.storage.specs.Rules.{well_formed};
@@ -7,56 +7,32 @@ ghost use Rattle.election.specs.Certify.{answer_in, bytes_in};
 ghost use Rattle.completeness.specs.Check.{check_answer, check_bytes};
 ghost use Rattle.leader_kinds.specs.Kinds.{of_election, of_check, of_rows, of_verdict};
 
-use answers::answer::Answer;
-use completeness::leader_completeness::{Checked, record_leader_completeness};
-use election::certificate::{ElectionAnswer, record_election};
-use invariants::commit_safety::{Verdict, check_commit_safety};
+use answers::answer::{Accepted, Refusal};
+use completeness::leader_completeness::record_leader_completeness;
+use election::certificate::{ElectionRefusal, record_election};
+use invariants::commit_safety::{Failure, check_commit_safety};
 use units::{LogIndex, NodeId, Term};
 
-fn wide(rule: u8) -> usize
-    ensures { result ≡ rule }
+fn election_refusal(r: ElectionRefusal) -> Refusal
+    ensures { Err result ≡ of_election (Err r) }
 {
-    rule as usize
-}
-
-fn of_election(a: ElectionAnswer) -> Answer
-    ensures { result ≡ of_election a }
-{
-    match a {
-        ElectionAnswer::Accepted => Answer::Accepted {
-            value: 0,
-            node: NodeId(0),
-        },
-        ElectionAnswer::LengthExceedsFront => Answer::LengthExceedsFront,
-        ElectionAnswer::CertificatesFull => Answer::CertificatesFull,
-        ElectionAnswer::NumberTaken => Answer::NumberTaken,
+    match r {
+        ElectionRefusal::LengthExceedsFront => Refusal::LengthExceedsFront,
+        ElectionRefusal::CertificatesFull => Refusal::CertificatesFull,
+        ElectionRefusal::NumberTaken => Refusal::NumberTaken,
     }
 }
 
-fn of_check(a: Checked) -> Answer
-    ensures { result ≡ of_check a }
+// The value is the rule that fails, 0 where none does.
+fn of_rows(failed: Option<Failure>) -> Accepted
+    ensures { Ok result ≡ of_verdict failed }
 {
-    match a {
-        Checked::Accepted(value) => Answer::Accepted {
-            value,
-            node: NodeId(0),
+    match failed {
+        Some(f) => Accepted {
+            value: usize::from(u8::from(f.rule)),
+            node: f.node,
         },
-        Checked::FindingsFull => Answer::FindingsFull,
-    }
-}
-
-fn of_rows(v: Verdict) -> Answer
-    ensures { result ≡ of_verdict v }
-{
-    match v {
-        Verdict::Holds => Answer::Accepted {
-            value: 0,
-            node: NodeId(0),
-        },
-        Verdict::Fails { rule, node } => Answer::Accepted {
-            value: wide(rule),
-            node,
-        },
+        None => Accepted::with(0),
     }
 }
 
@@ -67,28 +43,29 @@ pub fn take_election(
     term: Term,
     present: bool,
     length: usize,
-) -> Answer
+) -> Result<Accepted, Refusal>
     requires { (well_formed history.old ≡ true) × (leader.0 < 64) }
     ensures { (result ≡ of_election (answer_in history.old leader.0 term.0 length)) × (history.new ≡ bytes_in history.old leader.0 term.0 present length) }
 {
-    let a = record_election(&mut history[..], leader, term, present, LogIndex(length));
-    of_election(a)
+    let recorded = record_election(&mut history[..], leader, term, present, LogIndex(length));
+    recorded.map_err(election_refusal)?;
+    Ok(Accepted::with(0))
 }
 
 // Kind 5.
-pub fn take_check(history: &mut [u8]) -> Answer
+pub fn take_check(history: &mut [u8]) -> Result<Accepted, Refusal>
     requires { well_formed history.old ≡ true }
     ensures { (result ≡ of_check (check_answer history.old)) × (history.new ≡ check_bytes history.old) }
 {
-    let a = record_leader_completeness(&mut history[..]);
-    of_check(a)
+    let checked = record_leader_completeness(&mut history[..]);
+    let value = checked.map_err(|_| Refusal::FindingsFull)?;
+    Ok(Accepted::with(value))
 }
 
 // Kind 6. The history is not looked at.
-pub fn take_rows(s: &[u8], count: usize) -> Answer
+pub fn take_rows(s: &[u8], count: usize) -> Result<Accepted, Refusal>
     requires { places.RowWalk s.now places.first_row count }
     ensures { result ≡ of_rows (verdict (places.rows_at s.now places.first_row count)) }
 {
-    let v = check_commit_safety(s, count);
-    of_rows(v)
+    Ok(of_rows(check_commit_safety(s, count)))
 }

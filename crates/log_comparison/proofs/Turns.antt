@@ -3,7 +3,7 @@
 -- Assumes nothing.
 use Prim.Native.Nat.{ℕ, zero, suc, ◌+◌, ◌-◌, ◌*◌, ◌<◌, ◌≤◌, min}
 use native.Mathlib.Omega.{arith}
-use mathlib.Core.Path.{◌≡◌, sym, ◌∙◌, ap}
+use mathlib.Core.Path.{◌≡◌, refl, sym, ◌∙◌, ap}
 use mathlib.Core.Bool.{Bool, true, false, cond, ◌||◌}
 use lib.Dec.{eqb}
 use borrow.Author.Tests.{eq-eqb, ne_eqb}
@@ -11,7 +11,6 @@ use Rattle.model.specs.Sizes.{Bytes}
 use Rattle.model.proofs.Tests.{cond_true, cond_false}
 use Rattle.storage_bytes.specs.Words.{word_at, bytes_at, same_bytes}
 use Rattle.storage.specs.Tables.{PrefixRow, prefix_row}
-use Rattle.storage_bytes.proofs.ByteTurns.{same_start}
 use Rattle.log_comparison.specs.Comparison.{same_entry, same_from}
 
 -- ---- the comparison of two prefixes
@@ -97,9 +96,9 @@ module _ (t : Bytes) (i j a b m n : ℕ) (ta : a ≡ word_at t (i * 41 + 4) 4) (
     entry_size d = rw (← ta, ← tb, eq-eqb a b e, ← tm, ← tn, ne_eqb m n d)
 
     pub entry_content : m ≡ n → m ≤ 32
-        → same_entry (prefix_row t i) (prefix_row t j) ≡ same_bytes (bytes_at t (i * 41 + 9 + 0) (m - 0)) (bytes_at t (j * 41 + 9 + 0) (m - 0))
+        → same_entry (prefix_row t i) (prefix_row t j) ≡ same_bytes (bytes_at t (i * 41 + 9) m) (bytes_at t (j * 41 + 9) m)
     unfolding same_entry
     entry_content d h =
         let mi : min (word_at t (i * 41 + 8) 1) 32 ≡ m = (let x = tm in omega arith) in
         let mj : min (word_at t (j * 41 + 8) 1) 32 ≡ m = (let x = tn in omega arith) in
-        rw (mi, mj, ← ta, ← tb, eq-eqb a b e, ← tm, ← tn, eq-eqb m n d) (same_start t t (i * 41 + 9) (j * 41 + 9) m)
+        rw (mi, mj, ← ta, ← tb, eq-eqb a b e, ← tm, ← tn, eq-eqb m n d) refl

@@ -1,15 +1,33 @@
 // Comparison of stored prefixes (the equality of types/prefix.rs). Equal numbers are the same stored prefix, which is the Rust's
 // shortcut; of unequal ones term and content at each index decide.
-ghost use Rattle.std.specs.Prelude.{◌≡◌, ℕ, ◌≤◌};
+ghost use Rattle.std.specs.Prelude.{◌≡◌, ℕ, ◌≤◌, ◌<◌};
 ghost use Rattle.storage.specs.Tables.{prefix_row};
 ghost use Rattle.prefix_lookup.specs.Table.{Table};
-ghost use Rattle.log_comparison.specs.Comparison.{same_from};
+ghost use Rattle.log_comparison.specs.Comparison.{same_entry, same_from};
 
 use prefix_rows::prefixes::{parent_at, size_at, term_at};
 use storage_bytes::layout::{PREFIX_CONTENT, PREFIX_WIDTH};
+use storage_bytes::words::same_bytes;
 use units::LogPrefixWitness;
 
-// Whether two stored prefixes are the same. From the last entries back, left at the first byte that differs; they are the same
+// The entries of rows i and j are the same, in term and content.
+fn same_entry(prefixes: &[u8], i: usize, j: usize) -> bool
+    requires { (n : ℕ) × Table prefixes.now n × (i < n) × (j < n) }
+    ensures { result ≡ same_entry (prefix_row prefixes.now i) (prefix_row prefixes.now j) }
+{
+    if term_at(prefixes, i) != term_at(prefixes, j) {
+        return false;
+    }
+    let n = size_at(prefixes, i);
+    if n != size_at(prefixes, j) {
+        return false;
+    }
+    let x = i * PREFIX_WIDTH + PREFIX_CONTENT;
+    let y = j * PREFIX_WIDTH + PREFIX_CONTENT;
+    same_bytes(prefixes, x, prefixes, y, n)
+}
+
+// Whether two stored prefixes are the same. From the last entries back, left at the first that differs; they are the same
 // where that comes to one prefix that both extend.
 pub fn same_prefix(prefixes: &[u8], a: LogPrefixWitness, b: LogPrefixWitness) -> bool
     requires { (n : ℕ) × Table prefixes.now n × (a.0 ≤ n) × (b.0 ≤ n) }
@@ -17,25 +35,18 @@ pub fn same_prefix(prefixes: &[u8], a: LogPrefixWitness, b: LogPrefixWitness) ->
 {
     let mut p = a;
     let mut q = b;
-    'entries: while p.0 != q.0 {
-        if p.0 == 0 || q.0 == 0 {
-            break 'entries;
+    // each prefix leads to the one that it extends: no index is counted
+    while p != q {
+        if p == LogPrefixWitness::EMPTY || q == LogPrefixWitness::EMPTY {
+            return false;
         }
         let i = p.0 - 1;
         let j = q.0 - 1;
-        let n = size_at(prefixes, i);
-        if term_at(prefixes, i).0 != term_at(prefixes, j).0 || n != size_at(prefixes, j) {
-            break 'entries;
-        }
-        let x = i * PREFIX_WIDTH + PREFIX_CONTENT;
-        let y = j * PREFIX_WIDTH + PREFIX_CONTENT;
-        for k in 0..n {
-            if prefixes[x + k] != prefixes[y + k] {
-                break 'entries;
-            }
+        if !same_entry(prefixes, i, j) {
+            return false;
         }
         p = parent_at(prefixes, i);
         q = parent_at(prefixes, j);
     }
-    p.0 == q.0
+    true
 }

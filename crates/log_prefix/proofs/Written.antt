@@ -3,7 +3,7 @@
 use Prim.Native.Nat.{ℕ, ◌+◌, ◌*◌, ◌≤◌}
 use native.Mathlib.Omega.{arith}
 use mathlib.Core.Path.{◌≡◌, refl, sym, ◌∙◌, ap}
-use mathlib.Core.Bool.{Bool, true, false}
+use mathlib.Core.Bool.{true, false}
 use mathlib.Core.Logic.{⊎_elim}
 use mathlib.Core.List.{List, [], ◌∷◌}
 use lib.Dec.{eqb}
@@ -21,12 +21,11 @@ use Rattle.storage_bytes.proofs.ListLaws.{tabulate_length}
 use Rattle.storage_bytes.proofs.WordLaws.{put_length}
 use Rattle.prefix_lookup.specs.Table.{entry_value}
 use Rattle.prefix_lookup.specs.Prefix.{witness, stored_of, row_of, find}
-use Rattle.prefix_lookup.specs.declared.lookup.Stored.{Stored}
 use Rattle.prefix_lookup.proofs.StoredLaws.{stored_number, stored_nothing}
 use Rattle.units.specs.declared.LogPrefixWitness.{LogPrefixWitness}
 use Rattle.log_prefix.specs.Extension.{extension_in, stored_content, appended, made, extended_bytes, extended_count, extended_number, extended, next_index, extension, extension_bytes, Making, Extending, written_bytes, written_count, written_number}
 use Rattle.log_prefix.specs.declared.prefix.Extended.{Extended}
-use Rattle.log_prefix.specs.declared.prefix.Extension.{Extension}
+use Rattle.std.specs.Prelude.{Option, Some, None, is_some, unwrap_or}
 
 pub value_length : (e : ShownEntry) → length (entry_value e).content ≡ e.length
 unfolding bytes_at
@@ -78,12 +77,12 @@ row_made h h' n p e g w =
 abbrev Made : Bytes → ℕ → ℕ → ShownEntry → Extended → Bytes → Type 0
 Made h n p e y h' = (y ≡ extended h n p (entry_value e)) × (h' ≡ extended_bytes h n p e.index.0 (entry_value e))
 
-module _ (h : Bytes) (n p : ℕ) (e : ShownEntry) (q : Bytes) (eq : q ≡ prefixes_part h) (r : Stored) (er : r ≡ stored_of (find (prefix_row q) n (row_of p 0 (entry_value e)))) where
+module _ (h : Bytes) (n p : ℕ) (e : ShownEntry) (q : Bytes) (eq : q ≡ prefixes_part h) (r : Option LogPrefixWitness) (er : r ≡ stored_of (find (prefix_row q) n (row_of p 0 (entry_value e)))) where
   extension_is : r ≡ stored_of (extension_in h n p (entry_value e))
   unfolding extension_in
   extension_is = er ∙ ap (λ (t : Bytes). stored_of (find (prefix_row t) n (row_of p 0 (entry_value e)))) eq
 
-  pub extend_found : (w : LogPrefixWitness) → r ≡ Stored.Prefix w → Made h n p e (record { prefix = w; count = n }) h
+  pub extend_found : (w : LogPrefixWitness) → r ≡ Some w → Made h n p e (record { prefix = w; count = n }) h
   extend_found w z =
       let s = stored_number (extension_in h n p (entry_value e)) r extension_is w z in
       let f = ne_eqb (extension_in h n p (entry_value e)) 0 s.1 in
@@ -91,7 +90,7 @@ module _ (h : Bytes) (n p : ℕ) (e : ShownEntry) (q : Bytes) (eq : q ≡ prefix
       let b = sym (count_found h n p (entry_value e) f) in
       ((λ j. record { prefix = witness (a j); count = b j }), sym (bytes_found h n p e.index.0 (entry_value e) f))
 
-  module _ (z : r ≡ Stored.Nothing) where
+  module _ (z : r ≡ None) where
     nowhere : eqb (extension_in h n p (entry_value e)) 0 ≡ true
     nowhere = eq-eqb (extension_in h n p (entry_value e)) 0 (stored_nothing (extension_in h n p (entry_value e)) r extension_is z)
 
@@ -114,56 +113,46 @@ pub next_read : (h q : Bytes) (p i : ℕ) → q ≡ prefixes_part h → i ≡ nu
 next_read h q p i eq ei = ap (λ (m : ℕ). m + 1) (ei ∙ ap (λ (t : Bytes). number_index t p) eq)
 
 module _ (h : Bytes) (n p : ℕ) (e : ShownEntry) where
-  abbrev Answered : Extension → Bytes → Type 0
+  abbrev Answered : Option Extended → Bytes → Type 0
   Answered r h' = (r ≡ extension h n p e) × (h' ≡ extension_bytes h n p e)
 
-  pub extends_next : e.index.0 ≡ next_index h p → (x : Extended) (h' : Bytes) → Made h n p e x h' → Answered (Extension.Prefix x) h'
+  pub extends_next : e.index.0 ≡ next_index h p → (x : Extended) (h' : Bytes) → Made h n p e x h' → Answered (Some x) h'
   unfolding extension extension_bytes
   extends_next i x h' a =
       let t = eq-eqb e.index.0 (next_index h p) i in (
-        ap Extension.Prefix a.0 ∙ sym (cond_true (eqb e.index.0 (next_index h p)) (Extension.Prefix (extended h n p (entry_value e))) Extension.NotNext t),
+        ap Some a.0 ∙ sym (cond_true (eqb e.index.0 (next_index h p)) (Some (extended h n p (entry_value e))) None t),
         a.1 ∙ sym (cond_true (eqb e.index.0 (next_index h p)) (extended_bytes h n p e.index.0 (entry_value e)) h t),
       )
 
-  pub extends_none : (e.index.0 ≡ next_index h p → ⊥) → Answered Extension.NotNext h
+  pub extends_none : (e.index.0 ≡ next_index h p → ⊥) → Answered None h
   unfolding extension extension_bytes
   extends_none o =
       let f = ne_eqb e.index.0 (next_index h p) o in (
-        sym (cond_false (eqb e.index.0 (next_index h p)) (Extension.Prefix (extended h n p (entry_value e))) Extension.NotNext f),
+        sym (cond_false (eqb e.index.0 (next_index h p)) (Some (extended h n p (entry_value e))) None f),
         sym (cond_false (eqb e.index.0 (next_index h p)) (extended_bytes h n p e.index.0 (entry_value e)) h f),
       )
 
   -- what an answer tells
-  is_prefix : Extension → Bool
-  is_prefix (Extension.Prefix x) = true
-  is_prefix Extension.NotNext = false
-
-  prefix_or : Extended → Extension → Extended
-  prefix_or x (Extension.Prefix y) = y
-  prefix_or x Extension.NotNext = x
-
-  module _ (r : Extension) (h' : Bytes) (a : Answered r h') where
-    pub answer_longer : (x : Extended) → r ≡ Extension.Prefix x
+  module _ (r : Option Extended) (h' : Bytes) (a : Answered r h') where
+    pub answer_longer : (x : Extended) → r ≡ Some x
         → (e.index.0 ≡ next_index h p) × (x ≡ extended h n p (entry_value e)) × (h' ≡ extended_bytes h n p e.index.0 (entry_value e))
-    unfolding is_prefix prefix_or
     answer_longer x q =
         ⊎_elim
         (λ t.
         let i = eqb-true e.index.0 (next_index h p) t in
         let b = extends_next i (extended h n p (entry_value e)) _ (refl, refl) in
-        (i, ap (prefix_or x) (sym q ∙ a.0 ∙ sym b.0), a.1 ∙ sym b.1))
+        (i, ap (λ (o : Option Extended). unwrap_or o x) (sym q ∙ a.0 ∙ sym b.0), a.1 ∙ sym b.1))
         (λ f.
         let b = extends_none (eqb-false e.index.0 (next_index h p) f) in
-        absurd (tf (ap is_prefix (sym q ∙ a.0 ∙ sym b.0))))
+        absurd (tf (ap is_some (sym q ∙ a.0 ∙ sym b.0))))
         (either (eqb e.index.0 (next_index h p)))
 
-    pub answer_stays : r ≡ Extension.NotNext → (e.index.0 ≡ next_index h p → ⊥) × (h' ≡ h)
-    unfolding is_prefix
+    pub answer_stays : r ≡ None → (e.index.0 ≡ next_index h p → ⊥) × (h' ≡ h)
     answer_stays q =
         ⊎_elim
         (λ t.
         let b = extends_next (eqb-true e.index.0 (next_index h p) t) (extended h n p (entry_value e)) _ (refl, refl) in
-        absurd (tf (sym (ap is_prefix (sym q ∙ a.0 ∙ sym b.0)))))
+        absurd (tf (sym (ap is_some (sym q ∙ a.0 ∙ sym b.0)))))
         (λ f.
         let o = eqb-false e.index.0 (next_index h p) f in
         (o, a.1 ∙ sym (extends_none o).1))

@@ -1,7 +1,7 @@
 -- An extension of a stored prefix by an entry, found or made: what `extend` answers and writes; and the entries of a front written
 -- one after the other.
 -- Assumes nothing.
-use Rattle.std.specs.Prelude.{ℕ, ◌+◌, ◌-◌, ◌≤◌, ◌<◌, ◌≡◌, cond, List, [], ◌∷◌, ◌++◌, eqb, length, replicate}
+use Rattle.std.specs.Prelude.{ℕ, ◌+◌, ◌-◌, ◌≤◌, ◌<◌, ◌≡◌, cond, List, [], ◌∷◌, ◌++◌, eqb, length, replicate, Option, Some, None}
 use Rattle.model.specs.Entry.{Entry}
 use Rattle.model.specs.Sizes.{Bytes}
 use Rattle.storage_bytes.specs.Words.{word_at}
@@ -9,7 +9,6 @@ use Rattle.storage.specs.Tables.{prefix_row, prefixes_part}
 use Rattle.storage.specs.Writes.{prefix_appended}
 use Rattle.storage.specs.Values.{number_index}
 use Rattle.log_prefix.specs.declared.prefix.Extended.{Extended}
-use Rattle.log_prefix.specs.declared.prefix.Extension.{Extension}
 use Rattle.record_walk.specs.declared.walk.ShownEntry.{ShownEntry}
 use Rattle.prefix_lookup.specs.Table.{entry_value}
 use Rattle.prefix_lookup.specs.Prefix.{witness, row_of, find}
@@ -56,9 +55,9 @@ abbrev pub next_index : Bytes → ℕ → ℕ
 next_index h p = number_index (prefixes_part h) p + 1
 
 -- `extend` takes the next index only: the extension, and the history after it; any other entry leaves every byte
-unfoldable pub extension : Bytes → ℕ → ℕ → ShownEntry → Extension
+unfoldable pub extension : Bytes → ℕ → ℕ → ShownEntry → Option Extended
 unfolding extended_number extended_count
-extension h n p e = cond (eqb e.index.0 (next_index h p)) (Extension.Prefix (extended h n p (entry_value e))) Extension.NotNext
+extension h n p e = cond (eqb e.index.0 (next_index h p)) (Some (extended h n p (entry_value e))) None
 
 unfoldable pub extension_bytes : Bytes → ℕ → ℕ → ShownEntry → Bytes
 unfolding extended_bytes

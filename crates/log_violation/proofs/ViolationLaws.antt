@@ -10,7 +10,8 @@ use mathlib.Core.List.Memᴰ
 use mathlib.Core.List.{List, [], ◌∷◌, ◌++◌, Memᴰ}
 use lib.Dec.{leb, ltb, eqb}
 use lib.ListN.{length, take, drop, length-append, take-append-drop}
-use borrow.Author.Tests.{eq-eqb, eqb-true, lt-ltb, le-ltb, le-leb, lt-leb, leb-true, leb-false, ltb-false}
+use borrow.Author.Tests.{eq-eqb, eqb-true, lt-ltb, le-ltb, le-leb, lt-leb, leb-true, leb-false}
+use Rattle.std.specs.Prelude.{Ok, Err}
 use Rattle.model.specs.Sizes.{Bytes}
 use Rattle.model.specs.Entry.{with, with_all}
 use Rattle.model.specs.History.{Finding, same_finding, noted}
@@ -27,7 +28,7 @@ use Rattle.storage_bytes.proofs.PartLaws.{part_length, part_lent, put_whole}
 use Rattle.storage.proofs.WellFormed.{formed}
 use Rattle.storage.proofs.WriteLaws.{part_written}
 use Rattle.storage.proofs.RowLaws.{rows_append, finding_own, finding_length, finding_back}
-use Rattle.log_violation.specs.Violation.{same_numbers, noted_from, is_noted, note_held, note_bytes, held_all, bytes_all, NotedAll, note_where, findings_written, room_for, noted_in}
+use Rattle.log_violation.specs.Violation.{same_numbers, noted_from, is_noted, note_held, note_bytes, held_all, bytes_all, NotedAll, note_where, findings_written, room_for, room_answer, noted_in}
 
 -- ---- a row held against a finding, number by number: a is the flag of the first two tests, b that of the first three
 
@@ -208,19 +209,6 @@ unfolding held_all bytes_all
 bytes_append [] ys t n = refl
 bytes_append (x ∷ xs) ys t n = bytes_append xs ys (note_bytes t n x) (note_held t n x)
 
-pub held_few : (xs : List Finding) (t : Bytes) (n : ℕ) → n ≤ 129 → held_all t n xs ≤ 129
-unfolding held_all note_held
-held_few [] t n h = h
-held_few (x ∷ xs) t n h =
-    held_few xs (note_bytes t n x) (note_held t n x)
-    (cond_cases (λ (m : ℕ). m ≤ 129) (ltb 128 n) n _ (λ _. h)
-    (λ f. cond_cases (λ (m : ℕ). m ≤ 129) (is_noted t n x) n (n + 1) (λ _. h) (λ _. let z = ltb-false 128 n f in omega arith)))
-
--- what a walk keeps of the findings: as many as can be, in a table of its length
-pub record Room (t : Bytes) (n : ℕ) : Type 0 where
-  pub few : n ≤ 129
-  pub long : length t ≡ 1024
-
 -- some notes are taken, with what they leave; the rest go on from there
 module _ (t : Bytes) (n : ℕ) (xs : List Finding) (n' : ℕ) (t' : Bytes) (e : NotedAll t n xs n' t') where
   pub held_then : (ys : List Finding) → held_all t n (xs ++ ys) ≡ held_all t' n' ys
@@ -228,13 +216,6 @@ module _ (t : Bytes) (n : ℕ) (xs : List Finding) (n' : ℕ) (t' : Bytes) (e : 
 
   pub bytes_then : (ys : List Finding) → bytes_all t n (xs ++ ys) ≡ bytes_all t' n' ys
   bytes_then ys = bytes_append xs ys t n ∙ (λ i. bytes_all (sym e.1 i) (sym e.0 i) ys)
-
-  pub room_then : Room t n → Room t' n'
-  room_then r =
-      record {
-        few = subst (λ (x : ℕ). x ≤ 129) (sym e.0) (held_few xs t n r.few);
-        long = ap length e.1 ∙ all_length xs t n ∙ r.long;
-      }
 
 -- ---- the turns of `note`
 
@@ -325,20 +306,20 @@ module _ (h : Bytes) (f : Finding) (long : length h ≡ 24137) (held : ℕ) (eh 
       part_written h t 2121 1024 0 t (sym (put_whole (take 1024 (drop 2121 h)) t l)) (omega arith) (omega arith)
 
   -- counted
-  pub in_room : n ≤ 128 → (v : Bytes) → v ≡ put_bytes (take 2121 h ++ (t ++ drop 1024 (drop 2121 h))) 7 (word_bytes 1 n) → (true ≡ room_for h f) × (v ≡ noted_in h f)
-  unfolding room_for noted_in findings_written
+  pub in_room : n ≤ 128 → (v : Bytes) → v ≡ put_bytes (take 2121 h ++ (t ++ drop 1024 (drop 2121 h))) 7 (word_bytes 1 n) → (Ok tt ≡ room_answer h f) × (v ≡ noted_in h f)
+  unfolding room_for room_answer noted_in findings_written
   in_room r v ev =
       let room = le-leb (note_held Table (word_at h 7 1) f) 128 (subst (λ (x : ℕ). x ≤ 128) in_held r) in (
-        sym room,
+        sym (cond_true _ _ _ room),
         ev ∙ ap (λ (u : Bytes). put_bytes u 7 (word_bytes 1 n)) whole ∙ (λ i. findings_written h (in_table i) (in_held i)) ∙ sym (cond_true _ _ h room),
       )
 
   -- there are too many: the table was full and is as it was
-  pub in_full : held ≤ 128 → 128 < n → (false ≡ room_for h f) × (take 2121 h ++ (t ++ drop 1024 (drop 2121 h)) ≡ noted_in h f)
-  unfolding room_for noted_in note_bytes note_held
-  in_full few r =
+  pub in_full : 128 < n → (Err (record {}) ≡ room_answer h f) × (take 2121 h ++ (t ++ drop 1024 (drop 2121 h)) ≡ noted_in h f)
+  unfolding room_for room_answer noted_in note_bytes note_held
+  in_full r =
       let room = lt-leb (note_held Table (word_at h 7 1) f) 128 (subst (λ (x : ℕ). 128 < x) in_held r) in (
-        sym room,
+        sym (cond_false _ _ _ room),
         ap (λ (u : Bytes). take 2121 h ++ (u ++ drop 1024 (drop 2121 h))) same
             ∙ ap (λ (u : Bytes). take 2121 h ++ u) (take-append-drop 1024 (drop 2121 h))
             ∙ take-append-drop 2121 h

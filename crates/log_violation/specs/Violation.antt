@@ -1,7 +1,8 @@
 -- Noting a finding once, in a copy of the history's table, which is then written back, or in the history itself. One more than the
 -- limit means that there are too many: from then on nothing is noted.
 -- Assumes nothing.
-use Rattle.std.specs.Prelude.{ℕ, zero, suc, ◌+◌, ◌*◌, ◌≡◌, Bool, false, cond, ◌&&◌, ◌||◌, List, [], ◌∷◌, leb, ltb, eqb}
+use Rattle.std.specs.Prelude.{ℕ, zero, suc, ◌+◌, ◌*◌, ◌≡◌, Bool, false, cond, ◌&&◌, ◌||◌, List, [], ◌∷◌, leb, ltb, eqb, Result, Ok, Err, ⊤}
+use Rattle.log_violation.specs.declared.violation.FindingsFull.{FindingsFull}
 use Rattle.model.specs.Sizes.{Bytes}
 use Rattle.model.specs.History.{Finding}
 use Rattle.storage_bytes.specs.Words.{word_at, put_bytes, word_bytes}
@@ -64,6 +65,11 @@ findings_kept h t n = cond (eqb n (word_at h 7 1)) h (findings_written h t n)
 unfoldable pub room_for : Bytes → Finding → Bool
 unfolding note_held
 room_for h f = leb (note_held (findings_part h) (word_at h 7 1) f) 128
+
+-- whether it is noted there, or too many would be held
+unfoldable pub room_answer : Bytes → Finding → Result ⊤ FindingsFull
+unfolding room_for
+room_answer h f = cond (room_for h f) (Ok tt) (Err (record {}))
 
 -- a finding noted among the history's own; where there is no room, nothing is written
 unfoldable pub noted_in : Bytes → Finding → Bytes

@@ -13,6 +13,7 @@ use lib.Dec.{ltb}
 use lib.ListN.{length, get_or, set}
 use lib.Seq.{set-get_or}
 use borrow.Author.Tests.{lt-ltb, ltb-false}
+use Rattle.std.specs.Prelude.{Result, Ok, Err, ⊤}
 use Rattle.model.specs.Sizes.{Bytes}
 use Rattle.model.specs.Entry.{Entry, Prefix, prefixes, with_all}
 use Rattle.model.specs.Refusal.{Refusal, prefixesFull, findingsFull}
@@ -39,7 +40,7 @@ use Rattle.logical_log.specs.Observation.{view_written, observed, observed_bytes
 use Rattle.view_judging.specs.Judging.{other, is_remembered, note_of, lack_notes, front_at, ends_at, place_from, stored_notes, notes_from, place_in, missing_in, notes_in, held_in, table_in}
 use Rattle.log_prefix.specs.Extension.{written_bytes, written_count, written_number}
 use Rattle.log_violation.specs.Violation.{held_all, bytes_all}
-use Rattle.logical_log.specs.declared.observation.Observed.{Observed}
+use Rattle.logical_log.specs.declared.observation.ViewRefusal.{ViewRefusal}
 use Rattle.log_prefix.proofs.Extend.{Fits, extend_all, extends_all}
 use Rattle.view_judging.proofs.Places.{Turn, gap, lost, more, turn, next, ends_gap, ends_lost, goes_on, stored_stays, stored_goes, walk_more}
 use Rattle.view_judging.proofs.Judge.{missing_made, notes_are}
@@ -53,10 +54,10 @@ use Rattle.logical_log.proofs.Stored.{Sound, front_sound, Whole, front_stands}
 -- ---- statement
 
 -- the answer in the model's words
-abbrev pub refusal_is : Observed → Option Refusal
-refusal_is Observed.Accepted = none
-refusal_is Observed.PrefixesFull = some prefixesFull
-refusal_is Observed.FindingsFull = some findingsFull
+abbrev pub refusal_is : Result ⊤ ViewRefusal → Option Refusal
+refusal_is (Ok v) = none
+refusal_is (Err ViewRefusal.PrefixesFull) = some prefixesFull
+refusal_is (Err ViewRefusal.FindingsFull) = some findingsFull
 
 -- The answer to a view is the model's; an accepted one leaves bytes that stand for the model's effect, a refused one every byte.
 pub record ViewMeans (limit : ℕ) (h : Bytes) (x : History) (s : Bytes) (m node : ℕ) : Type 0 where
@@ -209,10 +210,10 @@ module _ (limit : ℕ) (h : Bytes) (x : History) (s : Bytes) (m node : ℕ) (st 
   answer_is : refusal_is (observed limit h s m node) ≡ view_refusal limit x node E
   unfolding observed view_refusal
   answer_is =
-      ap refusal_is (λ j. cond (ltb limit (total j)) Observed.PrefixesFull (cond (same_seven j) Observed.FindingsFull Observed.Accepted))
+      ap refusal_is (λ j. cond (ltb limit (total j)) (Err ViewRefusal.PrefixesFull) (cond (same_seven j) (Err ViewRefusal.FindingsFull) (Ok tt)))
       ∙ three (ltb limit (length (stored x.prefixes F))) (ltb 128 (length (view_findings x node F)))
     where
-      three : (a b : Bool) → refusal_is (cond a Observed.PrefixesFull (cond b Observed.FindingsFull Observed.Accepted)) ≡ cond a (some prefixesFull) (cond b (some findingsFull) none)
+      three : (a b : Bool) → refusal_is (cond a (Err ViewRefusal.PrefixesFull) (cond b (Err ViewRefusal.FindingsFull) (Ok tt))) ≡ cond a (some prefixesFull) (cond b (some findingsFull) none)
       three true b = refl
       three false true = refl
       three false false = refl
@@ -341,17 +342,17 @@ views_mean limit h x s m node st w hn =
 
 -- ---- at document 01's limit, as the other kinds are stated
 
-abbrev pub view_reply : Observed → Answer
-view_reply Observed.Accepted = accepted 0 0
-view_reply Observed.PrefixesFull = refused prefixesFull
-view_reply Observed.FindingsFull = refused findingsFull
+abbrev pub view_reply : Result ⊤ ViewRefusal → Answer
+view_reply (Ok v) = accepted 0 0
+view_reply (Err ViewRefusal.PrefixesFull) = refused prefixesFull
+view_reply (Err ViewRefusal.FindingsFull) = refused findingsFull
 
-by_answer : (h : Bytes) (x : History) (node : ℕ) (E : List Shown) (h' : Bytes) (r : Observed) → Stands h x → refusal_is r ≡ view_refusal 512 x node E
+by_answer : (h : Bytes) (x : History) (node : ℕ) (E : List Shown) (h' : Bytes) (r : Result ⊤ ViewRefusal) → Stands h x → refusal_is r ≡ view_refusal 512 x node E
     → (view_refusal 512 x node E ≡ none → Stands h' (view_effect x node E)) → ((w : Refusal) → view_refusal 512 x node E ≡ some w → h' ≡ h)
     → Means h x (view node E) (view_reply r) h'
-by_answer h x node E h' Observed.Accepted st e a k = accepts h x (view node E) _ h' (sym e) refl (a (sym e))
-by_answer h x node E h' Observed.PrefixesFull st e a k = refuses h x (view node E) _ h' prefixesFull st (sym e) refl (k prefixesFull (sym e))
-by_answer h x node E h' Observed.FindingsFull st e a k = refuses h x (view node E) _ h' findingsFull st (sym e) refl (k findingsFull (sym e))
+by_answer h x node E h' (Ok v) st e a k = accepts h x (view node E) _ h' (sym e) refl (a (sym e))
+by_answer h x node E h' (Err ViewRefusal.PrefixesFull) st e a k = refuses h x (view node E) _ h' prefixesFull st (sym e) refl (k prefixesFull (sym e))
+by_answer h x node E h' (Err ViewRefusal.FindingsFull) st e a k = refuses h x (view node E) _ h' findingsFull st (sym e) refl (k findingsFull (sym e))
 
 pub view_mean : (h : Bytes) (x : History) (s : Bytes) (m node : ℕ) → Stands h x → Walk s first_entry m → node < 64
     → Means h x (view node (entries_at s first_entry m)) (view_reply (observed 512 h s m node)) (observed_bytes 512 h s m node)

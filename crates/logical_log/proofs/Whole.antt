@@ -9,6 +9,7 @@ use mathlib.Core.List.{List, [], ◌∷◌}
 use lib.Dec.{ltb, eqb}
 use lib.ListN.{length}
 use borrow.Author.Tests.{lt-ltb, le-ltb, eq-eqb}
+use Rattle.std.specs.Prelude.{Result, Ok, Err, ⊤}
 use Rattle.model.specs.Sizes.{Bytes}
 use Rattle.model.specs.Entry.{Entry}
 use Rattle.model.specs.Record.{front}
@@ -30,7 +31,7 @@ use Rattle.view_judging.proofs.Judged.{place_in_ended, place_in_stands, missing_
 use Rattle.log_prefix.proofs.Written.{number_made, count_made, written_same}
 use Rattle.log_violation.proofs.ViolationLaws.{all_length, findings_long}
 use Rattle.log_violation.proofs.Kept.{kept_length}
-use Rattle.logical_log.specs.declared.observation.Observed.{Observed}
+use Rattle.logical_log.specs.declared.observation.ViewRefusal.{ViewRefusal}
 use Rattle.view_judging.specs.declared.judging.Place.{Place}
 use Rattle.view_writing.proofs.Whole.{replaced_length}
 
@@ -106,34 +107,34 @@ module _ (limit : ℕ) (h s : Bytes) (m node missing held count : ℕ) (r : Plac
   pub total_small : count + missing ≤ 768
   total_small = (let a = total in let b = (formed h o.right).prefixes in let c = missing_most h s m o.walk in omega arith)
 
-  abbrev As : Observed → Bytes → Type 0
+  abbrev As : Result ⊤ ViewRefusal → Bytes → Type 0
   As r u = (r ≡ observed limit h s m node) × (u ≡ observed_bytes limit h s m node)
 
   -- told the limit as it was read
   module _ (most : ℕ) (em : most ≡ limit) where
-    pub observed_six : most < count + missing → As Observed.PrefixesFull h
+    pub observed_six : most < count + missing → As (Err ViewRefusal.PrefixesFull) h
     unfolding observed observed_bytes
     observed_six l =
         let b : ltb limit (word_at h 0 2 + missing_in h s m) ≡ true = lt-ltb limit _ (subst₂ (λ (x y : ℕ). x < y) em total l) in
-        (sym (cond_true (ltb limit (word_at h 0 2 + missing_in h s m)) Observed.PrefixesFull _ b), sym (cond_true (ltb limit (word_at h 0 2 + missing_in h s m)) h _ b))
+        (sym (cond_true (ltb limit (word_at h 0 2 + missing_in h s m)) (Err ViewRefusal.PrefixesFull) _ b), sym (cond_true (ltb limit (word_at h 0 2 + missing_in h s m)) h _ b))
 
     module _ (l : count + missing ≤ most) where
       no_six : ltb limit (word_at h 0 2 + missing_in h s m) ≡ false
       no_six = le-ltb limit _ (subst₂ (λ (x y : ℕ). x ≤ y) total em l)
 
-      pub observed_seven : 128 < held → As Observed.FindingsFull h
+      pub observed_seven : 128 < held → As (Err ViewRefusal.FindingsFull) h
       unfolding observed observed_bytes
       observed_seven g =
           let b : ltb 128 (held_in h s m node) ≡ true = lt-ltb 128 _ (subst (λ (x : ℕ). 128 < x) j.holds g) in (
-            sym (cond_false (ltb limit (word_at h 0 2 + missing_in h s m)) Observed.PrefixesFull _ no_six ∙ cond_true (ltb 128 (held_in h s m node)) Observed.FindingsFull _ b),
+            sym (cond_false (ltb limit (word_at h 0 2 + missing_in h s m)) (Err ViewRefusal.PrefixesFull) _ no_six ∙ cond_true (ltb 128 (held_in h s m node)) (Err ViewRefusal.FindingsFull) _ b),
             sym (cond_false (ltb limit (word_at h 0 2 + missing_in h s m)) h _ no_six ∙ cond_true (ltb 128 (held_in h s m node)) h _ b),
           )
 
-      pub observed_ok : held ≤ 128 → (u : Bytes) → u ≡ rest_written h count s r node t held → As Observed.Accepted u
+      pub observed_ok : held ≤ 128 → (u : Bytes) → u ≡ rest_written h count s r node t held → As (Ok tt) u
       unfolding observed observed_bytes
       observed_ok g u w =
           let b : ltb 128 (held_in h s m node) ≡ false = le-ltb 128 _ (subst (λ (x : ℕ). x ≤ 128) j.holds g) in (
-            sym (cond_false (ltb limit (word_at h 0 2 + missing_in h s m)) Observed.PrefixesFull _ no_six ∙ cond_false (ltb 128 (held_in h s m node)) Observed.FindingsFull _ b),
+            sym (cond_false (ltb limit (word_at h 0 2 + missing_in h s m)) (Err ViewRefusal.PrefixesFull) _ no_six ∙ cond_false (ltb 128 (held_in h s m node)) (Err ViewRefusal.FindingsFull) _ b),
             w ∙ (λ i. rest_written h (e i) s (j.place i) node (j.table i) (j.holds i)) ∙ rest_written_lem h s m node _ _ rest
                 ∙ sym (cond_false (ltb limit (word_at h 0 2 + missing_in h s m)) h _ no_six ∙ cond_false (ltb 128 (held_in h s m node)) h _ b),
           )

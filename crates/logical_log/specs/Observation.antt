@@ -1,11 +1,11 @@
 -- Observation of a view: what a judged view is answered, and the bytes after it.
 -- Assumes nothing.
-use Rattle.std.specs.Prelude.{ℕ, ◌+◌, cond, ltb}
+use Rattle.std.specs.Prelude.{ℕ, ◌+◌, cond, ltb, Result, Ok, Err, ⊤}
 use Rattle.model.specs.Sizes.{Bytes}
 use Rattle.model.specs.Record.{front, last_index}
 use Rattle.record_scan.specs.Places.{first_entry, entries_at}
 use Rattle.storage_bytes.specs.Words.{word_at}
-use Rattle.logical_log.specs.declared.observation.Observed.{Observed}
+use Rattle.logical_log.specs.declared.observation.ViewRefusal.{ViewRefusal}
 use Rattle.log_prefix.specs.Extension.{written_bytes, written_number}
 use Rattle.view_judging.specs.Judging.{missing_in, held_in, table_in}
 use Rattle.log_violation.specs.Violation.{findings_kept}
@@ -21,10 +21,10 @@ view_written h n s m node t held =
     findings_kept (view_replaced (written_bytes h n 0 1 (front es)) node (written_number h n 0 1 (front es)) (last_index es)) t held
 
 -- 6 before 7, each before anything is written
-unfoldable pub observed : ℕ → Bytes → Bytes → ℕ → ℕ → Observed
+unfoldable pub observed : ℕ → Bytes → Bytes → ℕ → ℕ → Result ⊤ ViewRefusal
 unfolding missing_in held_in
 observed limit h s m node =
-    cond (ltb limit (word_at h 0 2 + missing_in h s m)) Observed.PrefixesFull (cond (ltb 128 (held_in h s m node)) Observed.FindingsFull Observed.Accepted)
+    cond (ltb limit (word_at h 0 2 + missing_in h s m)) (Err ViewRefusal.PrefixesFull) (cond (ltb 128 (held_in h s m node)) (Err ViewRefusal.FindingsFull) (Ok tt))
 
 -- the history after it
 unfoldable pub observed_bytes : ℕ → Bytes → Bytes → ℕ → ℕ → Bytes

@@ -7,9 +7,9 @@ use Rattle.storage_bytes.specs.Words.{word_at}
 use Rattle.storage.specs.Tables.{NodeRow, row_of_node, nodes_part, prefix_row, prefixes_part}
 use Rattle.storage.proofs.WellFormed.{Formed}
 use Rattle.prefix_lookup.specs.Prefix.{slice_of, front_in, front_through}
-use Rattle.prefix_lookup.specs.declared.lookup.Slice.{Slice}
 use Rattle.units.specs.declared.LogPrefixWitness.{LogPrefixWitness}
 use Rattle.prefix_lookup.proofs.TableLaws.{whole_table, slice_within}
+use Rattle.std.specs.Prelude.{Option, Some}
 
 module _ (h : Bytes) (n : ℕ) (q : Bytes) (eq : q ≡ nodes_part h) (x : NodeRow) (ex : x ≡ row_of_node q n) where
   pub node_read : x ≡ row_of_node (nodes_part h) n
@@ -18,12 +18,12 @@ module _ (h : Bytes) (n : ℕ) (q : Bytes) (eq : q ≡ nodes_part h) (x : NodeRo
   pub front_within : Formed h → n < 64 → x.front ≤ word_at h 0 2
   front_within f l = subst (λ (y : NodeRow). y.front ≤ word_at h 0 2) (sym node_read) (f.node n l).front
 
-  pub through_is : (u : Bytes) → u ≡ prefixes_part h → (i : ℕ) (r : Slice) → r ≡ slice_of (prefix_row u) x.front i → r ≡ front_through h n i
+  pub through_is : (u : Bytes) → u ≡ prefixes_part h → (i : ℕ) (r : Option LogPrefixWitness) → r ≡ slice_of (prefix_row u) x.front i → r ≡ front_through h n i
   unfolding front_through
   through_is u eu i r e =
       e ∙ ap (λ (y : Bytes). slice_of (prefix_row y) x.front i) eu ∙ ap (λ (y : NodeRow). slice_of (prefix_row (prefixes_part h)) y.front i) node_read
 
 -- a part of a front is stored
-pub through_stored : (h : Bytes) (n i : ℕ) (p : LogPrefixWitness) → Formed h → n < 64 → front_through h n i ≡ Slice.Prefix p → p.0 ≤ word_at h 0 2
+pub through_stored : (h : Bytes) (n i : ℕ) (p : LogPrefixWitness) → Formed h → n < 64 → front_through h n i ≡ Some p → p.0 ≤ word_at h 0 2
 unfolding front_through
 through_stored h n i p f l e = slice_within (prefixes_part h) (word_at h 0 2) (front_in h n) i p (whole_table h f) (f.node n l).front e

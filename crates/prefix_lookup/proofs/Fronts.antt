@@ -14,22 +14,23 @@ use Rattle.storage.specs.Decode.{prefix_at}
 use Rattle.storage.proofs.WellFormed.{formed, formed_rows}
 use Rattle.storage.proofs.Meanings.{Stands, front_read, prefixes_stored}
 use Rattle.prefix_lookup.specs.Prefix.{witness, slice_of, front_in, front_through}
-use Rattle.prefix_lookup.specs.declared.lookup.Slice.{Slice}
 use Rattle.prefix_lookup.proofs.SliceLaws.{slice_cases}
 use Rattle.prefix_lookup.proofs.TableLaws.{rows_length, rows_at}
+use Rattle.std.specs.Prelude.{Option, Some, None}
+use Rattle.units.specs.declared.LogPrefixWitness.{LogPrefixWitness}
 
 module _ (h : Bytes) (x : History) where
   -- the slice y is the first i entries of f, stored by number
-  pub record Part (y : Slice) (f : Prefix) (i : ℕ) : Type 0 where
+  pub record Part (y : Option LogPrefixWitness) (f : Prefix) (i : ℕ) : Type 0 where
     pub part : ℕ
-    pub told : y ≡ Slice.Prefix (witness part)
+    pub told : y ≡ Some (witness part)
     pub reaches : i ≤ length f
     pub within : part ≤ word_at h 0 2
     pub first : prefix_at x.prefixes part ≡ take i f
 
   -- y is f through index i: beyond its end exactly where f is shorter, else a part
-  abbrev pub Cut : Slice → Prefix → ℕ → Type 0
-  Cut y f i = ((y ≡ Slice.Beyond) × (length f < i)) ⊎ Part y f i
+  abbrev pub Cut : Option LogPrefixWitness → Prefix → ℕ → Type 0
+  Cut y f i = ((y ≡ None) × (length f < i)) ⊎ Part y f i
 
   module _ (s : Stands h x) where
     -- a stored prefix, by number

@@ -4,10 +4,11 @@
 use Prim.Native.Nat.{ℕ, zero, suc, ◌+◌, ◌-◌, ◌*◌, ◌<◌, ◌≤◌, min}
 use native.Mathlib.Omega.{arith}
 use mathlib.Core.Path.{◌≡◌, refl, sym, ◌∙◌, ap, subst}
-use mathlib.Core.Bool.{Bool, true, false, cond}
+use mathlib.Core.Bool.{Bool, true, false, cond, not}
 use lib.Dec.{leb, ltb, eqb}
 use lib.ListN.{length}
-use borrow.Author.Tests.{eq-eqb, ne_eqb, le-leb, lt-leb, lt-ltb, le-ltb}
+use Rattle.std.proofs.lemmas.Bool.{not-true, not-false}
+use borrow.Author.Tests.{eqb-true, eqb-false, eq-eqb, ne_eqb, le-leb, lt-leb, lt-ltb, le-ltb}
 use Rattle.model.specs.Sizes.{Bytes}
 use Rattle.model.proofs.Tests.{cond_true, cond_false}
 use Rattle.storage_bytes.specs.Words.{word_at, bytes_at, same_bytes}
@@ -16,8 +17,8 @@ use Rattle.storage.specs.Rules.{same_row}
 use Rattle.storage_bytes.proofs.ListLaws.{tabulate_length}
 use Rattle.units.specs.declared.LogPrefixWitness.{LogPrefixWitness}
 use Rattle.prefix_lookup.specs.Prefix.{witness, row_of, search_from, slice_from, slice_of}
-use Rattle.prefix_lookup.specs.declared.lookup.Slice.{Slice}
 use Rattle.storage.specs.Values.{index_of, number_index}
+use Rattle.std.specs.Prelude.{Some, None}
 
 -- ---- a search from place k on, before place n
 
@@ -35,6 +36,14 @@ module _ (test : ℕ → Bool) (k n : ℕ) {r : ℕ} where
   pub search_none : r ≡ search_from test k (n - k) → n ≤ k → r ≡ 0
   unfolding search_from
   search_none inv h = inv ∙ ap (search_from test k) (let e : n - k ≡ 0 = omega arith in e)
+
+-- ---- what a test of two numbers told
+
+pub are_same : {a b : ℕ} → false ≡ not (eqb a b) → a ≡ b
+are_same {a} {b} e = eqb-true a b (not-false (eqb a b) (sym e))
+
+pub are_other : {a b : ℕ} → true ≡ not (eqb a b) → a ≡ b → ⊥
+are_other {a} {b} e = eqb-false a b (not-true (eqb a b) (sym e))
 
 -- ---- a row held against an extension, from what was read of it
 
@@ -126,12 +135,12 @@ module _ (row : ℕ → PrefixRow) {r : ℕ} (i q x : ℕ) where
           }
 
 module _ (t : Bytes) (p i x : ℕ) (e : x ≡ index_of (prefix_row t) p) where
-  pub slice_beyond : x < i → Slice.Beyond ≡ slice_of (prefix_row t) p i
+  pub slice_beyond : x < i → None ≡ slice_of (prefix_row t) p i
   unfolding slice_of
-  slice_beyond h = sym (cond_true (ltb (index_of (prefix_row t) p) i) Slice.Beyond _ (lt-ltb (index_of (prefix_row t) p) i (subst (λ (y : ℕ). y < i) e h)))
+  slice_beyond h = sym (cond_true (ltb (index_of (prefix_row t) p) i) None _ (lt-ltb (index_of (prefix_row t) p) i (subst (λ (y : ℕ). y < i) e h)))
 
-  pub slice_found : i ≤ x → (q : LogPrefixWitness) → q.0 ≡ slice_from (prefix_row t) i p p → Slice.Prefix q ≡ slice_of (prefix_row t) p i
+  pub slice_found : i ≤ x → (q : LogPrefixWitness) → q.0 ≡ slice_from (prefix_row t) i p p → Some q ≡ slice_of (prefix_row t) p i
   unfolding slice_of
   slice_found h q w =
-      ap (λ (k : ℕ). Slice.Prefix (witness k)) w
-      ∙ sym (cond_false (ltb (index_of (prefix_row t) p) i) Slice.Beyond _ (le-ltb (index_of (prefix_row t) p) i (subst (λ (y : ℕ). i ≤ y) e h)))
+      ap (λ (k : ℕ). Some (witness k)) w
+      ∙ sym (cond_false (ltb (index_of (prefix_row t) p) i) None _ (le-ltb (index_of (prefix_row t) p) i (subst (λ (y : ℕ). i ≤ y) e h)))

@@ -16,8 +16,8 @@ use Rattle.storage.specs.Values.{index_of}
 use Rattle.storage.specs.Decode.{prefix_at, entry_of, extended, resolve}
 use Rattle.storage.proofs.RowFacts.{Facts, entry_after}
 use Rattle.prefix_lookup.specs.Prefix.{witness, slice_from, slice_of}
-use Rattle.prefix_lookup.specs.declared.lookup.Slice.{Slice}
 use Rattle.prefix_lookup.proofs.PrefixLaws.{Rows, row_index}
+use Rattle.std.specs.Prelude.{Some, None}
 
 module _ (row : ℕ → PrefixRow) (rs : List PrefixRow) (f : Facts rs) (at : Rows row rs) where
   -- a number's index is the length of its prefix
@@ -77,15 +77,15 @@ module _ (row : ℕ → PrefixRow) (rs : List PrefixRow) (f : Facts rs) (at : Ro
 
   -- beyond its end exactly where the prefix is shorter, else its first entries
   pub slice_cases : (p i : ℕ) → p ≤ length rs
-      → ((slice_of row p i ≡ Slice.Beyond) × (length (prefix_at (resolve rs) p) < i))
-      ⊎ ((q : ℕ) × (slice_of row p i ≡ Slice.Prefix (witness q)) × (i ≤ length (prefix_at (resolve rs) p)) × (q ≤ length rs)
+      → ((slice_of row p i ≡ None) × (length (prefix_at (resolve rs) p) < i))
+      ⊎ ((q : ℕ) × (slice_of row p i ≡ Some (witness q)) × (i ≤ length (prefix_at (resolve rs) p)) × (q ≤ length rs)
       × (prefix_at (resolve rs) q ≡ take i (prefix_at (resolve rs) p)))
   unfolding slice_of
   slice_cases p i h =
       let b = index_length p h in
-      ⊎_elim (λ t. let a = ltb-true (index_of row p) i t in inl (cond_true (ltb (index_of row p) i) Slice.Beyond _ t, omega arith))
+      ⊎_elim (λ t. let a = ltb-true (index_of row p) i t in inl (cond_true (ltb (index_of row p) i) None _ t, omega arith))
       (λ t.
       let a = ltb-false (index_of row p) i t in
       let c = sliced i p p (omega arith) h in
-      inr (slice_from row i p p, cond_false (ltb (index_of row p) i) Slice.Beyond _ t, omega arith, c.0, c.1))
+      inr (slice_from row i p p, cond_false (ltb (index_of row p) i) None _ t, omega arith, c.0, c.1))
       (either (ltb (index_of row p) i))

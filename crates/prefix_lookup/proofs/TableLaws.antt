@@ -16,9 +16,9 @@ use Rattle.storage.proofs.RowFacts.{Facts, empty_row, rows_sized, facts_of}
 use Rattle.prefix_lookup.specs.Table.{Table}
 use Rattle.units.specs.declared.LogPrefixWitness.{LogPrefixWitness}
 use Rattle.prefix_lookup.specs.Prefix.{witness, slice_of}
-use Rattle.prefix_lookup.specs.declared.lookup.Slice.{Slice}
 use Rattle.prefix_lookup.proofs.PrefixLaws.{Rows}
 use Rattle.prefix_lookup.proofs.SliceLaws.{row_parent, index_after, slice_cases}
+use Rattle.std.specs.Prelude.{Some}
 
 pub rows_length : (t : Bytes) (n : ℕ) → length (rows_of_prefixes t n) ≡ n
 rows_length t n = tabulate_length (prefix_row t) 0 n
@@ -40,7 +40,7 @@ pub table_lent : (h q : Bytes) (n : ℕ) → Formed h → q ≡ prefixes_part h 
 table_lent h q n f e m = subst₂ Table (sym e) (sym m) (whole_table h f)
 
 -- a slice of a stored prefix is stored
-pub slice_within : (t : Bytes) (n p i : ℕ) (q : LogPrefixWitness) → Table t n → p ≤ n → slice_of (prefix_row t) p i ≡ Slice.Prefix q → q.0 ≤ n
+pub slice_within : (t : Bytes) (n p i : ℕ) (q : LogPrefixWitness) → Table t n → p ≤ n → slice_of (prefix_row t) p i ≡ Some q → q.0 ≤ n
 slice_within t n p i q w l e =
     let size = rows_length t n in
     ⊎_elim (λ b. absurd (let b0 = b.0 in let z : ◌≡◌ {A = ℕ} 0 1 = cc in omega arith))

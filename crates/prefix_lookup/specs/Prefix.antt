@@ -2,14 +2,12 @@
 -- part of a node's front.
 -- Each definition goes in the order of the loop that computes it. A table is its rows by place, `row`, and how many there are.
 -- Assumes nothing.
-use Rattle.std.specs.Prelude.{ℕ, zero, suc, ◌+◌, ◌-◌, Bool, cond, ◌&&◌, leb, ltb, eqb, length}
+use Rattle.std.specs.Prelude.{ℕ, zero, suc, ◌+◌, ◌-◌, Bool, cond, ◌&&◌, leb, ltb, eqb, length, Option, Some, None}
 use Rattle.model.specs.Sizes.{Bytes}
 use Rattle.model.specs.Entry.{Entry}
 use Rattle.storage.specs.Tables.{PrefixRow, row_of_node, nodes_part, prefix_row, prefixes_part}
 use Rattle.storage.specs.Values.{index_of}
 use Rattle.storage.specs.Rules.{same_row}
-use Rattle.prefix_lookup.specs.declared.lookup.Slice.{Slice}
-use Rattle.prefix_lookup.specs.declared.lookup.Stored.{Stored}
 use Rattle.units.specs.declared.LogPrefixWitness.{LogPrefixWitness}
 
 -- the prefix of a number
@@ -17,8 +15,8 @@ abbrev pub witness : ℕ → LogPrefixWitness
 witness p = record { 0 = p }
 
 -- what a search gives, by the number it finds; 0 is none
-unfoldable pub stored_of : ℕ → Stored
-stored_of p = cond (eqb p 0) Stored.Nothing (Stored.Prefix (witness p))
+unfoldable pub stored_of : ℕ → Option LogPrefixWitness
+stored_of p = cond (eqb p 0) None (Some (witness p))
 
 -- the row of the prefix of number p, extended by an entry to index i
 abbrev pub row_of : ℕ → ℕ → Entry → PrefixRow
@@ -48,9 +46,9 @@ slice_from row i zero p = p
 slice_from row i (suc fuel) p = cond (leb (index_of row p) i) p (slice_from row i fuel (row (p - 1)).parent)
 
 -- `slice_through` gives nothing beyond the end and the empty prefix at zero
-unfoldable pub slice_of : (ℕ → PrefixRow) → ℕ → ℕ → Slice
+unfoldable pub slice_of : (ℕ → PrefixRow) → ℕ → ℕ → Option LogPrefixWitness
 unfolding slice_from
-slice_of row p i = cond (ltb (index_of row p) i) Slice.Beyond (Slice.Prefix (witness (slice_from row i p p)))
+slice_of row p i = cond (ltb (index_of row p) i) None (Some (witness (slice_from row i p p)))
 
 -- ---- in the bytes of a history
 
@@ -59,6 +57,6 @@ abbrev pub front_in : Bytes → ℕ → ℕ
 front_in h n = (row_of_node (nodes_part h) n).front
 
 -- the node's front through index i
-unfoldable pub front_through : Bytes → ℕ → ℕ → Slice
+unfoldable pub front_through : Bytes → ℕ → ℕ → Option LogPrefixWitness
 unfolding slice_of
 front_through h n i = slice_of (prefix_row (prefixes_part h)) (front_in h n) i

@@ -2,3 +2,4 @@
 #![tactic(auto)]
 
 pub mod lookup;
+pub mod table;

@@ -5,36 +5,23 @@ ghost use Rattle.storage.specs.Rules.{same_row, well_formed};
 ghost use Rattle.prefix_lookup.specs.Table.{Table, entry_value};
 ghost use Rattle.prefix_lookup.specs.Prefix.{row_of, find, is_of, first, stored_of, slice_of, front_through};
 
+use crate::table::Prefixes;
 use prefix_rows::prefixes::{index_at, parent_at, size_at, term_at, through};
 use record_walk::walk::ShownEntry;
-use storage_bytes::layout::{PREFIX_CONTENT, PREFIX_WIDTH, node_table, prefix_table};
+use storage_bytes::layout::{NODES, PREFIX_CONTENT, PREFIX_WIDTH, PREFIXES};
 use storage_bytes::words::same_bytes;
 use table_rows::nodes::node_at;
 use units::{LogIndex, LogPrefixWitness, NodeId, Term};
-
-// What a search among the stored prefixes gives.
-#[derive(Clone, Copy)]
-pub enum Stored {
-    Prefix(LogPrefixWitness),
-    Nothing,
-}
-
-// A prefix through an index, or that the index is beyond its end.
-#[derive(Clone, Copy)]
-pub enum Slice {
-    Prefix(LogPrefixWitness),
-    Beyond,
-}
 
 // Row k extends the prefix by the entry (`matches_extension`).
 fn matches_extension(prefixes: &[u8], k: usize, p: LogPrefixWitness, e: ShownEntry) -> bool
     requires { (k < 512) × (length prefixes.now ≡ 20992) × (e.length ≤ 32) }
     ensures { result ≡ same_row (prefix_row prefixes.now k) (row_of p.0 0 (entry_value e)) }
 {
-    if parent_at(prefixes, k).0 != p.0 {
+    if parent_at(prefixes, k) != p {
         return false;
     }
-    if term_at(prefixes, k).0 != e.term.0 {
+    if term_at(prefixes, k) != e.term {
         return false;
     }
     let n = e.length;
@@ -45,63 +32,68 @@ fn matches_extension(prefixes: &[u8], k: usize, p: LogPrefixWitness, e: ShownEnt
     same_bytes(prefixes, k * PREFIX_WIDTH + PREFIX_CONTENT, &content, 0, n)
 }
 
-// The stored prefix that extends the given one by the entry. It comes after that one.
-pub fn find_extension(prefixes: &[u8], count: usize, p: LogPrefixWitness, e: ShownEntry) -> Stored
-    requires { (count ≤ 512) × (p.0 ≤ count) × (length prefixes.now ≡ 20992) × (e.length ≤ 32) }
-    ensures { result ≡ stored_of (find (prefix_row prefixes.now) count (row_of p.0 0 (entry_value e))) }
-{
-    for k in p.0..count {
-        if matches_extension(prefixes, k, p, e) {
-            return Stored::Prefix(LogPrefixWitness(k + 1));
-        }
-    }
-    Stored::Nothing
-}
-
 // Row k is of the index and term.
 fn is_of(prefixes: &[u8], k: usize, index: LogIndex, term: Term) -> bool
     requires { (k < 512) × (length prefixes.now ≡ 20992) }
     ensures { result ≡ is_of index.0 term.0 (prefix_row prefixes.now k) }
 {
-    index_at(prefixes, k).0 == index.0 && term_at(prefixes, k).0 == term.0
+    index_at(prefixes, k) == index && term_at(prefixes, k) == term
 }
 
-// The first stored prefix of the index and term. A prefix's number is at least its index.
-pub fn first_of(prefixes: &[u8], count: usize, index: LogIndex, term: Term) -> Stored
-    requires { (count ≤ 512) × (length prefixes.now ≡ 20992) × (1 ≤ index.0) }
-    ensures { result ≡ stored_of (first (prefix_row prefixes.now) count index.0 term.0) }
-{
-    for k in index.0 - 1..count {
-        if is_of(prefixes, k, index, term) {
-            return Stored::Prefix(LogPrefixWitness(k + 1));
+impl<'a> Prefixes<'a> {
+    // The stored prefix that extends the given one by the entry. It comes after that one.
+    pub fn find_extension(self, p: LogPrefixWitness, e: ShownEntry) -> Option<LogPrefixWitness>
+        requires { (p.0 ≤ self.count) × (e.length ≤ 32) }
+        ensures { result ≡ stored_of (find (prefix_row self.entry.rows.now) self.entry.count (row_of p.0 0 (entry_value e))) }
+    {
+        for k in p.0..self.count {
+            if matches_extension(self.rows, k, p, e) {
+                return Some(LogPrefixWitness(k + 1));
+            }
         }
+        None
     }
-    Stored::Nothing
+
+    // The first stored prefix of the index and term. A prefix's number is at least its index.
+    pub fn first_of(self, index: LogIndex, term: Term) -> Option<LogPrefixWitness>
+        requires { 1 ≤ index.0 }
+        ensures { result ≡ stored_of (first (prefix_row self.entry.rows.now) self.entry.count index.0 term.0) }
+    {
+        for k in index.0 - 1..self.count {
+            if is_of(self.rows, k, index, term) {
+                return Some(LogPrefixWitness(k + 1));
+            }
+        }
+        None
+    }
 }
 
 // The prefix through the index: nothing beyond its end, the empty prefix at zero. Each prefix goes through one index more than the
 // one it extends, so its end is read once.
-pub fn slice_through(prefixes: &[u8], p: LogPrefixWitness, index: LogIndex) -> Slice
+pub fn slice_through(
+    prefixes: &[u8],
+    p: LogPrefixWitness,
+    index: LogIndex,
+) -> Option<LogPrefixWitness>
     requires { (n : ℕ) × Table prefixes.now n × (p.0 ≤ n) }
     ensures { result ≡ slice_of (prefix_row prefixes.now) p.0 index.0 }
 {
-    let mut end = through(prefixes, p).0;
-    if end < index.0 {
-        return Slice::Beyond;
+    let end = through(prefixes, p);
+    if end < index {
+        return None;
     }
     let mut q = p;
-    while index.0 < end {
+    for k in index.0..end.0 {
         q = parent_at(prefixes, q.0 - 1);
-        end -= 1;
     }
-    Slice::Prefix(q)
+    Some(q)
 }
 
 // The node's front through the index; a node without a view has the empty front.
-pub fn front_through(history: &[u8], node: NodeId, index: LogIndex) -> Slice
+pub fn front_through(history: &[u8], node: NodeId, index: LogIndex) -> Option<LogPrefixWitness>
     requires { (well_formed history.now ≡ true) × (node.0 < 64) }
     ensures { result ≡ front_through history.now node.0 index.0 }
 {
-    let x = node_at(node_table(history), node.0 as usize);
-    slice_through(prefix_table(history), x.front, index)
+    let x = node_at(NODES.of(history), node.0 as usize);
+    slice_through(PREFIXES.of(history), x.front, index)
 }

@@ -16,48 +16,50 @@ use Rattle.record_scan.specs.Places.{rows_at, first_row}
 use Rattle.records.proofs.Readable.{view_walk}
 use Rattle.storage.specs.Rules.{well_formed}
 use Rattle.view_judging.specs.Judging.{Observing}
-use Rattle.answers.specs.declared.answer.Answer.{Answer}
+use Rattle.std.specs.Prelude.{Result, Ok, Err}
+use Rattle.answers.specs.declared.answer.Accepted.{Accepted}
+use Rattle.answers.specs.declared.answer.Refusal.{Refusal}
 use Rattle.leader_kinds.specs.Kinds.{of_rows}
 use Rattle.submission.specs.Replies.{reply_to, bytes_to, Replied, submit_answer, submit_bytes, Submitted}
 
-module _ (h s : Bytes) (d : Head) (t : Told s d) where
-  pub view_asks : (n : NodeId) (c : ℕ) → well_formed h ≡ true → d ≡ Head.View n c → Observing h s c n.0
+module _ (h s : Bytes) (d : Result Head Fault) (t : Told s d) where
+  pub view_asks : (n : NodeId) (c : ℕ) → well_formed h ≡ true → d ≡ Ok (Head.View n c) → Observing h s c n.0
   view_asks n c w e = record { right = w; walk = view_walk s d n c t e; is_node = (subst Within e t.within).0 }
 
-  pub commit_asks : (n : NodeId) (i : LogIndex) → d ≡ Head.Commit n i → n.0 < 64
+  pub commit_asks : (n : NodeId) (i : LogIndex) → d ≡ Ok (Head.Commit n i) → n.0 < 64
   commit_asks n i e = (subst Within e t.within).0
 
-  pub terms_ask : (o n : LogIndex) (k : Term) → d ≡ Head.Terms o n k → n.0 ≤ 256
+  pub terms_ask : (o n : LogIndex) (k : Term) → d ≡ Ok (Head.Terms o n k) → n.0 ≤ 256
   terms_ask o n k e = (subst Within e t.within).1
 
-  pub election_asks : (l : NodeId) (k : Term) (p : Bool) (n : ℕ) → d ≡ Head.Election l k p n → l.0 < 64
+  pub election_asks : (l : NodeId) (k : Term) (p : Bool) (n : ℕ) → d ≡ Ok (Head.Election l k p n) → l.0 < 64
   election_asks l k p n e = (subst Within e t.within).0
 
-pub replied : (h s : Bytes) (d d' : Head) (r : Answer) (h' : Bytes) → d ≡ d' → (r ≡ reply_to h s d') × (h' ≡ bytes_to h s d') → Replied h s d r h'
-replied h s d d' r h' e q = subst (λ (x : Head). Replied h s x r h') (sym e) (record { answer = q.0; bytes = q.1 })
+pub replied : (h s : Bytes) (d d' : Result Head Fault) (r : Result Accepted Refusal) (h' : Bytes) → d ≡ d' → (r ≡ reply_to h s d') × (h' ≡ bytes_to h s d') → Replied h s d r h'
+replied h s d d' r h' e q = subst (λ (x : Result Head Fault). Replied h s x r h') (sym e) (record { answer = q.0; bytes = q.1 })
 
-pub rows_replied : (h s : Bytes) (d : Head) (c : ℕ) (r : Answer) → d ≡ Head.Rows c → r ≡ of_rows (rows.verdict (rows_at s first_row c))
+pub rows_replied : (h s : Bytes) (d : Result Head Fault) (c : ℕ) (r : Result Accepted Refusal) → d ≡ Ok (Head.Rows c) → r ≡ of_rows (rows.verdict (rows_at s first_row c))
     → Replied h s d r h
-rows_replied h s d c r e q = replied h s d (Head.Rows c) r h e (q, refl)
+rows_replied h s d c r e q = replied h s d (Ok (Head.Rows c)) r h e (q, refl)
 
-pub unreadable_replied : (h s : Bytes) (d : Head) (f : Fault) → d ≡ Head.Unreadable f → Replied h s d (Answer.Unreadable f) h
-unreadable_replied h s d f e = replied h s d (Head.Unreadable f) (Answer.Unreadable f) h e (refl, refl)
+pub unreadable_replied : (h s : Bytes) (d : Result Head Fault) (f : Fault) → d ≡ Err f → Replied h s d (Err (Refusal.Unreadable f)) h
+unreadable_replied h s d f e = replied h s d (Err f) (Err (Refusal.Unreadable f)) h e (refl, refl)
 
 -- ---- the whole
 
-pub broken : (h s : Bytes) → well_formed h ≡ false → Submitted h s Answer.StorageBroken h
+pub broken : (h s : Bytes) → well_formed h ≡ false → Submitted h s (Err Refusal.StorageBroken) h
 unfolding submit_answer submit_bytes
 broken h s e =
     record {
-      answer = sym (cond_false (well_formed h) _ Answer.StorageBroken e);
+      answer = sym (cond_false (well_formed h) _ (Err Refusal.StorageBroken) e);
       bytes = sym (cond_false (well_formed h) _ h e);
     }
 
-pub taken : (h s : Bytes) (d : Head) (r : Answer) (h' : Bytes) → well_formed h ≡ true → Told s d → Replied h s d r h'
+pub taken : (h s : Bytes) (d : Result Head Fault) (r : Result Accepted Refusal) (h' : Bytes) → well_formed h ≡ true → Told s d → Replied h s d r h'
     → Submitted h s r h'
 unfolding submit_answer submit_bytes
 taken h s d r h' w t q =
     record {
-      answer = q.answer ∙ ap (reply_to h s) t.head ∙ sym (cond_true (well_formed h) _ Answer.StorageBroken w);
+      answer = q.answer ∙ ap (reply_to h s) t.head ∙ sym (cond_true (well_formed h) _ (Err Refusal.StorageBroken) w);
       bytes = q.bytes ∙ ap (bytes_to h s) t.head ∙ sym (cond_true (well_formed h) _ h w);
     }

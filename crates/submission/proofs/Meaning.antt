@@ -1,6 +1,7 @@
 -- What `submit` means: of bytes that stand for a history the answer is the model's, and the bytes after it stand for the model's
 -- history after it; other bytes are answered 12. A refused record leaves every byte.
 -- Assumes nothing.
+use Prim.Native.Nat.{ℕ}
 use mathlib.Core.Path.{◌≡◌, refl, sym, ◌∙◌, ap, subst, subst₂}
 use mathlib.Core.Bool.{false}
 use mathlib.Core.Option.{Option, none, some}
@@ -22,22 +23,23 @@ use Rattle.records.proofs.Faults.{told_always}
 use Rattle.storage.specs.Rules.{well_formed}
 use Rattle.storage.proofs.Meanings.{Stands}
 use Rattle.storage.proofs.Answered as kinds
-use Rattle.logical_log.specs.declared.observation.Observed.{Observed}
+use Rattle.logical_log.specs.declared.observation.ViewRefusal.{ViewRefusal}
 use Rattle.logical_log.specs.Observation.{observed}
 use Rattle.logical_log.proofs.Meaning as views
-use Rattle.commit.specs.declared.prefix.CommitAnswer.{CommitAnswer}
+use Rattle.log_violation.specs.declared.violation.FindingsFull.{FindingsFull}
 use Rattle.commit.specs.Prefix.{commit_answer, commit_reply}
-use Rattle.commit_terms.specs.declared.terms.TermsAnswer.{TermsAnswer}
+use Rattle.commit_terms.specs.declared.terms.OldExceedsNew.{OldExceedsNew}
 use Rattle.commit_terms.specs.Terms.{terms_answer, terms_reply}
 use Rattle.commit.proofs.Meaning as commits
 use Rattle.commit_terms.proofs.Meaning as commit-terms
-use Rattle.election.specs.declared.certificate.ElectionAnswer.{ElectionAnswer}
+use Rattle.election.specs.declared.certificate.ElectionRefusal.{ElectionRefusal}
 use Rattle.election.specs.Certify.{answer_in}
 use Rattle.election.proofs.Meaning as elections
-use Rattle.completeness.specs.declared.leader_completeness.Checked.{Checked}
 use Rattle.completeness.specs.Check.{check_reply, check_answer, check_bytes}
 use Rattle.completeness.proofs.Meaning as checks
-use Rattle.answers.specs.declared.answer.Answer.{Answer}
+use Rattle.std.specs.Prelude.{Result, Ok, Err, ⊤}
+use Rattle.answers.specs.declared.answer.Accepted.{Accepted}
+use Rattle.answers.specs.declared.answer.Refusal.{Refusal}
 use Rattle.log_kinds.specs.Kinds.{of_view, of_commit, of_terms}
 use Rattle.leader_kinds.specs.Kinds.{of_election, of_check}
 use Rattle.submission.specs.Replies.{reply_to, bytes_to, submit_answer, submit_bytes, Submitted}
@@ -45,19 +47,19 @@ use Rattle.submission.specs.Replies.{reply_to, bytes_to, submit_answer, submit_b
 -- ---- statement
 
 -- an answer in the model's words; 12 is not among the model's
-abbrev pub modelled : Answer → Option model.Answer
-modelled (Answer.Accepted v n) = some (model.accepted v n.0)
-modelled (Answer.Unreadable f) = some (model.refused (refusal_of f))
-modelled Answer.PrefixesFull = some (model.refused prefixesFull)
-modelled Answer.FindingsFull = some (model.refused findingsFull)
-modelled Answer.OldExceedsNew = some (model.refused old_exceeds_new)
-modelled Answer.LengthExceedsFront = some (model.refused lengthExceedsFront)
-modelled Answer.CertificatesFull = some (model.refused certificatesFull)
-modelled Answer.NumberTaken = some (model.refused numberTaken)
-modelled Answer.StorageBroken = none
+abbrev pub modelled : Result Accepted Refusal → Option model.Answer
+modelled (Ok a) = some (model.accepted a.value a.node.0)
+modelled (Err (Refusal.Unreadable f)) = some (model.refused (refusal_of f))
+modelled (Err Refusal.PrefixesFull) = some (model.refused prefixesFull)
+modelled (Err Refusal.FindingsFull) = some (model.refused findingsFull)
+modelled (Err Refusal.OldExceedsNew) = some (model.refused old_exceeds_new)
+modelled (Err Refusal.LengthExceedsFront) = some (model.refused lengthExceedsFront)
+modelled (Err Refusal.CertificatesFull) = some (model.refused certificatesFull)
+modelled (Err Refusal.NumberTaken) = some (model.refused numberTaken)
+modelled (Err Refusal.StorageBroken) = none
 
 -- to the byte string s, of bytes h that stand for x, the answer is a and the bytes after it are h'
-pub record Means (h : Bytes) (x : History) (s : Bytes) (a : Answer) (h' : Bytes) : Type 0 where
+pub record Means (h : Bytes) (x : History) (s : Bytes) (a : Result Accepted Refusal) (h' : Bytes) : Type 0 where
   pub answers : modelled a ≡ some (answer x s)
   pub stands : Stands h' (after x s)
   -- a refused record leaves every byte
@@ -66,7 +68,7 @@ pub record Means (h : Bytes) (x : History) (s : Bytes) (a : Answer) (h' : Bytes)
 -- ---- of a record that was read
 
 -- what is the model's answer to the record, in this crate's words, is its answer to the byte string
-took : (h : Bytes) (x : History) (s : Bytes) (r : Record) (a : Answer) (b : model.Answer) (h' : Bytes) → read s ≡ readable r → modelled a ≡ some b
+took : (h : Bytes) (x : History) (s : Bytes) (r : Record) (a : Result Accepted Refusal) (b : model.Answer) (h' : Bytes) → read s ≡ readable r → modelled a ≡ some b
     → kinds.Means h x r b h' → Means h x s a h'
 unfolding answer after
 took h x s r a b h' e q t =
@@ -78,33 +80,33 @@ took h x s r a b h' e q t =
 
 -- ---- each kind's answer
 
-view_said : (a : Observed) → modelled (of_view a) ≡ some (views.view_reply a)
-view_said Observed.Accepted = refl
-view_said Observed.PrefixesFull = refl
-view_said Observed.FindingsFull = refl
+view_said : (a : Result ⊤ ViewRefusal) → modelled (of_view a) ≡ some (views.view_reply a)
+view_said (Ok v) = refl
+view_said (Err ViewRefusal.PrefixesFull) = refl
+view_said (Err ViewRefusal.FindingsFull) = refl
 
-commit_said : (a : CommitAnswer) → modelled (of_commit a) ≡ some (commit_reply a)
-commit_said (CommitAnswer.Accepted v) = refl
-commit_said CommitAnswer.FindingsFull = refl
+commit_said : (a : Result ℕ FindingsFull) → modelled (of_commit a) ≡ some (commit_reply a)
+commit_said (Ok v) = refl
+commit_said (Err e) = refl
 
-terms_said : (a : TermsAnswer) → modelled (of_terms a) ≡ some (terms_reply a)
-terms_said TermsAnswer.Recorded = refl
-terms_said TermsAnswer.OldExceedsNew = refl
+terms_said : (a : Result ⊤ OldExceedsNew) → modelled (of_terms a) ≡ some (terms_reply a)
+terms_said (Ok v) = refl
+terms_said (Err e) = refl
 
-election_said : (a : ElectionAnswer) → modelled (of_election a) ≡ some (elections.election_reply a)
-election_said ElectionAnswer.Accepted = refl
-election_said ElectionAnswer.LengthExceedsFront = refl
-election_said ElectionAnswer.CertificatesFull = refl
-election_said ElectionAnswer.NumberTaken = refl
+election_said : (a : Result ⊤ ElectionRefusal) → modelled (of_election a) ≡ some (elections.election_reply a)
+election_said (Ok v) = refl
+election_said (Err ElectionRefusal.LengthExceedsFront) = refl
+election_said (Err ElectionRefusal.CertificatesFull) = refl
+election_said (Err ElectionRefusal.NumberTaken) = refl
 
-check_said : (a : Checked) → modelled (of_check a) ≡ some (check_reply a)
-check_said (Checked.Accepted v) = refl
-check_said Checked.FindingsFull = refl
+check_said : (a : Result ℕ FindingsFull) → modelled (of_check a) ≡ some (check_reply a)
+check_said (Ok v) = refl
+check_said (Err e) = refl
 
 module _ (h : Bytes) (x : History) (st : Stands h x) where
   -- ---- any record
 
-  unread : (s : Bytes) (f : Fault) → read s ≡ unreadable (refusal_of f) → Means h x s (Answer.Unreadable f) h
+  unread : (s : Bytes) (f : Fault) → read s ≡ unreadable (refusal_of f) → Means h x s (Err (Refusal.Unreadable f)) h
   unfolding answer after
   unread s f e =
       record {
@@ -113,36 +115,36 @@ module _ (h : Bytes) (x : History) (st : Stands h x) where
         keeps = λ _. refl;
       }
 
-  told_means : (s : Bytes) (d : Head) → Told s d → Means h x s (reply_to h s d) (bytes_to h s d)
-  told_means s (Head.View n c) t =
+  told_means : (s : Bytes) (d : Result Head Fault) → Told s d → Means h x s (reply_to h s d) (bytes_to h s d)
+  told_means s (Ok (Head.View n c)) t =
       took h x s _ _ _ _ t.reading (view_said (observed 512 h s c n.0))
       (views.view_mean h x s c n.0 st (view_walk s _ n c t refl) t.within.0)
-  told_means s (Head.Commit n i) t =
+  told_means s (Ok (Head.Commit n i)) t =
       took h x s _ _ _ _ t.reading (commit_said (commit_answer h n.0 i.0))
       (commits.commit_mean h x n.0 i.0 st t.within.0 t.within.1)
-  told_means s (Head.Terms b n k) t =
+  told_means s (Ok (Head.Terms b n k)) t =
       took h x s _ _ _ _ t.reading (terms_said (terms_answer b.0 n.0))
       (commit-terms.terms_mean h x b.0 n.0 k.0 st t.within.1 t.within.2)
-  told_means s (Head.Election l k p n) t =
+  told_means s (Ok (Head.Election l k p n)) t =
       took h x s _ _ _ _ t.reading (election_said (answer_in h l.0 k.0 n))
       (elections.election_recorded h x st l.0 k.0 p n t.within.0 t.within.1 _ _ (record { answer = refl; bytes = refl }))
-  told_means s Head.Check t =
+  told_means s (Ok Head.Check) t =
       took h x s _ _ _ _ t.reading (check_said (check_answer h))
       (checks.check_means h x (check_answer h) (check_bytes h) st (record { is = refl; bytes = refl }))
-  told_means s (Head.Rows c) t =
+  told_means s (Ok (Head.Rows c)) t =
       took h x s _ _ _ _ t.reading refl (kinds.accepts h x (rows (rows_at s first_row c)) _ h refl refl st)
-  told_means s (Head.Unreadable w) t = unread s w t.reading
+  told_means s (Err w) t = unread s w t.reading
 
 -- of bytes that stand for a history, what `submit` promises is what the model says
-pub submit_means : (h : Bytes) (x : History) (s : Bytes) (r : Answer) (h' : Bytes) → Stands h x → Submitted h s r h' → Means h x s r h'
+pub submit_means : (h : Bytes) (x : History) (s : Bytes) (r : Result Accepted Refusal) (h' : Bytes) → Stands h x → Submitted h s r h' → Means h x s r h'
 unfolding submit_answer submit_bytes
 submit_means h x s r h' st p =
     let w = st.right in
-    subst₂ (Means h x s) (sym (p.answer ∙ cond_true (well_formed h) _ Answer.StorageBroken w)) (sym (p.bytes ∙ cond_true (well_formed h) _ h w))
+    subst₂ (Means h x s) (sym (p.answer ∙ cond_true (well_formed h) _ (Err Refusal.StorageBroken) w)) (sym (p.bytes ∙ cond_true (well_formed h) _ h w))
     (told_means h x st s (head_of (read s)) (told_always s))
 
 -- of bytes that break the storage rules, it is 12 and every byte as it was
-pub submit_broken : (h s : Bytes) (r : Answer) (h' : Bytes) → well_formed h ≡ false → Submitted h s r h' → (r ≡ Answer.StorageBroken) × (h' ≡ h)
+pub submit_broken : (h s : Bytes) (r : Result Accepted Refusal) (h' : Bytes) → well_formed h ≡ false → Submitted h s r h' → (r ≡ Err Refusal.StorageBroken) × (h' ≡ h)
 unfolding submit_answer submit_bytes
 submit_broken h s r h' e p =
-    (p.answer ∙ cond_false (well_formed h) _ Answer.StorageBroken e, p.bytes ∙ cond_false (well_formed h) _ h e)
+    (p.answer ∙ cond_false (well_formed h) _ (Err Refusal.StorageBroken) e, p.bytes ∙ cond_false (well_formed h) _ h e)

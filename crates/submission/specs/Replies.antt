@@ -1,7 +1,7 @@
 -- What any record is answered on the bytes of a history, and the bytes after it: 12 where they break the storage rules, else by
 -- the head that reading gives.
 -- Assumes nothing.
-use Rattle.std.specs.Prelude.{◌≡◌, cond}
+use Rattle.std.specs.Prelude.{◌≡◌, cond, Result, Ok, Err}
 use Rattle.model.specs.Sizes.{Bytes}
 use Rattle.model.specs.Reading.{read}
 use Rattle.model.specs.Rows as rows
@@ -14,44 +14,46 @@ use Rattle.commit_terms.specs.Terms.{terms_answer, terms_bytes}
 use Rattle.election.specs.Certify.{answer_in, bytes_in}
 use Rattle.completeness.specs.Check.{check_answer, check_bytes}
 use Rattle.records.specs.declared.head.Head.{Head}
-use Rattle.answers.specs.declared.answer.Answer.{Answer}
+use Rattle.bit_fields.specs.declared.bits.Fault.{Fault}
+use Rattle.answers.specs.declared.answer.Accepted.{Accepted}
+use Rattle.answers.specs.declared.answer.Refusal.{Refusal}
 use Rattle.log_kinds.specs.Kinds.{of_view, of_commit, of_terms}
 use Rattle.leader_kinds.specs.Kinds.{of_election, of_check, of_rows}
 
 -- ---- by the head of the record
 
-abbrev pub reply_to : Bytes → Bytes → Head → Answer
-reply_to h s (Head.View n c) = of_view (observed 512 h s c n.0)
-reply_to h s (Head.Commit n i) = of_commit (commit_answer h n.0 i.0)
-reply_to h s (Head.Terms o n t) = of_terms (terms_answer o.0 n.0)
-reply_to h s (Head.Election l t p n) = of_election (answer_in h l.0 t.0 n)
-reply_to h s Head.Check = of_check (check_answer h)
-reply_to h s (Head.Rows c) = of_rows (rows.verdict (rows_at s first_row c))
-reply_to h s (Head.Unreadable f) = Answer.Unreadable f
+abbrev pub reply_to : Bytes → Bytes → Result Head Fault → Result Accepted Refusal
+reply_to h s (Ok (Head.View n c)) = of_view (observed 512 h s c n.0)
+reply_to h s (Ok (Head.Commit n i)) = of_commit (commit_answer h n.0 i.0)
+reply_to h s (Ok (Head.Terms o n t)) = of_terms (terms_answer o.0 n.0)
+reply_to h s (Ok (Head.Election l t p n)) = of_election (answer_in h l.0 t.0 n)
+reply_to h s (Ok Head.Check) = of_check (check_answer h)
+reply_to h s (Ok (Head.Rows c)) = of_rows (rows.verdict (rows_at s first_row c))
+reply_to h s (Err f) = Err (Refusal.Unreadable f)
 
-abbrev pub bytes_to : Bytes → Bytes → Head → Bytes
-bytes_to h s (Head.View n c) = observed_bytes 512 h s c n.0
-bytes_to h s (Head.Commit n i) = commit_bytes h n.0 i.0
-bytes_to h s (Head.Terms o n t) = terms_bytes h o.0 n.0 t.0
-bytes_to h s (Head.Election l t p n) = bytes_in h l.0 t.0 p n
-bytes_to h s Head.Check = check_bytes h
-bytes_to h s (Head.Rows c) = h
-bytes_to h s (Head.Unreadable f) = h
+abbrev pub bytes_to : Bytes → Bytes → Result Head Fault → Bytes
+bytes_to h s (Ok (Head.View n c)) = observed_bytes 512 h s c n.0
+bytes_to h s (Ok (Head.Commit n i)) = commit_bytes h n.0 i.0
+bytes_to h s (Ok (Head.Terms o n t)) = terms_bytes h o.0 n.0 t.0
+bytes_to h s (Ok (Head.Election l t p n)) = bytes_in h l.0 t.0 p n
+bytes_to h s (Ok Head.Check) = check_bytes h
+bytes_to h s (Ok (Head.Rows c)) = h
+bytes_to h s (Err f) = h
 
 -- the answer r and the bytes h' after it are those of that head
-pub record Replied (h s : Bytes) (d : Head) (r : Answer) (h' : Bytes) : Type 0 where
+pub record Replied (h s : Bytes) (d : Result Head Fault) (r : Result Accepted Refusal) (h' : Bytes) : Type 0 where
   pub answer : r ≡ reply_to h s d
   pub bytes : h' ≡ bytes_to h s d
 
 -- ---- of any two byte strings
 
-unfoldable pub submit_answer : Bytes → Bytes → Answer
-submit_answer h s = cond (well_formed h) (reply_to h s (head_of (read s))) Answer.StorageBroken
+unfoldable pub submit_answer : Bytes → Bytes → Result Accepted Refusal
+submit_answer h s = cond (well_formed h) (reply_to h s (head_of (read s))) (Err Refusal.StorageBroken)
 
 unfoldable pub submit_bytes : Bytes → Bytes → Bytes
 submit_bytes h s = cond (well_formed h) (bytes_to h s (head_of (read s))) h
 
 -- what `submit` promises
-pub record Submitted (h s : Bytes) (r : Answer) (h' : Bytes) : Type 0 where
+pub record Submitted (h s : Bytes) (r : Result Accepted Refusal) (h' : Bytes) : Type 0 where
   pub answer : r ≡ submit_answer h s
   pub bytes : h' ≡ submit_bytes h s

@@ -3,7 +3,7 @@
 use Prim.Native.Nat.{ℕ, suc, ◌+◌, ◌-◌, ◌<◌, ◌≤◌}
 use native.Mathlib.Omega.{arith}
 use mathlib.Core.Path.{◌≡◌, refl, sym, ◌∙◌, ap, subst}
-use mathlib.Core.Bool.{Bool, true, false, not, ◌&&◌}
+use mathlib.Core.Bool.{Bool, true, false, cond, not, ◌&&◌}
 use mathlib.Core.List.{List, [], ◌∷◌, ◌++◌}
 use lib.Dec.{eqb}
 use lib.ListN.{length, replicate, length-append, length-replicate}
@@ -20,20 +20,20 @@ use Rattle.record_walk.proofs.Walks.{next_walk, walk_entered, here, entry_conten
 use Rattle.storage.specs.Tables.{PrefixRow, prefix_row}
 use Rattle.storage.proofs.RowLaws.{bytes_take}
 use Rattle.prefix_lookup.specs.Table.{entry_value}
-use Rattle.log_violation.specs.Violation.{held_all, bytes_all, NotedAll}
-use Rattle.prefix_lookup.specs.Prefix.{stored_of, first}
-use Rattle.prefix_lookup.specs.declared.lookup.Stored.{Stored}
+use Rattle.log_violation.specs.Violation.{held_all, bytes_all, NotedAll, note_where}
+use Rattle.prefix_lookup.specs.Prefix.{witness, stored_of, first}
 use Rattle.units.specs.declared.LogPrefixWitness.{LogPrefixWitness}
 use Rattle.log_comparison.specs.Comparison.{same_from}
-use Rattle.view_judging.specs.Judging.{differs, other, is_remembered, note_of, lack_notes, next_number, place_at, front_at, Stand, ends_at, place_from, stored_notes, ReachedAs, LackingAs}
+use Rattle.view_judging.specs.Judging.{differs, other, is_remembered, lg03, note_of, lack_notes, next_number, place_at, front_at, Stand, ends_at, place_from, stored_notes, ReachedAs, LackingAs}
 use Rattle.view_judging.specs.declared.judging.Place.{Place}
 use Rattle.prefix_lookup.proofs.StoredLaws.{stored_number, stored_nothing}
-use Rattle.log_violation.proofs.ViolationLaws.{Room, held_then, bytes_then, room_then}
+use Rattle.log_violation.proofs.ViolationLaws.{held_then, bytes_then}
 use Rattle.view_judging.proofs.Places.{front_suc, front_cut, front_zero, ends_gap, ends_lost, goes_on, place_stays, place_goes, stored_stays, stored_goes, stand_next, first_stands}
+use Rattle.std.specs.Prelude.{Option, Some, None, is_some}
 
 -- ---- whether another prefix is remembered
 
-module _ (row : ℕ → PrefixRow) (n i t : ℕ) (r : Stored) (e : r ≡ stored_of (first row n i t)) where
+module _ (row : ℕ → PrefixRow) (n i t : ℕ) (r : Option LogPrefixWitness) (e : r ≡ stored_of (first row n i t)) where
   at_first : (k : ℕ) → differs row (first row n i t) k ≡ other row n i t k
   unfolding other
   at_first k = refl
@@ -46,10 +46,10 @@ module _ (row : ℕ → PrefixRow) (n i t : ℕ) (r : Stored) (e : r ≡ stored_
   unfolding differs
   some_differs x k b a d = λ j. not (a j) && not (d j)
 
-  pub other_none : (k : ℕ) → r ≡ Stored.Nothing → false ≡ other row n i t k
+  pub other_none : (k : ℕ) → r ≡ None → false ≡ other row n i t k
   other_none k z = sym (none_differs (first row n i t) k (eq-eqb _ 0 (stored_nothing (first row n i t) r e z))) ∙ at_first k
 
-  module _ (w : LogPrefixWitness) (z : r ≡ Stored.Prefix w) where
+  module _ (w : LogPrefixWitness) (z : r ≡ Some w) where
     found_first : (w.0 ≡ first row n i t) × (first row n i t ≡ 0 → ⊥)
     found_first = stored_number (first row n i t) r e w z
 
@@ -58,13 +58,19 @@ module _ (row : ℕ → PrefixRow) (n i t : ℕ) (r : Stored) (e : r ≡ stored_
         sym (some_differs (first row n i t) k b (ne_eqb _ 0 found_first.1) (sym (q ∙ ap (λ (x : ℕ). same_from row x x k) found_first.0)))
         ∙ at_first k
 
-    pub remembered_some : true ≡ is_remembered row n i t
-    unfolding is_remembered
-    remembered_some = sym (ap not (ne_eqb _ 0 found_first.1))
+-- a prefix is remembered where the search finds one
+pub remembered_is : (row : ℕ → PrefixRow) (n i t : ℕ) → is_some (stored_of (first row n i t)) ≡ is_remembered row n i t
+unfolding is_remembered stored_of
+remembered_is row n i t = by (eqb (first row n i t) 0)
+  where
+    by : (b : Bool) → is_some (cond b None (Some (witness (first row n i t)))) ≡ not b
+    by true = refl
+    by false = refl
 
-  pub remembered_none : r ≡ Stored.Nothing → false ≡ is_remembered row n i t
-  unfolding is_remembered
-  remembered_none z = sym (ap not (eq-eqb _ 0 (stored_nothing (first row n i t) r e z)))
+-- the finding that is noted is LG-03 of the entry
+pub noted_lg03 : (t : Bytes) (n : ℕ) (b : Bool) (node i term : ℕ) (f : Finding) → f ≡ lg03 node i term
+    → (n' : ℕ) (t' : Bytes) → NotedAll t n (note_where b f) n' t' → NotedAll t n (note_of b node i term) n' t'
+noted_lg03 t n b node i term f e n' t' w = subst (λ (g : Finding). NotedAll t n (note_where b g) n' t') e w
 
 -- ---- an entry as it is read
 
@@ -131,15 +137,14 @@ pub record Judging (ps : Bytes) (count : ℕ) (s : Bytes) (entries node : ℕ) (
   pub place : End ps count s (place_at first_entry entries 1 0) ≡ End ps count s x
   pub holds : held_all t₀ held (Noted ps count s node (place_at first_entry entries 1 0)) ≡ held_all t n (Noted ps count s node x)
   pub table : bytes_all t₀ held (Noted ps count s node (place_at first_entry entries 1 0)) ≡ bytes_all t n (Noted ps count s node x)
-  pub room : Room t n
   pub stands : Stand s count x
 
 module _ (ps : Bytes) (count : ℕ) (s : Bytes) (entries node : ℕ) (t₀ : Bytes) (held : ℕ) where
-  pub judging_starts : Walk s first_entry entries → held ≤ 129 → length t₀ ≡ 1024 → (x : Place) → x ≡ place_at first_entry entries 1 0
+  pub judging_starts : Walk s first_entry entries → (x : Place) → x ≡ place_at first_entry entries 1 0
       → Judging ps count s entries node t₀ held t₀ x held
-  judging_starts w h l x ex =
+  judging_starts w x ex =
       subst (λ (y : Place). Judging ps count s entries node t₀ held t₀ y held) (sym ex)
-      (record { place = refl; holds = refl; table = refl; room = record { few = h; long = l }; stands = first_stands s count entries w })
+      (record { place = refl; holds = refl; table = refl; stands = first_stands s count entries w })
 
   module _ (t : Bytes) (x : Place) (n : ℕ) (j : Judging ps count s entries node t₀ held t x n) where
     ends : End ps count s x ≡ x → Noted ps count s node x ≡ [] → ReachedAs ps count s entries node t₀ held n x t
@@ -199,7 +204,6 @@ module _ (ps : Bytes) (count : ℕ) (s : Bytes) (entries node : ℕ) (t₀ : Byt
                 place = j.place ∙ ap (End ps count s) one_left ∙ place_goes (prefix_row ps) count s x.at x.index.0 x.prefix.0 (x.left - 1) goes ∙ ap (End ps count s) after;
                 holds = j.holds ∙ ap (held_all t n) noted ∙ held_then t n _ n' t' en _;
                 table = j.table ∙ ap (bytes_all t n) noted ∙ bytes_then t n _ n' t' en _;
-                room = room_then t n _ n' t' en j.room;
                 stands = subst (Stand s count) after
                     (stand_next (prefix_row ps) count s (x.left - 1) x.at x.index.0 x.prefix.0 (subst (Stand s count) one_left j.stands) here_index);
               }
@@ -238,19 +242,17 @@ pub record Lacking (ps : Bytes) (count : ℕ) (s : Bytes) (r : Place) (node : �
   pub lacks : length (front_at s r) ≡ missing + length (front_at s x)
   pub holds : held_all t₀ held (Lacked ps count s node r) ≡ held_all t n (Lacked ps count s node x)
   pub table : bytes_all t₀ held (Lacked ps count s node r) ≡ bytes_all t n (Lacked ps count s node x)
-  pub room : Room t n
   pub walk : Walk s x.at x.left
   pub small : x.index.0 ≤ 257
   pub below : missing < x.index.0
 
 module _ (ps : Bytes) (count : ℕ) (s : Bytes) (r : Place) (node : ℕ) (t₀ : Bytes) (held : ℕ) where
-  pub lacking_starts : Stand s count r → held ≤ 129 → length t₀ ≡ 1024 → Lacking ps count s r node t₀ held t₀ r 0 held
-  lacking_starts w h l =
+  pub lacking_starts : Stand s count r → Lacking ps count s r node t₀ held t₀ r 0 held
+  lacking_starts w =
       record {
         lacks = omega arith;
         holds = refl;
         table = refl;
-        room = record { few = h; long = l };
         walk = w.walk;
         small = w.small;
         below = w.positive;
@@ -277,7 +279,6 @@ module _ (ps : Bytes) (count : ℕ) (s : Bytes) (r : Place) (node : ℕ) (t₀ :
           lacks = (let a = j.lacks in let c = ap length steps in omega arith);
           holds = j.holds ∙ ap (held_all t n) noted ∙ held_then t n _ n' t' en _;
           table = j.table ∙ ap (bytes_all t n) noted ∙ bytes_then t n _ n' t' en _;
-          room = room_then t n _ n' t' en j.room;
           walk = walk_next s x.at x.left x.index.0 j.walk h e q;
           small = (let v = index_within s x.at x.left x.index.0 j.walk h e q g in omega arith);
           below = (let v = j.below in omega arith);

@@ -28,9 +28,13 @@ unfoldable pub is_remembered : (ℕ → PrefixRow) → ℕ → ℕ → ℕ → B
 unfolding first
 is_remembered row count i t = not (eqb (first row count i t) 0)
 
--- LG-03 of an entry for which another prefix is remembered
+-- LG-03 of an entry
+abbrev pub lg03 : ℕ → ℕ → ℕ → Finding
+lg03 n i t = record { name = 3; node = n; index = i; term = t }
+
+-- noted where another prefix is remembered for it
 abbrev pub note_of : Bool → ℕ → ℕ → ℕ → List Finding
-note_of b n i t = note_where b (record { name = 3; node = n; index = i; term = t })
+note_of b n i t = note_where b (lg03 n i t)
 
 -- LG-03 of entries whose prefixes are not stored, from index i on
 unfoldable pub lack_notes : (ℕ → PrefixRow) → ℕ → ℕ → ℕ → List Entry → List Finding

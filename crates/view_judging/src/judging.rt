@@ -1,18 +1,16 @@
 // A view judged along its front (`observe_entries` of observation.rs), with nothing written: first as far as its prefixes are
 // stored, then the rest, where none is.
-ghost use Rattle.std.specs.Prelude.{◌≡◌, ◌+◌, ◌-◌, ◌≤◌, length};
+ghost use Rattle.std.specs.Prelude.{◌≡◌, ◌+◌, ◌-◌, ◌≤◌};
 ghost use Rattle.record_scan.specs.Places.{Walk, first_entry};
 ghost use Rattle.storage.specs.Tables.{prefix_row};
 ghost use Rattle.prefix_lookup.specs.Table.{Table};
-ghost use Rattle.log_violation.specs.Violation.{NotedAll};
-ghost use Rattle.view_judging.specs.Judging.{other, is_remembered, note_of, place_at, Stand, ReachedAs, LackingAs, Observing, ViewJudged};
+ghost use Rattle.table_rows.specs.Values.{finding_value};
+ghost use Rattle.view_judging.specs.Judging.{other, lg03, place_at, Stand, ReachedAs, LackingAs, Observing, ViewJudged};
 
 use log_comparison::comparison::same_prefix;
-use log_violation::violation::{copy_findings, note_where};
-use prefix_lookup::lookup::{Stored, find_extension, first_of};
+use log_violation::violation::Notes;
+use prefix_lookup::table::Prefixes;
 use record_walk::walk::{FIRST_ENTRY, entry_at};
-use storage::head::prefix_count;
-use storage_bytes::layout::prefix_table;
 use table_rows::findings::{Found, LG_03};
 use units::{LogIndex, LogPrefixWitness, NodeId, Term};
 
@@ -26,27 +24,12 @@ pub struct Place {
     pub prefix: LogPrefixWitness,
 }
 
-// How far the prefixes of a front are stored, and how many findings are held then.
-#[derive(Clone, Copy)]
-struct Reached {
-    held: usize,
-    rest: Place,
-}
-
-// How many prefixes are not stored, and how many findings are held then.
-#[derive(Clone, Copy)]
-struct Lacking {
-    missing: usize,
-    held: usize,
-}
-
-// What judging gives: how many prefixes of the front are not stored, how many findings are held, and the place before the
-// first prefix that is not stored.
-#[derive(Clone, Copy)]
+// What judging gives: how many prefixes of the front are not stored, the place before the first of them, and the findings.
+#[derive(Drop)]
 pub struct JudgedView {
     pub missing: usize,
-    pub held: usize,
     pub rest: Place,
+    pub notes: Notes,
 }
 
 // The place before the first of `entries` entries.
@@ -75,149 +58,97 @@ pub fn place_after(here: Place, at: usize, prefix: LogPrefixWitness) -> Place
 }
 
 // Another prefix than the given one is remembered for the index and term.
-fn is_other(prefixes: &[u8], count: usize, index: LogIndex, term: Term, p: LogPrefixWitness) -> bool
-    requires { Table prefixes.now count × (1 ≤ index.0) × (p.0 ≤ count) }
-    ensures { result ≡ other (prefix_row prefixes.now) count index.0 term.0 p.0 }
+fn is_other(prefixes: Prefixes<'_>, index: LogIndex, term: Term, p: LogPrefixWitness) -> bool
+    requires { Table prefixes.rows.now prefixes.count × (1 ≤ index.0) × (p.0 ≤ prefixes.count) }
+    ensures { result ≡ other (prefix_row prefixes.entry.rows.now) prefixes.entry.count index.0 term.0 p.0 }
 {
-    let remembered = first_of(prefixes, count, index, term);
-    match remembered {
-        Stored::Prefix(q) => !same_prefix(prefixes, q, p),
-        Stored::Nothing => false,
-    }
+    let Some(remembered) = prefixes.first_of(index, term) else {
+        return false;
+    };
+    !same_prefix(prefixes.rows, remembered, p)
 }
 
-// A prefix is remembered for the index and term: another one than any that is not stored.
-fn is_remembered(prefixes: &[u8], count: usize, index: LogIndex, term: Term) -> bool
-    requires { Table prefixes.now count × (1 ≤ index.0) }
-    ensures { result ≡ is_remembered (prefix_row prefixes.now) count index.0 term.0 }
+// LG-03 of an entry.
+fn lg03(node: NodeId, index: LogIndex, term: Term) -> Found
+    ensures { finding_value result ≡ lg03 node.0 index.0 term.0 }
 {
-    let remembered = first_of(prefixes, count, index, term);
-    match remembered {
-        Stored::Prefix(_) => true,
-        Stored::Nothing => false,
-    }
-}
-
-// LG-03 is noted where another prefix is remembered (`reconcile_prefix`).
-fn note_other(
-    findings: &mut [u8],
-    n: usize,
-    differs: bool,
-    node: NodeId,
-    index: LogIndex,
-    term: Term,
-) -> usize
-    requires { (n ≤ 129) × (length findings.old ≡ 1024) }
-    ensures { NotedAll findings.old n (note_of differs node.0 index.0 term.0) result findings.new }
-{
-    let lg03 = Found {
+    Found {
         name: LG_03,
         node,
         index,
         term,
-    };
-    note_where(&mut findings[..], n, differs, lg03)
+    }
 }
 
-// The walk along the front of a view of `entries` entries as far as its prefixes are stored, and its LG-03 there, noted among the
-// findings, of which `held` are held.
+// The walk along the front of a view of `entries` entries as far as its prefixes are stored: the place where it ends. LG-03 is noted
+// where another prefix is remembered for an entry (`reconcile_prefix`).
 fn judge_stored(
-    prefixes: &[u8],
-    count: usize,
+    prefixes: Prefixes<'_>,
     view: &[u8],
     entries: usize,
     node: NodeId,
-    findings: &mut [u8],
-    held: usize,
-) -> Reached
-    requires { Table prefixes.now count × Walk view.now first_entry entries × (held ≤ 129) × (length findings.old ≡ 1024) }
-    ensures { ReachedAs prefixes.now count view.now entries node.0 findings.old held result.held result.rest findings.new }
+    notes: &mut Notes,
+) -> Place
+    requires { Table prefixes.rows.now prefixes.count × Walk view.now first_entry entries }
+    ensures { ReachedAs prefixes.entry.rows.now prefixes.entry.count view.now entries node.0 notes.old.rows notes.old.held notes.new.held result notes.new.rows }
 {
     let mut here = first_place(entries);
-    let mut n = held;
+    // a place tells how many entries are left: a range would count them again
     while 0 < here.left {
         let e = entry_at(view, here.at);
-        if e.index.0 != here.index.0 {
+        if e.index != here.index {
             break;
         }
-        let Stored::Prefix(next) = find_extension(prefixes, count, here.prefix, e) else {
+        let Some(next) = prefixes.find_extension(here.prefix, e) else {
             break;
         };
-        let differs = is_other(prefixes, count, e.index, e.term, next);
-        n = note_other(&mut findings[..], n, differs, node, e.index, e.term);
+        let differs = is_other(prefixes, e.index, e.term, next);
+        notes.note_where(differs, lg03(node, e.index, e.term));
         here = place_after(here, e.next, next);
     }
-    Reached {
-        held: n,
-        rest: here,
-    }
+    here
 }
 
-// The walk along the rest of the front, whose prefixes are not stored: how many they are, and its LG-03.
+// The walk along the rest of the front, whose prefixes are not stored: how many they are. LG-03 is noted where a prefix is
+// remembered for an entry: it is another one than any that is not stored.
 fn judge_missing(
-    prefixes: &[u8],
-    count: usize,
+    prefixes: Prefixes<'_>,
     view: &[u8],
     rest: Place,
     node: NodeId,
-    findings: &mut [u8],
-    held: usize,
-) -> Lacking
-    requires { Table prefixes.now count × Stand view.now count rest × (held ≤ 129) × (length findings.old ≡ 1024) }
-    ensures { LackingAs prefixes.now count view.now rest.at rest.left rest.index.0 node.0 findings.old held result.missing result.held findings.new }
+    notes: &mut Notes,
+) -> usize
+    requires { Table prefixes.rows.now prefixes.count × Stand view.now prefixes.count rest }
+    ensures { LackingAs prefixes.entry.rows.now prefixes.entry.count view.now rest.at rest.left rest.index.0 node.0 notes.old.rows notes.old.held result notes.new.held notes.new.rows }
 {
     let mut here = rest;
     let mut missing = 0;
-    let mut n = held;
+    // a place tells how many entries are left: a range would count them again
     while 0 < here.left {
         let e = entry_at(view, here.at);
-        if e.index.0 != here.index.0 {
+        if e.index != here.index {
             break;
         }
-        let differs = is_remembered(prefixes, count, e.index, e.term);
-        n = note_other(&mut findings[..], n, differs, node, e.index, e.term);
+        let differs = prefixes.first_of(e.index, e.term).is_some();
+        notes.note_where(differs, lg03(node, e.index, e.term));
         missing += 1;
         here = place_after(here, e.next, here.prefix);
     }
-    Lacking { missing, held: n }
+    missing
 }
 
 // A view is judged against the history, on a copy of its findings, by both walks.
-pub fn judge_view(
-    history: &[u8],
-    view: &[u8],
-    entries: usize,
-    node: NodeId,
-    findings: &mut [u8],
-) -> JudgedView
-    requires { Observing history.now view.now entries node.0 × (length findings.old ≡ 1024) }
-    ensures { ViewJudged history.now view.now entries node.0 result.missing result.held result.rest findings.new }
+pub fn judge_view(history: &[u8], view: &[u8], entries: usize, node: NodeId) -> JudgedView
+    requires { Observing history.now view.now entries node.0 }
+    ensures { ViewJudged history.now view.now entries node.0 result.missing result.notes.held result.rest result.notes.rows }
 {
-    let count = prefix_count(history);
-    let held = copy_findings(history, &mut findings[..]);
-    let prefixes = prefix_table(history);
-    let stored = judge_stored(
-        prefixes,
-        count,
-        view,
-        entries,
-        node,
-        &mut findings[..],
-        held,
-    );
-    let rest = stored.rest;
-    let lacking = judge_missing(
-        prefixes,
-        count,
-        view,
-        rest,
-        node,
-        &mut findings[..],
-        stored.held,
-    );
+    let prefixes = Prefixes::of(history);
+    let mut notes = Notes::of(history);
+    let rest = judge_stored(prefixes, view, entries, node, &mut notes);
+    let missing = judge_missing(prefixes, view, rest, node, &mut notes);
     JudgedView {
-        missing: lacking.missing,
-        held: lacking.held,
+        missing,
         rest,
+        notes,
     }
 }

@@ -2,11 +2,12 @@
 ghost use Rattle.std.specs.Prelude.{◌≡◌, ◌<◌, length};
 ghost use Rattle.view_writing.specs.Observation.{Storing, StoredAs, view_replaced, rest_written};
 
-use log_prefix::prefix::{Extension, extend};
-use log_violation::violation::keep_findings;
+use log_prefix::prefix::extend;
+use log_violation::violation::Notes;
 use record_walk::walk::{entry_at, last_index};
-use storage_bytes::layout::node_table;
-use table_rows::nodes::{node_at, set_node};
+use storage::rows::set;
+use storage_bytes::layout::NODES;
+use table_rows::nodes::{Node, node_at};
 use units::{LogIndex, LogPrefixWitness, NodeId};
 use view_judging::judging::{Place, place_after};
 
@@ -17,9 +18,10 @@ fn store(history: &mut [u8], count: usize, view: &[u8], rest: Place) -> LogPrefi
 {
     let mut here = rest;
     let mut n = count;
+    // a place tells how many entries are left: a range would count them again
     while 0 < here.left {
         let e = entry_at(view, here.at);
-        let Extension::Prefix(x) = extend(&mut history[..], n, here.prefix, e) else {
+        let Some(x) = extend(&mut history[..], n, here.prefix, e) else {
             break;
         };
         n = x.count;
@@ -34,10 +36,8 @@ fn replace_view(history: &mut [u8], node: NodeId, front: LogPrefixWitness, last:
     ensures { history.new ≡ view_replaced history.old node.0 front.0 last.0 }
 {
     let k = node.0 as usize;
-    let mut x = node_at(node_table(&history[..]), k);
-    x.front = front;
-    x.last = last;
-    set_node(&mut history[..], k, x);
+    let x = node_at(NODES.of(&history[..]), k);
+    set(&mut history[..], k, Node { front, last, ..x });
 }
 
 // An accepted view is written: its prefixes from a place on, the node's row, the findings.
@@ -47,15 +47,14 @@ pub fn write_view(
     view: &[u8],
     rest: Place,
     node: NodeId,
-    findings: &[u8],
-    held: usize,
+    notes: &Notes,
 )
-    requires { Storing history.old count view.now rest × (node.0 < 64) × (length findings.now ≡ 1024) }
-    ensures { history.new ≡ rest_written history.old count view.now rest node.0 findings.now held }
+    requires { Storing history.old count view.now rest × (node.0 < 64) }
+    ensures { history.new ≡ rest_written history.old count view.now rest node.0 notes.now.rows notes.now.held }
 {
     let front = store(&mut history[..], count, view, rest);
     let before = LogIndex(rest.index.0 - 1);
     let last = last_index(view, rest.at, rest.left, before);
     replace_view(&mut history[..], node, front, last);
-    keep_findings(&mut history[..], findings, held);
+    notes.keep(&mut history[..]);
 }

@@ -9,6 +9,3 @@ use Rattle.certificate_order.proofs.order.is_taken.Given as goal
 abbrev pub invariant-loop-k : goal.invariant-loop-k
 invariant-loop-k l =
     (l.k ≤ l.place) × (taken_before (certificate_row l.certificates) l.number l.place l.held ≡ taken_from (certificate_row l.certificates) l.number l.k (l.place - l.k))
-
-abbrev pub decreases-loop-k : goal.decreases-loop-k
-decreases-loop-k l = l.place - l.k

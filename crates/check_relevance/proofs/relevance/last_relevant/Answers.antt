@@ -3,40 +3,32 @@
 use Rattle.check_relevance.proofs.RelevanceLaws.{relevant_next, relevant_found, relevant_none}
 use Rattle.table_rows.proofs.TermSearchLaws.{index_found, index_none}
 use Rattle.storage.specs.Tables.{term_row}
-use mathlib.Core.Path.{refl}
+use Prim.Native.Nat.{◌+◌, ◌-◌, ◌≤◌, ◌<◌}
+use mathlib.Core.Path.{◌≡◌, ◌∙◌}
+use borrow.Author.Rules.{rules}
 use native.Mathlib.Omega.{arith}
 use Rattle.check_relevance.proofs.relevance.last_relevant.Goals as goal
 
-pub loop-index-init : goal.loop-index-init
-loop-index-init c = (omega arith, refl)
-
-pub term_of-requires : goal.term_of-requires
-term_of-requires c =
-    let s = c.requires in
-    let i = c.loop-index.invariant.0 in
-    let l = c.loop-index-test.true in
-    (omega arith, omega (arith, s.0), s.1)
-
-pub returns-then-term_of-term : goal.returns-then-term_of-term
-returns-then-term_of-term c =
-    let l = c.loop-index in
+pub returns-then-lt : goal.returns-then-lt
+returns-then-lt c =
+    let l = c.loop-k in
     let s = c.args in
-    index_found l.index _
-    (relevant_found (term_row s.terms.now) s.mark.0 s.term.0 s.end.0 l.index.0 l.invariant.1 c.loop-index-test.true _ c.term_of.ensures c.if-term_of-term.true)
-    (λ z. let y = c.loop-index-test.true in omega arith)
+    let earlier : c.term_at.result.0 < s.term.0 = search rules in
+    let after = c.loop-k-test.true in
+    index_found (record { 0 = l.k - 1 + 1 }) _
+    ((let e : l.k - 1 + 1 ≡ l.k = omega arith in e)
+    ∙ relevant_found (term_row s.terms.now) s.mark.0 s.term.0 s.end.0 l.k l.invariant after _ c.term_at.ensures earlier)
+    (λ z. omega arith)
 
-pub loop-index-preserved : goal.loop-index-preserved
-loop-index-preserved c =
-    let l = c.loop-index in
-    let i = l.invariant.0 in
-    let s = c.args in (
-      omega arith,
-      relevant_next (term_row s.terms.now) s.mark.0 s.term.0 s.end.0 l.index.0 l.invariant.1 c.loop-index-test.true _ c.term_of.ensures c.if-term_of-term.false,
-    )
+pub loop-k-preserved : goal.loop-k-preserved
+loop-k-preserved c =
+    let l = c.loop-k in
+    let s = c.args in
+    let later : s.term.0 ≤ c.term_at.result.0 = search rules in
+    relevant_next (term_row s.terms.now) s.mark.0 s.term.0 s.end.0 l.k l.invariant c.loop-k-test.true _ c.term_at.ensures later
 
 pub returns : goal.returns
 returns c =
-    let l = c.loop-index in
+    let l = c.loop-k in
     let s = c.args in
-    index_none _
-    (relevant_none (term_row s.terms.now) s.mark.0 s.term.0 s.end.0 l.index.0 l.invariant.1 c.loop-index-test.false)
+    index_none _ (relevant_none (term_row s.terms.now) s.mark.0 s.term.0 s.end.0 l.k l.invariant c.loop-k-test.false)

@@ -7,34 +7,31 @@ use Rattle.storage.proofs.WellFormed.{formed}
 use lib.ListN.{length}
 use borrow.Author.Tests.{lt-ltb, le-ltb}
 use native.Mathlib.Omega.{arith}
-use mathlib.Core.Path.{ap, sym, ◌∙◌}
+use Prim.Native.Nat.{◌≤◌, ◌<◌, min}
+use borrow.Author.Rules.{rules}
+use mathlib.Core.Path.{◌≡◌, ap, sym, ◌∙◌}
 use Rattle.commit.proofs.prefix.insert_committed_prefix.Goals as goal
 
-pub prefix_table-prefixes-requires : goal.prefix_table-prefixes-requires
-prefix_table-prefixes-requires c = (formed _ c.requires.0).long
+pub of-prefixes-requires : goal.of-prefixes-requires
+of-prefixes-requires c = let l = (formed _ c.requires.0).long in omega arith
 
 pub through-committed_end-requires : goal.through-committed_end-requires
 through-committed_end-requires c =
     let m = (formed _ c.requires.0).prefixes in
     let k = c.requires.2 in
-    (omega arith, c.prefix_table-prefixes.ensures.long)
+    (omega arith, c.of-prefixes.ensures.long)
 
 pub through-seen_end-requires : goal.through-seen_end-requires
 through-seen_end-requires c =
     let m = (formed _ c.requires.0).prefixes in
     let k = c.requires.3 in
-    (omega arith, c.prefix_table-prefixes.ensures.long)
-
-pub agree_through-requires : goal.agree_through-requires
-agree_through-requires c = let s = c in (s.requires.0, omega arith, omega arith)
-
-pub note_difference-requires : goal.note_difference-requires
-note_difference-requires c = let s = c in (s.requires.0, s.requires.1)
+    (omega arith, c.of-prefixes.ensures.long)
 
 pub returns-then-not-agree_through : goal.returns-then-not-agree_through
 returns-then-not-agree_through c =
     let s = c.args in
-    insert_differs s.history.now s.node.0 s.committed.0 s.seen.0 _ (c.earlier-end.ensures ∙ end_is s.history.now s.committed.0 s.seen.0 _ c.prefix_table-prefixes.ensures.is _ c.through-committed_end.ensures.is _ c.through-seen_end.ensures.is) _ c.agree_through.ensures (c.if-not-agree_through.true) _ _ c.note_difference.ensures
+    let e : c.min-end.result.0 ≡ min c.through-committed_end.result.0 c.through-seen_end.result.0 = search rules in
+    insert_differs s.history.now s.node.0 s.committed.0 s.seen.0 _ (e ∙ end_is s.history.now s.committed.0 s.seen.0 _ c.of-prefixes.ensures.is _ c.through-committed_end.ensures.is _ c.through-seen_end.ensures.is) _ c.agree_through.ensures (c.if-not-agree_through.true) _ _ c.note_difference.ensures
 
 pub owner-former-requires : goal.owner-former-requires
 owner-former-requires c = let l = (formed _ c.requires.0).long in omega arith
@@ -48,14 +45,18 @@ set_committed-requires c =
     let l = (formed _ c.requires.0).long in
     omega arith
 
-pub returns-then-committed_end-seen_end : goal.returns-then-committed_end-seen_end
-returns-then-committed_end-seen_end c =
+pub returns-then-lt : goal.returns-then-lt
+returns-then-lt c =
     let s = c.args in
-    insert_longer s.history.now s.node.0 s.committed.0 s.seen.0 _ (c.earlier-end.ensures ∙ end_is s.history.now s.committed.0 s.seen.0 _ c.prefix_table-prefixes.ensures.is _ c.through-committed_end.ensures.is _ c.through-seen_end.ensures.is) _ c.agree_through.ensures (c.if-not-agree_through.false) _ _ c.owner-former.ensures.is c.flags-sum.ensures _ c.set_unseen.ensures
-    (sym (longer_is s.history.now s.committed.0 s.seen.0 _ c.prefix_table-prefixes.ensures.is _ c.through-committed_end.ensures.is _ c.through-seen_end.ensures.is) ∙ lt-ltb _ _ c.if-committed_end-seen_end.true) _ c.set_committed.ensures
+    let e : c.min-end.result.0 ≡ min c.through-committed_end.result.0 c.through-seen_end.result.0 = search rules in
+    let longer : c.through-committed_end.result.0 < c.through-seen_end.result.0 = search rules in
+    insert_longer s.history.now s.node.0 s.committed.0 s.seen.0 _ (e ∙ end_is s.history.now s.committed.0 s.seen.0 _ c.of-prefixes.ensures.is _ c.through-committed_end.ensures.is _ c.through-seen_end.ensures.is) _ c.agree_through.ensures (c.if-not-agree_through.false) _ _ c.owner-former.ensures.is c.flags-sum.ensures _ c.set_unseen.ensures
+    (sym (longer_is s.history.now s.committed.0 s.seen.0 _ c.of-prefixes.ensures.is _ c.through-committed_end.ensures.is _ c.through-seen_end.ensures.is) ∙ lt-ltb _ _ longer) _ c.set_committed.ensures
 
-pub returns-else-committed_end-seen_end : goal.returns-else-committed_end-seen_end
-returns-else-committed_end-seen_end c =
+pub returns-else-lt : goal.returns-else-lt
+returns-else-lt c =
     let s = c.args in
-    insert_shorter s.history.now s.node.0 s.committed.0 s.seen.0 _ (c.earlier-end.ensures ∙ end_is s.history.now s.committed.0 s.seen.0 _ c.prefix_table-prefixes.ensures.is _ c.through-committed_end.ensures.is _ c.through-seen_end.ensures.is) _ c.agree_through.ensures (c.if-not-agree_through.false) _ _ c.owner-former.ensures.is c.flags-sum.ensures _ c.set_unseen.ensures
-    (sym (longer_is s.history.now s.committed.0 s.seen.0 _ c.prefix_table-prefixes.ensures.is _ c.through-committed_end.ensures.is _ c.through-seen_end.ensures.is) ∙ le-ltb _ _ c.if-committed_end-seen_end.false)
+    let e : c.min-end.result.0 ≡ min c.through-committed_end.result.0 c.through-seen_end.result.0 = search rules in
+    let shorter : c.through-seen_end.result.0 ≤ c.through-committed_end.result.0 = search rules in
+    insert_shorter s.history.now s.node.0 s.committed.0 s.seen.0 _ (e ∙ end_is s.history.now s.committed.0 s.seen.0 _ c.of-prefixes.ensures.is _ c.through-committed_end.ensures.is _ c.through-seen_end.ensures.is) _ c.agree_through.ensures (c.if-not-agree_through.false) _ _ c.owner-former.ensures.is c.flags-sum.ensures _ c.set_unseen.ensures
+    (sym (longer_is s.history.now s.committed.0 s.seen.0 _ c.of-prefixes.ensures.is _ c.through-committed_end.ensures.is _ c.through-seen_end.ensures.is) ∙ le-ltb _ _ shorter)

@@ -4,6 +4,7 @@ use Rattle.committed_prefix.proofs.PrefixTurns.{kept_within}
 use Rattle.prefix_lookup.proofs.FrontLaws.{through_stored}
 use Rattle.commit.proofs.PrefixTurns.{observe_unseen, observe_zero, observe_first, observe_later}
 use Rattle.storage.proofs.WellFormed.{formed}
+use borrow.Author.Tests.{eqb-true, eqb-false}
 use native.Mathlib.Omega.{arith}
 use mathlib.Core.Path.{sym, ◌∙◌}
 use Rattle.commit.proofs.prefix.observe_committed_prefixes.Goals as goal
@@ -16,13 +17,13 @@ pub returns-in_default : goal.returns-in_default
 returns-in_default c =
     observe_unseen c.args.history.now c.args.node.0 c.args.index.0 _ c.front_through.ensures c.in_default.is _ c.set_unseen.ensures
 
-pub set_unseen-requires-then-seen : goal.set_unseen-requires-then-seen
-set_unseen-requires-then-seen c =
+pub set_unseen-requires-then-eq : goal.set_unseen-requires-then-eq
+set_unseen-requires-then-eq c =
     (c.requires.1, (formed _ c.requires.0).long)
 
-pub returns-then-seen : goal.returns-then-seen
-returns-then-seen c =
-    observe_zero c.args.history.now c.args.node.0 c.args.index.0 _ c.front_through.ensures _ c.in-Prefix.is c.if-seen.true _ c.set_unseen-then-seen.ensures
+pub returns-then-eq : goal.returns-then-eq
+returns-then-eq c =
+    observe_zero c.args.history.now c.args.node.0 c.args.index.0 _ c.front_through.ensures _ c.in-Some.is (eqb-true _ _ (sym c.if-eq.ensures)) _ c.set_unseen-then-eq.ensures
 
 pub committed_prefix-requires : goal.committed_prefix-requires
 committed_prefix-requires c = let l = (formed _ c.requires.0).long in omega arith
@@ -33,7 +34,7 @@ keep-requires c =
 
 pub returns-in_default-committed_prefix : goal.returns-in_default-committed_prefix
 returns-in_default-committed_prefix c =
-    observe_first c.args.history.now c.args.node.0 c.args.index.0 _ c.front_through.ensures _ c.in-Prefix.is c.if-seen.false _ c.committed_prefix.ensures c.in_default-committed_prefix.is _ c.keep.ensures
+    observe_first c.args.history.now c.args.node.0 c.args.index.0 _ c.front_through.ensures _ c.in-Some.is (eqb-false _ _ (sym c.if-eq.ensures)) _ c.committed_prefix.ensures c.in_default-committed_prefix.is _ c.keep.ensures
 
 pub insert_committed_prefix-requires : goal.insert_committed_prefix-requires
 insert_committed_prefix-requires c =
@@ -41,10 +42,10 @@ insert_committed_prefix-requires c =
     let f = formed h c.requires.0 in (
       c.requires.0,
       c.requires.1,
-      kept_within h f _ c.committed_prefix.ensures _ c.in-Prefix-committed_prefix.is,
-      through_stored h c.args.node.0 c.args.index.0 _ f c.requires.1 (sym c.front_through.ensures ∙ c.in-Prefix.is),
+      kept_within h f _ c.committed_prefix.ensures _ c.in-Some-committed_prefix.is,
+      through_stored h c.args.node.0 c.args.index.0 _ f c.requires.1 (sym c.front_through.ensures ∙ c.in-Some.is),
     )
 
 pub returns : goal.returns
 returns c =
-    observe_later c.args.history.now c.args.node.0 c.args.index.0 _ c.front_through.ensures _ c.in-Prefix.is c.if-seen.false _ c.committed_prefix.ensures _ c.in-Prefix-committed_prefix.is _ _ c.insert_committed_prefix.ensures
+    observe_later c.args.history.now c.args.node.0 c.args.index.0 _ c.front_through.ensures _ c.in-Some.is (eqb-false _ _ (sym c.if-eq.ensures)) _ c.committed_prefix.ensures _ c.in-Some-committed_prefix.is _ _ c.insert_committed_prefix.ensures

@@ -2,21 +2,13 @@
 -- Assumes nothing.
 use Rattle.commit_terms.proofs.TermTurns.{searching_found, searching_next, searching_none}
 use Rattle.storage.specs.Tables.{term_row}
-use mathlib.Core.Path.{refl}
-use borrow.Author.Count.{falls}
 use Rattle.commit_terms.proofs.terms.first_replaced.Goals as goal
-
-pub loop-k-init : goal.loop-k-init
-loop-k-init c = refl
 
 pub returns-then-is_replaced : goal.returns-then-is_replaced
 returns-then-is_replaced c =
     let l = c.loop-k in
     let s = c.args in
     searching_found (term_row s.terms.now) s.term.0 s.old.0 s.new.0 l.k l.invariant c.loop-k-test.true _ c.term_of.ensures _ c.is_replaced.ensures c.if-is_replaced.true
-
-pub loop-k-smaller : goal.loop-k-smaller
-loop-k-smaller c = falls _ _ c.loop-k-test.true
 
 pub loop-k-preserved : goal.loop-k-preserved
 loop-k-preserved c =

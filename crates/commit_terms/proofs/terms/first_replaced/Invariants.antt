@@ -2,11 +2,7 @@
 -- Assumes nothing.
 use Rattle.commit_terms.proofs.TermTurns.{Searching}
 use Rattle.storage.specs.Tables.{term_row}
-use Prim.Native.Nat.{◌-◌}
 use Rattle.commit_terms.proofs.terms.first_replaced.Given as goal
 
 abbrev pub invariant-loop-k : goal.invariant-loop-k
 invariant-loop-k l = Searching (term_row l.terms) l.term.0 l.initial.k l.k-end l.k
-
-abbrev pub decreases-loop-k : goal.decreases-loop-k
-decreases-loop-k l = l.k-end - l.k

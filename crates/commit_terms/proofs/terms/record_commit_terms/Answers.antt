@@ -6,30 +6,30 @@ use Rattle.table_rows.proofs.TermSearchLaws.{index_told}
 use Rattle.storage_bytes.specs.Words.{word_at}
 use Rattle.model.specs.Sizes.{Bytes}
 use lib.ListN.{length}
+use Prim.Native.Nat.{◌≤◌, ◌<◌}
+use borrow.Author.Rules.{rules}
 use mathlib.Core.Path.{ap, ◌∙◌}
 use native.Mathlib.Omega.{arith}
 use Rattle.commit_terms.proofs.terms.record_commit_terms.Goals as goal
 
-pub returns-then-new-old : goal.returns-then-new-old
-returns-then-new-old c =
+pub returns-then-lt : goal.returns-then-lt
+returns-then-lt c =
     let s = c.args in
-    record_refused s.history.now s.old.0 s.new.0 s.term.0 c.if-new-old.true
+    let exceeds : s.new.0 < s.old.0 = search rules in
+    record_refused s.history.now s.old.0 s.new.0 s.term.0 exceeds
 
 pub lengthen-requires : goal.lengthen-requires
 lengthen-requires c =
     (c.requires.1, (formed _ c.requires.0).long)
 
-pub term_table-requires : goal.term_table-requires
-term_table-requires c =
+pub of-requires : goal.of-requires
+of-requires c =
     let l = ap length c.lengthen.ensures ∙ lengthened_length _ _ ∙ (formed _ c.requires.0).long in
     omega arith
 
-pub first_replaced-found-requires : goal.first_replaced-found-requires
-first_replaced-found-requires c = (c.if-new-old.false, c.requires.1, c.term_table.ensures.long)
-
 pub replace_terms-requires : goal.replace_terms-requires
 replace_terms-requires c =
-    let p = index_told _ _ c.first_replaced-found.ensures _ c.in-At.is in
+    let p = index_told _ _ c.first_replaced-found.ensures _ c.in-Some.is in
     (omega (arith, p.0, p.1), c.requires.1, ap length c.lengthen.ensures ∙ lengthened_length _ _ ∙ (formed _ c.requires.0).long)
 
 pub lower_marks-requires : goal.lower_marks-requires
@@ -39,15 +39,17 @@ lower_marks-requires c =
     let e = c.lengthen.ensures in
     let v = c.replace_terms.ensures in
     let n = ap (λ (u : Bytes). word_at u 6 1) v ∙ replace_all_certificates _ _ _ _ ∙ ap (λ (u : Bytes). word_at u 6 1) e ∙ lengthened_certificates _ _ in
-    let p = index_told _ _ c.first_replaced-found.ensures _ c.in-At.is in
+    let p = index_told _ _ c.first_replaced-found.ensures _ c.in-Some.is in
     (omega arith, omega (arith, p.0, p.1), ap length v ∙ replace_all_length _ _ _ _ ∙ ap length e ∙ lengthened_length _ _ ∙ f.long)
 
-pub returns-in-At : goal.returns-in-At
-returns-in-At c =
+pub returns-in-Some : goal.returns-in-Some
+returns-in-Some c =
     let s = c.args in
-    record_changed s.history.now s.old.0 s.new.0 s.term.0 c.if-new-old.false _ c.lengthen.ensures _ c.term_table.ensures.is _ c.first_replaced-found.ensures _ c.in-At.is _ c.replace_terms.ensures _ c.lower_marks.ensures
+    let within : s.old.0 ≤ s.new.0 = search rules in
+    record_changed s.history.now s.old.0 s.new.0 s.term.0 within _ c.lengthen.ensures _ c.of.ensures.is _ c.first_replaced-found.ensures _ c.in-Some.is _ c.replace_terms.ensures _ c.lower_marks.ensures
 
 pub returns-in_default : goal.returns-in_default
 returns-in_default c =
     let s = c.args in
-    record_unchanged s.history.now s.old.0 s.new.0 s.term.0 c.if-new-old.false _ c.lengthen.ensures _ c.term_table.ensures.is _ c.first_replaced-found.ensures c.in_default.is
+    let within : s.old.0 ≤ s.new.0 = search rules in
+    record_unchanged s.history.now s.old.0 s.new.0 s.term.0 within _ c.lengthen.ensures _ c.of.ensures.is _ c.first_replaced-found.ensures c.in_default.is

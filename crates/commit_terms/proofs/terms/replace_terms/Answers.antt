@@ -1,21 +1,7 @@
 -- `commit_terms::terms::replace_terms` meets its contract. The invariant: replacing the places that are left gives the rest.
 -- Assumes nothing.
-use Rattle.commit_terms.proofs.TermTurns.{replacing_starts, replacing_next, replacing_ends}
-use native.Mathlib.Omega.{arith}
-use borrow.Author.Count.{falls}
+use Rattle.commit_terms.proofs.TermTurns.{replacing_next, replacing_ends}
 use Rattle.commit_terms.proofs.terms.replace_terms.Goals as goal
-
-pub loop-k-init : goal.loop-k-init
-loop-k-init c =
-    replacing_starts c.args.history.now c.args.first.0 c.args.new.0 c.args.term.0 c.requires.2
-
-pub replace_term-requires : goal.replace_term-requires
-replace_term-requires c =
-    let t = c.loop-k-test.true in
-    (omega arith, omega (arith, c.requires.1), c.loop-k.invariant.long)
-
-pub loop-k-smaller : goal.loop-k-smaller
-loop-k-smaller c = falls _ _ c.loop-k-test.true
 
 pub loop-k-preserved : goal.loop-k-preserved
 loop-k-preserved c =

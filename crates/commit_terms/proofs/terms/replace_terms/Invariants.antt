@@ -1,11 +1,7 @@
 -- `commit_terms::terms::replace_terms` meets its contract. The invariant: replacing the places that are left gives the rest.
 -- Assumes nothing.
 use Rattle.commit_terms.proofs.TermTurns.{Replacing}
-use Prim.Native.Nat.{◌-◌}
 use Rattle.commit_terms.proofs.terms.replace_terms.Given as goal
 
 abbrev pub invariant-loop-k : goal.invariant-loop-k
 invariant-loop-k l = Replacing l.initial.history l.initial.k l.k-end l.term.0 l.history l.k
-
-abbrev pub decreases-loop-k : goal.decreases-loop-k
-decreases-loop-k l = l.k-end - l.k

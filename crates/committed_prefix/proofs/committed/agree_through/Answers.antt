@@ -8,30 +8,30 @@ use mathlib.Core.Path.{refl}
 use Rattle.storage_bytes.specs.Words.{word_at}
 use Rattle.committed_prefix.proofs.committed.agree_through.Goals as goal
 
-pub prefix_table-prefixes-requires : goal.prefix_table-prefixes-requires
-prefix_table-prefixes-requires c =
+pub of-prefixes-requires : goal.of-prefixes-requires
+of-prefixes-requires c =
     let l = (formed _ c.requires.0).long in
     omega arith
 
 pub slice_through-requires : goal.slice_through-requires
 slice_through-requires c =
     let h = c.args.history.now in
-    (word_at h 0 2, table_lent h _ _ (formed h c.requires.0) c.prefix_table-prefixes.ensures.is refl, c.requires.1)
+    (word_at h 0 2, table_lent h _ _ (formed h c.requires.0) c.of-prefixes.ensures.is refl, c.requires.1)
 
 pub returns-in_default : goal.returns-in_default
 returns-in_default c =
     let s = c.args in
-    agree_short s.history.now s.a.0 s.b.0 s.index.0 _ c.prefix_table-prefixes.ensures.is _ c.slice_through.ensures c.in_default.is
+    agree_short s.history.now s.a.0 s.b.0 s.index.0 _ c.of-prefixes.ensures.is _ c.slice_through.ensures c.in_default.is
 
 pub slice_through-requires-2 : goal.slice_through-requires-2
 slice_through-requires-2 c =
     let h = c.args.history.now in
-    (word_at h 0 2, table_lent h _ _ (formed h c.requires.0) c.prefix_table-prefixes.ensures.is refl, c.requires.2)
+    (word_at h 0 2, table_lent h _ _ (formed h c.requires.0) c.of-prefixes.ensures.is refl, c.requires.2)
 
 pub returns-in_default-slice_through : goal.returns-in_default-slice_through
 returns-in_default-slice_through c =
     let s = c.args in
-    agree_short_2 s.history.now s.a.0 s.b.0 s.index.0 _ c.prefix_table-prefixes.ensures.is _ c.slice_through.ensures _ c.in-Prefix.is _
+    agree_short_2 s.history.now s.a.0 s.b.0 s.index.0 _ c.of-prefixes.ensures.is _ c.slice_through.ensures _ c.in-Some.is _
     c.slice_through-2.ensures c.in_default-slice_through.is
 
 pub same_prefix-requires : goal.same_prefix-requires
@@ -40,15 +40,15 @@ same_prefix-requires c =
     let a = c.args.a.0 in
     let b = c.args.b.0 in
     let f = formed h c.requires.0 in
-    let lent = c.prefix_table-prefixes.ensures.is in (
+    let lent = c.of-prefixes.ensures.is in (
       word_at h 0 2,
       table_lent h _ _ f lent refl,
-      slice_kept h a b c.args.index.0 _ lent _ c.slice_through.ensures _ f c.requires.1 c.in-Prefix.is,
-      slice_kept h b a c.args.index.0 _ lent _ c.slice_through-2.ensures _ f c.requires.2 c.in-Prefix-slice_through.is,
+      slice_kept h a b c.args.index.0 _ lent _ c.slice_through.ensures _ f c.requires.1 c.in-Some.is,
+      slice_kept h b a c.args.index.0 _ lent _ c.slice_through-2.ensures _ f c.requires.2 c.in-Some-slice_through.is,
     )
 
 pub returns : goal.returns
 returns c =
     let s = c.args in
-    agree_same s.history.now s.a.0 s.b.0 s.index.0 _ c.prefix_table-prefixes.ensures.is _ c.slice_through.ensures _ c.in-Prefix.is _
-    c.slice_through-2.ensures _ c.in-Prefix-slice_through.is _ c.same_prefix.ensures
+    agree_same s.history.now s.a.0 s.b.0 s.index.0 _ c.of-prefixes.ensures.is _ c.slice_through.ensures _ c.in-Some.is _
+    c.slice_through-2.ensures _ c.in-Some-slice_through.is _ c.same_prefix.ensures

@@ -1,19 +1,10 @@
 -- `committed_prefix::committed::keep` meets its contract.
 -- Assumes nothing.
-use Rattle.committed_prefix.proofs.PrefixTurns.{unseen_length}
-use lib.ListN.{length}
 use Rattle.model.specs.Sizes.{Bytes}
 use Rattle.storage.specs.Writes.{committed_set}
 use Rattle.committed_prefix.specs.Prefix.{keep_bytes}
-use native.Mathlib.Omega.{arith}
 use mathlib.Core.Path.{ap, ◌∙◌}
 use Rattle.committed_prefix.proofs.committed.keep.Goals as goal
-
-pub set_committed-requires : goal.set_committed-requires
-set_committed-requires c =
-    let e = ap length c.set_unseen.ensures ∙ unseen_length _ _ _ in
-    let l = c.requires.1 in
-    omega arith
 
 pub returns : goal.returns
 unfolding keep_bytes

@@ -8,4 +8,4 @@ pub returns : goal.returns
 returns c =
     let s = c.args in
     let x = c.node_at-x in
-    unseen_is s.history.now s.node.0 _ c.node_table.ensures.is (node_value x.result) x.ensures s.mark.0 _ c.set_node.ensures
+    unseen_is s.history.now s.node.0 _ c.of.ensures.is (node_value x.result) x.ensures s.mark.0 _ c.set.ensures

@@ -2,13 +2,11 @@
 -- Assumes nothing.
 use Rattle.completeness.proofs.CheckLaws.{checked_nothing, number_is, end_read, checked_kept, judged_refused, judged_accepted, written_as}
 use Rattle.storage.proofs.WellFormed.{formed}
-use Rattle.log_violation.proofs.ViolationLaws.{all_length, findings_long}
 use Rattle.check_marks.proofs.MarkLaws.{marks_length}
 use Rattle.committed_prefix.proofs.PrefixTurns.{kept_within}
 use mathlib.Core.Path.{ap, ◌∙◌}
 use native.Mathlib.Omega.{arith}
 use lib.ListN.{length}
-use borrow.Author.Rules.{rules}
 use Rattle.completeness.proofs.leader_completeness.record_leader_completeness.Goals as goal
 
 pub committed_prefix-requires : goal.committed_prefix-requires
@@ -18,52 +16,42 @@ pub returns-in_default : goal.returns-in_default
 returns-in_default c =
     checked_nothing c.args.history.now _ c.committed_prefix.ensures c.in_default.is
 
-pub prefix_table-requires : goal.prefix_table-requires
-prefix_table-requires c = let l = (formed _ c.requires).long in omega arith
+pub of-requires : goal.of-requires
+of-requires c = let l = (formed _ c.requires).long in omega arith
 
 pub through-end-requires : goal.through-end-requires
 through-end-requires c =
     let o = formed _ c.requires in
-    let a = kept_within _ o _ c.committed_prefix.ensures _ c.in-Prefix.is in
+    let a = kept_within _ o _ c.committed_prefix.ensures _ c.in-Some.is in
     let b = o.prefixes in
-    (omega arith, c.prefix_table.ensures.long)
+    (omega arith, c.of.ensures.long)
 
-pub copy_findings-held-requires : goal.copy_findings-held-requires
-copy_findings-held-requires c = ((formed _ c.requires).long, search rules)
+pub of-notes-requires : goal.of-notes-requires
+of-notes-requires c = let l = (formed _ c.requires).long in omega arith
 
-pub judge_all-judged-requires : goal.judge_all-judged-requires
-judge_all-judged-requires c =
-    let f = (formed _ c.requires).findings in
-    let n = c.copy_findings-held.ensures.0 in (
-      record {
-        right = c.requires;
-        committed = number_is _ _ c.committed_prefix.ensures _ c.in-Prefix.is;
-        long = ap length c.copy_findings-held.ensures.1 ∙ findings_long _ c.requires;
-        few = omega arith;
-      },
-      end_read c.args.history.now _ c.committed_prefix.ensures _ c.in-Prefix.is _ c.prefix_table.ensures.is _ c.through-end.ensures.is,
-    )
+pub judge_all-flags-requires : goal.judge_all-flags-requires
+judge_all-flags-requires c = (
+  record { right = c.requires; committed = number_is _ _ c.committed_prefix.ensures _ c.in-Some.is },
+  end_read c.args.history.now _ c.committed_prefix.ensures _ c.in-Some.is _ c.of.ensures.is _ c.through-end.ensures.is,
+)
 
-pub returns-then-judged-gt-FINDING_LIMIT : goal.returns-then-judged-gt-FINDING_LIMIT
-returns-then-judged-gt-FINDING_LIMIT c =
-    checked_kept c.args.history.now _ c.committed_prefix.ensures _ c.in-Prefix.is _ _
-    (judged_refused c.args.history.now _ _ _ _ _ c.copy_findings-held.ensures c.judge_all-judged.ensures c.if-judged-gt-FINDING_LIMIT.true)
+pub returns-then-notes-gt-FINDING_LIMIT : goal.returns-then-notes-gt-FINDING_LIMIT
+returns-then-notes-gt-FINDING_LIMIT c =
+    checked_kept c.args.history.now _ c.committed_prefix.ensures _ c.in-Some.is _ _
+    (judged_refused c.args.history.now _ _ _ _ _ c.of-notes.ensures c.judge_all-flags.ensures c.if-notes-gt-FINDING_LIMIT.true)
 
 pub move_marks-requires : goal.move_marks-requires
 move_marks-requires c =
     let o = formed _ c.requires in
     (o.certificates, o.long)
 
-pub keep_findings-requires : goal.keep_findings-requires
-keep_findings-requires c = (
-  ap length c.move_marks.ensures ∙ marks_length _ _ _ _ ∙ (formed _ c.requires).long,
-  ap length c.judge_all-judged.ensures.table ∙ all_length _ _ _ ∙ ap length c.copy_findings-held.ensures.1 ∙ findings_long _ c.requires,
-)
+pub keep-requires : goal.keep-requires
+keep-requires c = ap length c.move_marks.ensures ∙ marks_length _ _ _ _ ∙ (formed _ c.requires).long
 
 pub returns : goal.returns
 returns c =
     let h = c.args.history.now in
-    checked_kept h _ c.committed_prefix.ensures _ c.in-Prefix.is _ _
-    (judged_accepted h _ _ _ _ _ c.copy_findings-held.ensures c.judge_all-judged.ensures c.if-judged-gt-FINDING_LIMIT.false
-    _ (end_read h _ c.committed_prefix.ensures _ c.in-Prefix.is _ c.prefix_table.ensures.is _ c.through-end.ensures.is)
-    _ (written_as h _ _ _ _ c.move_marks.ensures _ c.keep_findings.ensures))
+    checked_kept h _ c.committed_prefix.ensures _ c.in-Some.is _ _
+    (judged_accepted h _ _ _ _ _ c.of-notes.ensures c.judge_all-flags.ensures c.if-notes-gt-FINDING_LIMIT.false
+    _ (end_read h _ c.committed_prefix.ensures _ c.in-Some.is _ c.of.ensures.is _ c.through-end.ensures.is)
+    _ (written_as h _ _ _ _ c.move_marks.ensures _ c.keep.ensures))

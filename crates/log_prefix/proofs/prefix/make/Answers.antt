@@ -6,4 +6,4 @@ use Rattle.log_prefix.proofs.prefix.make.Goals as goal
 
 pub returns : goal.returns
 returns c =
-    (refl, row_made c.args.history.now _ c.args.count c.args.p.0 c.args.e c.requires c.append_prefix.ensures)
+    (refl, row_made c.args.history.now _ c.args.count c.args.p.0 c.args.e c.requires c.append.ensures)

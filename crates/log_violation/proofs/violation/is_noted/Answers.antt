@@ -1,28 +1,15 @@
 -- `log_violation::violation::is_noted` meets its contract.
 -- Assumes nothing.
-use Prim.Native.Nat.{ℕ, ◌-◌}
-use mathlib.Core.Path.{◌≡◌, ap, sym, ◌∙◌}
+use mathlib.Core.Path.{sym, ◌∙◌}
 use native.Mathlib.Omega.{arith}
-use borrow.Author.Count.{falls}
 use Rattle.table_rows.specs.Values.{finding_value}
-use Rattle.log_violation.specs.Violation.{noted_from}
 use Rattle.log_violation.proofs.ViolationLaws.{noted_stop, noted_next, noted_none}
 use Rattle.log_violation.proofs.violation.is_noted.Goals as goal
-
-pub loop-k-init : goal.loop-k-init
-loop-k-init c = (
-  omega arith,
-  ap (λ (m : ℕ). noted_from c.args.findings.now 0 m (finding_value c.args.f))
-      (let e : c.args.n ≡ c.args.n - 0 = omega arith in e),
-)
 
 pub returns-then-is_finding : goal.returns-then-is_finding
 returns-then-is_finding c =
     let s = c.args in
     noted_stop s.findings.now (finding_value s.f) c.loop-k.k s.n c.loop-k.invariant.1 c.loop-k-test.true (sym c.is_finding.ensures ∙ c.if-is_finding.true)
-
-pub loop-k-smaller : goal.loop-k-smaller
-loop-k-smaller c = falls _ _ c.loop-k-test.true
 
 pub loop-k-preserved : goal.loop-k-preserved
 loop-k-preserved c =

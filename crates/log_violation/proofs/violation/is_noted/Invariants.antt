@@ -9,6 +9,3 @@ use Rattle.log_violation.proofs.violation.is_noted.Given as goal
 abbrev pub invariant-loop-k : goal.invariant-loop-k
 invariant-loop-k l =
     (l.k ≤ l.n) × (is_noted l.findings l.n (finding_value l.f) ≡ noted_from l.findings l.k (l.n - l.k) (finding_value l.f))
-
-abbrev pub decreases-loop-k : goal.decreases-loop-k
-decreases-loop-k l = l.n - l.k

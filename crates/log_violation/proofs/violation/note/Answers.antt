@@ -25,6 +25,6 @@ returns c =
     let e = c.is_noted.ensures in
     let z = c.if-is_noted.false in
     elim c.if-n-lt-FINDING_LIMIT.branch [
-      | then-n-lt-FINDING_LIMIT w ↦ note_new t s.n f c.if-n-gt-FINDING_LIMIT.false _ e z w.if-n-lt-FINDING_LIMIT.true _ (w.findings-is ∙ w.put_finding.ensures)
+      | then-n-lt-FINDING_LIMIT w ↦ note_new t s.n f c.if-n-gt-FINDING_LIMIT.false _ e z w.if-n-lt-FINDING_LIMIT.true _ (w.findings-is ∙ w.put.ensures)
       | else-n-lt-FINDING_LIMIT w ↦ subst (Noted t s.n f (s.n + 1)) (sym w.findings-is) (note_full t s.n f c.if-n-gt-FINDING_LIMIT.false _ e z w.if-n-lt-FINDING_LIMIT.false)
     ]

@@ -1,15 +1,12 @@
 -- `log_violation::violation::note_in` meets its contract.
 -- Assumes nothing.
-use native.Mathlib.Omega.{arith}
 use Rattle.table_rows.specs.Values.{finding_value}
 use Rattle.log_violation.proofs.ViolationLaws.{in_room, in_full}
 use Rattle.log_violation.proofs.violation.note_in.Goals as goal
 
 pub returns-then-n-gt-FINDING_LIMIT : goal.returns-then-n-gt-FINDING_LIMIT
 returns-then-n-gt-FINDING_LIMIT c =
-    let q = c.requires.0 in
-    let k = c.finding_count-held.ensures.is in
-    in_full c.args.history.now (finding_value c.args.f) c.requires.1 _ k _ _ c.note-n.ensures (omega arith) c.if-n-gt-FINDING_LIMIT.true
+    in_full c.args.history.now (finding_value c.args.f) c.requires.1 _ c.finding_count-held.ensures.is _ _ c.note-n.ensures c.if-n-gt-FINDING_LIMIT.true
 
 pub returns : goal.returns
 returns c =

@@ -1,11 +1,11 @@
 -- `logical_log::observation::observe_prefixes` meets its contract.
 -- Assumes nothing.
 use Prim.Native.Nat.{min}
-use mathlib.Core.Path.{ap, ◌∙◌}
+use borrow.Author.Rules.{rules}
+use mathlib.Core.Path.{◌≡◌}
 use native.Mathlib.Omega.{arith}
-use lib.ListN.{length}
 use Rattle.storage.proofs.WellFormed.{formed}
-use Rattle.logical_log.proofs.Whole.{total_small, observed_six, observed_seven, observed_ok, observed_room, table_length}
+use Rattle.logical_log.proofs.Whole.{total_small, observed_six, observed_seven, observed_ok, observed_room}
 use Rattle.logical_log.proofs.observation.observe_prefixes.Goals as goal
 
 pub prefix_count-count-requires : goal.prefix_count-count-requires
@@ -20,21 +20,24 @@ overflow_add-total c =
 
 pub returns-then-most-total : goal.returns-then-most-total
 returns-then-most-total c =
-    observed_six (min c.args.limit 512) c.args.history.now c.args.view.now c.args.entries c.args.node.0 _ _ _ _ _ c.requires c.judge_view-judged.ensures c.prefix_count-count.ensures.is _ c.most_stored-most.ensures c.if-most-total.true
+    let m : c.min-most.result ≡ min c.args.limit 512 = search rules in
+    observed_six (min c.args.limit 512) c.args.history.now c.args.view.now c.args.entries c.args.node.0 _ _ _ _ _ c.requires c.judge_view-judged.ensures c.prefix_count-count.ensures.is _ m c.if-most-total.true
 
 pub returns-then-held-gt-FINDING_LIMIT : goal.returns-then-held-gt-FINDING_LIMIT
 returns-then-held-gt-FINDING_LIMIT c =
-    observed_seven (min c.args.limit 512) c.args.history.now c.args.view.now c.args.entries c.args.node.0 _ _ _ _ _ c.requires c.judge_view-judged.ensures c.prefix_count-count.ensures.is _ c.most_stored-most.ensures c.if-most-total.false c.if-held-gt-FINDING_LIMIT.true
+    let m : c.min-most.result ≡ min c.args.limit 512 = search rules in
+    observed_seven (min c.args.limit 512) c.args.history.now c.args.view.now c.args.entries c.args.node.0 _ _ _ _ _ c.requires c.judge_view-judged.ensures c.prefix_count-count.ensures.is _ m c.if-most-total.false c.if-held-gt-FINDING_LIMIT.true
 
 pub write_view-requires : goal.write_view-requires
 write_view-requires c =
+    let m : c.min-most.result ≡ min c.args.limit 512 = search rules in
     let j = c.judge_view-judged.ensures in (
-      observed_room (min c.args.limit 512) c.args.history.now c.args.view.now c.args.entries c.args.node.0 _ _ _ _ _ c.requires j c.prefix_count-count.ensures.is _ c.most_stored-most.ensures c.if-most-total.false (omega arith),
+      observed_room (min c.args.limit 512) c.args.history.now c.args.view.now c.args.entries c.args.node.0 _ _ _ _ _ c.requires j c.prefix_count-count.ensures.is _ m c.if-most-total.false (omega arith),
       c.requires.is_node,
-      ap length j.table ∙ table_length _ _ _ _ c.requires.right,
     )
 
 pub returns : goal.returns
 returns c =
-    observed_ok (min c.args.limit 512) c.args.history.now c.args.view.now c.args.entries c.args.node.0 _ _ _ _ _ c.requires c.judge_view-judged.ensures c.prefix_count-count.ensures.is _ c.most_stored-most.ensures c.if-most-total.false c.if-held-gt-FINDING_LIMIT.false
+    let m : c.min-most.result ≡ min c.args.limit 512 = search rules in
+    observed_ok (min c.args.limit 512) c.args.history.now c.args.view.now c.args.entries c.args.node.0 _ _ _ _ _ c.requires c.judge_view-judged.ensures c.prefix_count-count.ensures.is _ m c.if-most-total.false c.if-held-gt-FINDING_LIMIT.false
     _ c.write_view.ensures

@@ -9,13 +9,13 @@ use native.Mathlib.Omega.{arith}
 use mathlib.Core.Path.{refl}
 use Rattle.prefix_lookup.proofs.lookup.front_through.Goals as goal
 
-pub node_table-requires : goal.node_table-requires
-node_table-requires c =
+pub of-requires : goal.of-requires
+of-requires c =
     let l = (formed _ c.requires.0).long in
     omega arith
 
-pub prefix_table-requires : goal.prefix_table-requires
-prefix_table-requires c =
+pub of-requires-2 : goal.of-requires-2
+of-requires-2 c =
     let l = (formed _ c.requires.0).long in
     omega arith
 
@@ -25,13 +25,13 @@ slice_through-requires c =
     let f = formed h c.requires.0 in
     let x = c.node_at-x in (
       word_at h 0 2,
-      table_lent h _ _ f c.prefix_table.ensures.is refl,
-      front_within h c.args.node.0 _ c.node_table.ensures.is (node_value x.result) x.ensures f c.requires.1,
+      table_lent h _ _ f c.of-2.ensures.is refl,
+      front_within h c.args.node.0 _ c.of.ensures.is (node_value x.result) x.ensures f c.requires.1,
     )
 
 pub returns : goal.returns
 returns c =
     let s = c.args in
     let x = c.node_at-x in
-    through_is s.history.now s.node.0 _ c.node_table.ensures.is (node_value x.result) x.ensures _ c.prefix_table.ensures.is s.index.0 _
+    through_is s.history.now s.node.0 _ c.of.ensures.is (node_value x.result) x.ensures _ c.of-2.ensures.is s.index.0 _
     c.slice_through.ensures

@@ -10,16 +10,16 @@ use Rattle.view_judging.proofs.judging.is_other.Goals as goal
 
 pub same_prefix-requires : goal.same_prefix-requires
 same_prefix-requires c =
-    let x = stored_number _ _ c.first_of-remembered.ensures _ c.in-Prefix.is in
-    (c.args.count, c.requires.0, subst (λ (k : ℕ). k ≤ c.args.count) (sym x.0) (first_within _ _ _ _), c.requires.2)
+    let x = stored_number _ _ c.first_of.ensures _ c.in-Some.is in
+    (c.args.prefixes.count, c.requires.0, subst (λ (k : ℕ). k ≤ c.args.prefixes.count) (sym x.0) (first_within _ _ _ _), c.requires.2)
 
-pub returns-in-Prefix : goal.returns-in-Prefix
-returns-in-Prefix c =
+pub returns : goal.returns
+returns c =
     let s = c.args in
-    other_same (prefix_row s.prefixes.now) s.count s.index.0 s.term.0 _ c.first_of-remembered.ensures _ c.in-Prefix.is
+    other_same (prefix_row s.prefixes.rows.now) s.prefixes.count s.index.0 s.term.0 _ c.first_of.ensures _ c.in-Some.is
     s.p.0 _ c.same_prefix.ensures
 
-pub returns-in-Nothing : goal.returns-in-Nothing
-returns-in-Nothing c =
+pub returns-in_default : goal.returns-in_default
+returns-in_default c =
     let s = c.args in
-    other_none (prefix_row s.prefixes.now) s.count s.index.0 s.term.0 _ c.first_of-remembered.ensures s.p.0 c.in-Nothing.is
+    other_none (prefix_row s.prefixes.rows.now) s.prefixes.count s.index.0 s.term.0 _ c.first_of.ensures s.p.0 c.in_default.is

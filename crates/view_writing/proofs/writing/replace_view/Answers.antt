@@ -13,6 +13,6 @@ pub returns : goal.returns
 unfolding view_replaced
 returns c =
     let s = c.args in
-    let read = ap (λ (x : NodeRow). x.unseen) c.node_at-x.ensures ∙ ap (λ (t : Bytes). (row_of_node t s.node.0).unseen) c.node_table.ensures.is in
-    c.set_node.ensures
+    let read = ap (λ (x : NodeRow). x.unseen) c.node_at-x.ensures ∙ ap (λ (t : Bytes). (row_of_node t s.node.0).unseen) c.of.ensures.is in
+    c.set.ensures
     ∙ ap (λ (u : ℕ). put_bytes s.history.now (9 + s.node.0 * 6) (node_bytes (record { front = s.front.0; last = s.last.0; unseen = u }))) read

@@ -9,11 +9,11 @@ pub replace_view-requires : goal.replace_view-requires
 replace_view-requires c =
     (c.requires.1, stored_length _ _ _ _ _ _ c.requires.0 c.store-front.ensures)
 
-pub keep_findings-requires : goal.keep_findings-requires
-keep_findings-requires c =
-    (ap length c.replace_view.ensures ∙ replaced_length _ _ _ _ ∙ stored_length _ _ _ _ _ _ c.requires.0 c.store-front.ensures, c.requires.2)
+pub keep-requires : goal.keep-requires
+keep-requires c =
+    ap length c.replace_view.ensures ∙ replaced_length _ _ _ _ ∙ stored_length _ _ _ _ _ _ c.requires.0 c.store-front.ensures
 
 pub returns : goal.returns
 returns c =
-    view_written_lem c.args.history.now c.args.count c.args.view.now c.args.rest c.args.node.0 _ _ _ c.args.held _ _ _
-    c.store-front.ensures c.last_index-last.ensures c.replace_view.ensures c.keep_findings.ensures
+    view_written_lem c.args.history.now c.args.count c.args.view.now c.args.rest c.args.node.0 _ _ _ c.args.notes.now.held _ _ _
+    c.store-front.ensures c.last_index-last.ensures c.replace_view.ensures c.keep.ensures
