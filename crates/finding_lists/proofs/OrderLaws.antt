@@ -11,10 +11,11 @@ use Rattle.model.specs.History.{Finding}
 use Rattle.model.proofs.Tests.{cond_true, cond_false}
 use Rattle.storage_bytes.specs.Lists.{tabulate}
 use Rattle.storage_bytes.proofs.ListLaws.{tabulate_cons, tabulate_none}
-use Rattle.finding_lists.specs.declared.findings.FindingAnswer.{FindingAnswer}
+use Rattle.table_rows.specs.declared.findings.Found.{Found}
+use Rattle.std.specs.Prelude.{Option, None}
 use Rattle.finding_lists.specs.Findings.{comes_before, count_first, finding_of, pick_ordered}
 
--- ---- one finding held against another, as the code does
+-- ---- keys held against one another
 
 -- where a key differs it decides, and else what comes after it
 pub key_differs : (a b : ℕ) (c : Bool) → (a ≡ b → ⊥) → ltb a b ≡ (ltb a b || (eqb a b && c))
@@ -26,23 +27,6 @@ key_differs a b c d = rw (ne_eqb a b d) (or_none (ltb a b))
 
 pub key_same : (a b : ℕ) (c : Bool) → a ≡ b → c ≡ (ltb a b || (eqb a b && c))
 key_same a b c e = rw (eq-eqb a b e, le-ltb a b (omega arith))
-
-module _ (f g : Finding) where
-  pub other_name : (f.name ≡ g.name → ⊥) → ltb f.name g.name ≡ comes_before f g
-  unfolding comes_before
-  other_name d = key_differs f.name g.name _ d
-
-  pub other_node : f.name ≡ g.name → (f.node ≡ g.node → ⊥) → ltb f.node g.node ≡ comes_before f g
-  unfolding comes_before
-  other_node a d = key_differs f.node g.node _ d ∙ key_same f.name g.name _ a
-
-  pub other_term : f.name ≡ g.name → f.node ≡ g.node → (f.term ≡ g.term → ⊥) → ltb f.term g.term ≡ comes_before f g
-  unfolding comes_before
-  other_term a b d = key_differs f.term g.term _ d ∙ key_same f.node g.node _ b ∙ key_same f.name g.name _ a
-
-  pub same_term : f.name ≡ g.name → f.node ≡ g.node → f.term ≡ g.term → ltb f.index g.index ≡ comes_before f g
-  unfolding comes_before
-  same_term a b d = key_same f.term g.term _ d ∙ key_same f.node g.node _ b ∙ key_same f.name g.name _ a
 
 -- ---- counting
 
@@ -65,9 +49,9 @@ module _ (f : Finding) (row : ℕ → Finding) {r : ℕ} (count j m : ℕ) where
 
 -- ---- the search
 
-module _ (row : ℕ → Finding) {r : FindingAnswer} (k m n p : ℕ) (inv : r ≡ pick_ordered (tabulate row k (m - k)) n) (h : k < m)
+module _ (row : ℕ → Finding) {r : Option Found} (k m n p : ℕ) (inv : r ≡ pick_ordered (tabulate row k (m - k)) n) (h : k < m)
     (e : p ≡ count_first (row k) (tabulate row (k + 1) (m - (k + 1)))) where
-  later : ℕ → FindingAnswer
+  later : ℕ → Option Found
   later i = pick_ordered (tabulate row (k + 1) (m - (k + 1))) i
 
   step : r ≡ cond (eqb n p) (finding_of (row k)) (later (cond (ltb p n) (n - 1) n))
@@ -90,6 +74,6 @@ module _ (row : ℕ → Finding) {r : FindingAnswer} (k m n p : ℕ) (inv : r �
   order_front z l q =
       step ∙ cond_false (eqb n p) _ _ (ne_eqb n p z) ∙ ap later (cond_false (ltb p n) (n - 1) n (le-ltb p n l) ∙ sym q)
 
-pub order_none : (row : ℕ → Finding) {r : FindingAnswer} (k m n : ℕ) → r ≡ pick_ordered (tabulate row k (m - k)) n → m ≤ k → r ≡ FindingAnswer.NoMore
+pub order_none : (row : ℕ → Finding) {r : Option Found} (k m n : ℕ) → r ≡ pick_ordered (tabulate row k (m - k)) n → m ≤ k → r ≡ None
 unfolding pick_ordered
 order_none row k m n inv h = inv ∙ ap (λ (l : List Finding). pick_ordered l n) (tabulate_none row k m h)

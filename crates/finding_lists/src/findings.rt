@@ -8,31 +8,15 @@ ghost use Rattle.table_rows.specs.Values.{finding_value};
 ghost use Rattle.finding_lists.specs.Findings.{comes_before, count_first, pick_ordered, finding_answer};
 
 use storage::head::finding_count;
-use storage_bytes::layout::finding_table;
+use storage_bytes::layout::FINDINGS;
 use table_rows::findings::{Found, finding_at as row_at};
 
-#[derive(Clone, Copy)]
-pub enum FindingAnswer {
-    // The finding asked for.
-    Finding(Found),
-    // There are not so many.
-    NoMore,
-}
-
 // f is printed before g.
+#[tactic(auto, unfolding(crate::specs::Findings::comes_before))]
 fn comes_before(f: Found, g: Found) -> bool
     ensures { result ≡ comes_before (finding_value f) (finding_value g) }
 {
-    if f.name != g.name {
-        return f.name < g.name;
-    }
-    if f.node.0 != g.node.0 {
-        return f.node.0 < g.node.0;
-    }
-    if f.term.0 != g.term.0 {
-        return f.term.0 < g.term.0;
-    }
-    f.index.0 < g.index.0
+    f < g
 }
 
 // How many of the rows from k on, before m, f does not come before.
@@ -41,44 +25,39 @@ fn count_first(findings: &[u8], k: usize, m: usize, f: Found) -> usize
     ensures { result ≡ count_first (finding_value f) (tabulate (finding_row findings.now) k (m - k)) }
 {
     let mut count = 0;
-    let mut j = k;
-    while j < m {
-        let g = row_at(findings, j);
-        if !comes_before(f, g) {
+    for j in k..m {
+        if !comes_before(f, row_at(findings, j)) {
             count += 1;
         }
-        j += 1;
     }
     count
 }
 
 // The n-th of the first m rows in printed order, counted from 0.
-fn finding_in(findings: &[u8], m: usize, n: usize) -> FindingAnswer
+fn finding_in(findings: &[u8], m: usize, n: usize) -> Option<Found>
     requires { (m ≤ 128) × (length findings.now ≡ 1024) }
     ensures { result ≡ pick_ordered (finding_rows findings.now m) n }
 {
     let mut left = n;
-    let mut k = 0;
-    while k < m {
+    for k in 0..m {
         let f = row_at(findings, k);
         let p = count_first(findings, k + 1, m, f);
         if left == p {
-            return FindingAnswer::Finding(f);
+            return Some(f);
         }
         if p < left {
             left -= 1;
         }
-        k += 1;
     }
-    FindingAnswer::NoMore
+    None
 }
 
 // The n-th printed finding, counted from 0.
-pub fn finding_at(history: &[u8], n: usize) -> FindingAnswer
+pub fn finding_at(history: &[u8], n: usize) -> Option<Found>
     requires { well_formed history.now ≡ true }
     ensures { result ≡ finding_answer history.now n }
 {
     let m = finding_count(history);
-    let findings = finding_table(history);
+    let findings = FINDINGS.of(history);
     finding_in(findings, m, n)
 }

@@ -10,7 +10,9 @@ use Rattle.model.specs.Answer.{answer, is_accepted}
 use Rattle.model.proofs.Tests.{either}
 use Rattle.storage.specs.Rules.{well_formed}
 use Rattle.storage.specs.Decode.{decode}
-use Rattle.answers.specs.declared.answer.Answer.{Answer}
+use Rattle.std.specs.Prelude.{Result, Ok, Err}
+use Rattle.answers.specs.declared.answer.Accepted.{Accepted}
+use Rattle.answers.specs.declared.answer.Refusal.{Refusal}
 use Rattle.answers.specs.declared.numbers.Reply.{Reply}
 use Rattle.answers.specs.Numbers.{refusal_in, reply_of, model_reply}
 use Rattle.submission.specs.Replies.{Submitted}
@@ -25,18 +27,18 @@ abbrev reply_for : Option model.Answer → Reply
 reply_for none = refusal_in 12
 reply_for (some a) = model_reply a
 
-reply_modelled : (a : Answer) → reply_of a ≡ reply_for (modelled a)
-reply_modelled (Answer.Accepted v n) = refl
-reply_modelled (Answer.Unreadable f) = refl
-reply_modelled Answer.PrefixesFull = refl
-reply_modelled Answer.FindingsFull = refl
-reply_modelled Answer.OldExceedsNew = refl
-reply_modelled Answer.LengthExceedsFront = refl
-reply_modelled Answer.CertificatesFull = refl
-reply_modelled Answer.NumberTaken = refl
-reply_modelled Answer.StorageBroken = refl
+reply_modelled : (a : Result Accepted Refusal) → reply_of a ≡ reply_for (modelled a)
+reply_modelled (Ok a) = refl
+reply_modelled (Err (Refusal.Unreadable f)) = refl
+reply_modelled (Err Refusal.PrefixesFull) = refl
+reply_modelled (Err Refusal.FindingsFull) = refl
+reply_modelled (Err Refusal.OldExceedsNew) = refl
+reply_modelled (Err Refusal.LengthExceedsFront) = refl
+reply_modelled (Err Refusal.CertificatesFull) = refl
+reply_modelled (Err Refusal.NumberTaken) = refl
+reply_modelled (Err Refusal.StorageBroken) = refl
 
-pub reply_alike : (a : Answer) (b : model.Answer) → modelled a ≡ some b → reply_of a ≡ model_reply b
+pub reply_alike : (a : Result Accepted Refusal) (b : model.Answer) → modelled a ≡ some b → reply_of a ≡ model_reply b
 reply_alike a b e = reply_modelled a ∙ ap reply_for e
 
 -- a reply with a number is to a refused record
@@ -46,7 +48,7 @@ number_refused (model.refused r) f = refl
 
 -- ---- the promise
 
-module _ (h s : Bytes) (a : Answer) (h' : Bytes) (p : Submitted h s a h') where
+module _ (h s : Bytes) (a : Result Accepted Refusal) (h' : Bytes) (p : Submitted h s a h') where
   means : well_formed h ≡ true → Means h (decode h) s a h'
   means w = submit_means h (decode h) s a h' (stand h w) p
 

@@ -5,25 +5,27 @@ use Prim.Native.Nat.{ℕ, zero, suc}
 use mathlib.Core.Path.{◌≡◌, refl, sym, ◌∙◌, ap}
 use mathlib.Core.Bool.{true, false, cond}
 use mathlib.Core.List.{List, [], ◌∷◌}
+use Rattle.std.specs.Prelude.{Option, Some, None, IfSome, IfNone, Result}
 use Rattle.model.specs.Sizes.{Bytes}
 use Rattle.model.specs.History.{History}
 use Rattle.model.specs.Lists.{finding_list, leader_list, unseen_list, unknown_list}
-use Rattle.model.proofs.Tests.{cond_true, cond_false}
+use mathlib.Core.Logic.{⊎_elim}
+use Rattle.model.proofs.Tests.{cond_true, cond_false, either}
 use Rattle.storage.specs.Rules.{well_formed}
 use Rattle.storage.specs.Decode.{decode}
 use Rattle.storage.specs.Fresh.{FreshMade, made_number}
-use Rattle.storage.specs.declared.fresh.Made.{Made}
+use Rattle.storage.specs.declared.fresh.WrongLength.{WrongLength}
 use Rattle.storage.proofs.Meanings.{stand, end_is}
 use Rattle.index_lists.specs.Picked.{nth}
 use Rattle.storage.specs.Values.{committed_end}
 use Rattle.index_lists.specs.Committed.{owner_in}
-use Rattle.finding_lists.specs.declared.findings.FindingAnswer.{FindingAnswer}
+use Rattle.table_rows.specs.declared.findings.Found.{Found}
 use Rattle.finding_lists.specs.Findings.{finding_of, finding_answer}
-use Rattle.lists.specs.declared.leaders.LeaderAnswer.{LeaderAnswer}
+use Rattle.lists.specs.declared.leaders.Leader.{Leader as Printed}
 use Rattle.lists.specs.Leaders.{leader_as, leader_answer}
-use Rattle.index_lists.specs.declared.unseen.UnseenAnswer.{UnseenAnswer}
+use Rattle.index_lists.specs.declared.unseen.Unseen.{Unseen as Mark}
 use Rattle.index_lists.specs.Unseen.{mark_of, unseen_answer}
-use Rattle.index_lists.specs.declared.unknown.UnknownAnswer.{UnknownAnswer}
+use Rattle.units.specs.declared.LogIndex.{LogIndex}
 use Rattle.index_lists.specs.Unknown.{index_of, unknown_answer}
 use Rattle.lists.proofs.Meaning.{owner_told, findings_told, leaders_told, unseen_told, unknown_told}
 use Rattle.history.specs.declared.exports.FindingReply.{FindingReply}
@@ -48,21 +50,31 @@ module _ {X A R : Type 0} (h : Bytes) (n : ℕ) (list : History → List X) (of 
       er ∙ ap said (ea ∙ told) ∙ nth_as of none said (list (decode h)) n ∙ sym (cond_true (well_formed h) _ broken w)
 
 module _ (h : Bytes) (n : ℕ) where
-  pub finding_here : well_formed h ≡ true → (a : FindingAnswer) → a ≡ finding_answer h n → (r : FindingReply) → r ≡ found_as a → r ≡ finding_out h n
-  finding_here w =
-      here h n finding_list finding_of FindingAnswer.NoMore (finding_answer h n) found_as (no_finding 12) w (findings_told h (decode h) n (stand h w))
+  pub finding_here : well_formed h ≡ true → (a : Option Found) → a ≡ finding_answer h n → (r : FindingReply) → r ≡ found_as a → r ≡ finding_out h n
+  finding_here w = here h n finding_list finding_of None (finding_answer h n) found_as (no_finding 12) w (findings_told h (decode h) n (stand h w))
 
-  pub leader_here : well_formed h ≡ true → (a : LeaderAnswer) → a ≡ leader_answer h n → (r : LeaderReply) → r ≡ leader_is a → r ≡ leader_out h n
-  leader_here w =
-      here h n leader_list leader_as LeaderAnswer.NoMore (leader_answer h n) leader_is (no_leader 12) w (leaders_told h (decode h) n (stand h w))
+  pub leader_here : well_formed h ≡ true → (a : Option Printed) → a ≡ leader_answer h n → (r : LeaderReply) → r ≡ leader_is a → r ≡ leader_out h n
+  leader_here w = here h n leader_list leader_as None (leader_answer h n) leader_is (no_leader 12) w (leaders_told h (decode h) n (stand h w))
 
-  pub mark_here : well_formed h ≡ true → (a : UnseenAnswer) → a ≡ unseen_answer h n → (r : UnseenReply) → r ≡ mark_is a → r ≡ unseen_out h n
-  mark_here w =
-      here h n unseen_list mark_of UnseenAnswer.NoMore (unseen_answer h n) mark_is (no_mark 12) w (unseen_told h (decode h) n (stand h w))
+  pub mark_here : well_formed h ≡ true → (a : Option Mark) → a ≡ unseen_answer h n → (r : UnseenReply) → r ≡ mark_is a → r ≡ unseen_out h n
+  mark_here w = here h n unseen_list mark_of None (unseen_answer h n) mark_is (no_mark 12) w (unseen_told h (decode h) n (stand h w))
 
-  pub index_here : well_formed h ≡ true → (a : UnknownAnswer) → a ≡ unknown_answer h n → (r : UnknownReply) → r ≡ index_is a → r ≡ unknown_out h n
-  index_here w =
-      here h n unknown_list index_of UnknownAnswer.NoMore (unknown_answer h n) index_is (no_index 12) w (unknown_told h (decode h) n (stand h w))
+  pub index_here : well_formed h ≡ true → (a : Option LogIndex) → a ≡ unknown_answer h n → (r : UnknownReply) → r ≡ index_is a → r ≡ unknown_out h n
+  index_here w = here h n unknown_list index_of None (unknown_answer h n) index_is (no_index 12) w (unknown_told h (decode h) n (stand h w))
+
+-- One law for the readers' replies: `post` tells what the closure gives, which is `answer`.
+replied_as : {A R : Type 0} (post : Option A → Type 0) (answer : Option A) (said : Option A → R) (r : R)
+    → (x : Option A) → post x → IfSome x (λ v. r ≡ said (Some v)) → IfNone x (r ≡ said None) → ((y : Option A) → post y → y ≡ answer) → r ≡ said answer
+replied_as post answer said r (Some v) q e f p = e ∙ ap said (p (Some v) q)
+replied_as post answer said r None q e f p = f ∙ ap said (p None q)
+
+pub replied : {A R : Type 0} (h : Bytes) (post : Option A → Type 0) (answer : Option A) (said : Option A → R) (broken out r : R)
+    → (well_formed h ≡ false → r ≡ broken)
+    → (well_formed h ≡ true → (x : Option A) × post x × IfSome x (λ v. r ≡ said (Some v)) × IfNone x (r ≡ said None))
+    → ((x : Option A) → post x → x ≡ answer)
+    → (well_formed h ≡ true → said answer ≡ out) → (well_formed h ≡ false → broken ≡ out) → r ≡ out
+replied h post answer said broken out r b g p here' broken' =
+    ⊎_elim (λ w. let x = g w in replied_as post answer said r x.0 x.1 x.2 x.3 p ∙ here' w) (λ w. b w ∙ broken' w) (either (well_formed h))
 
 -- where the rules are broken
 pub is_broken : {R : Type 0} (h : Bytes) (given broken : R) → well_formed h ≡ false → broken ≡ cond (well_formed h) given broken
@@ -76,5 +88,5 @@ module _ (h : Bytes) where
       ∙ sym (cond_true (well_formed h) _ _ w)
 
 -- a fresh history, by the number of the answer
-pub fresh_made : (h : Bytes) (a : Made) (h' : Bytes) (r : ℕ) → FreshMade h a h' → r ≡ made_number a → MadeFresh h r h'
+pub fresh_made : (h : Bytes) (a : Result Unit WrongLength) (h' : Bytes) (r : ℕ) → FreshMade h a h' → r ≡ made_number a → MadeFresh h r h'
 fresh_made h a h' r m e = record { answer = e ∙ m.number; bytes = m.leaves }

@@ -1,7 +1,7 @@
 -- What the exported functions give, in the model's words: for any bytes, of a history and of a record. `decode h` is the
 -- history that bytes which keep the storage rules stand for.
 -- Assumes nothing.
-use Rattle.std.specs.Prelude.{ℕ, ◌≡◌, true, false, cond}
+use Rattle.std.specs.Prelude.{ℕ, ◌≡◌, true, false, cond, Option, Some, None}
 use Rattle.model.specs.Sizes.{Bytes}
 use Rattle.model.specs.History.{Finding}
 use Rattle.model.specs.Leaders.{Leader}
@@ -11,10 +11,10 @@ use Rattle.storage.specs.Rules.{right_length, well_formed}
 use Rattle.storage.specs.Decode.{decode}
 use Rattle.storage.specs.Fresh.{fresh_history}
 use Rattle.index_lists.specs.Picked.{nth}
-use Rattle.finding_lists.specs.declared.findings.FindingAnswer.{FindingAnswer}
-use Rattle.lists.specs.declared.leaders.LeaderAnswer.{LeaderAnswer}
-use Rattle.index_lists.specs.declared.unseen.UnseenAnswer.{UnseenAnswer}
-use Rattle.index_lists.specs.declared.unknown.UnknownAnswer.{UnknownAnswer}
+use Rattle.table_rows.specs.declared.findings.Found.{Found}
+use Rattle.lists.specs.declared.leaders.Leader.{Leader as Printed}
+use Rattle.index_lists.specs.declared.unseen.Unseen.{Unseen as Mark}
+use Rattle.units.specs.declared.LogIndex.{LogIndex}
 use Rattle.answers.specs.declared.numbers.Reply.{Reply}
 use Rattle.history.specs.declared.exports.FindingReply.{FindingReply}
 use Rattle.history.specs.declared.exports.LeaderReply.{LeaderReply}
@@ -53,10 +53,10 @@ no_finding k = record { state = k; name = 0; node = 0; index = 0; term = 0 }
 abbrev pub a_finding : Finding → FindingReply
 a_finding f = record { state = 0; name = f.name; node = f.node; index = f.index; term = f.term }
 
-abbrev pub found_as : FindingAnswer → FindingReply
-found_as (FindingAnswer.Finding f) =
+abbrev pub found_as : Option Found → FindingReply
+found_as (Some f) =
     record { state = 0; name = f.name; node = f.node.0; index = f.index.0; term = f.term.0 }
-found_as FindingAnswer.NoMore = no_finding 1
+found_as None = no_finding 1
 
 abbrev pub finding_out : Bytes → ℕ → FindingReply
 finding_out h n = cond (well_formed h) (nth a_finding (no_finding 1) (finding_list (decode h)) n) (no_finding 12)
@@ -67,9 +67,9 @@ no_leader k = record { state = k; term = 0; leader = 0 }
 abbrev pub a_leader : Leader → LeaderReply
 a_leader l = record { state = 0; term = l.term; leader = l.leader }
 
-abbrev pub leader_is : LeaderAnswer → LeaderReply
-leader_is (LeaderAnswer.Leader t l) = record { state = 0; term = t.0; leader = l.0 }
-leader_is LeaderAnswer.NoMore = no_leader 1
+abbrev pub leader_is : Option Printed → LeaderReply
+leader_is (Some l) = record { state = 0; term = l.term.0; leader = l.leader.0 }
+leader_is None = no_leader 1
 
 abbrev pub leader_out : Bytes → ℕ → LeaderReply
 leader_out h n = cond (well_formed h) (nth a_leader (no_leader 1) (leader_list (decode h)) n) (no_leader 12)
@@ -80,9 +80,9 @@ no_mark k = record { state = k; node = 0; index = 0 }
 abbrev pub a_mark : Unseen → UnseenReply
 a_mark u = record { state = 0; node = u.node; index = u.index }
 
-abbrev pub mark_is : UnseenAnswer → UnseenReply
-mark_is (UnseenAnswer.Mark n i) = record { state = 0; node = n.0; index = i.0 }
-mark_is UnseenAnswer.NoMore = no_mark 1
+abbrev pub mark_is : Option Mark → UnseenReply
+mark_is (Some u) = record { state = 0; node = u.node.0; index = u.index.0 }
+mark_is None = no_mark 1
 
 abbrev pub unseen_out : Bytes → ℕ → UnseenReply
 unseen_out h n = cond (well_formed h) (nth a_mark (no_mark 1) (unseen_list (decode h)) n) (no_mark 12)
@@ -93,9 +93,9 @@ no_index k = record { state = k; index = 0 }
 abbrev pub an_index : ℕ → UnknownReply
 an_index i = record { state = 0; index = i }
 
-abbrev pub index_is : UnknownAnswer → UnknownReply
-index_is (UnknownAnswer.Index i) = record { state = 0; index = i.0 }
-index_is UnknownAnswer.NoMore = no_index 1
+abbrev pub index_is : Option LogIndex → UnknownReply
+index_is (Some i) = record { state = 0; index = i.0 }
+index_is None = no_index 1
 
 abbrev pub unknown_out : Bytes → ℕ → UnknownReply
 unknown_out h n = cond (well_formed h) (nth an_index (no_index 1) (unknown_list (decode h)) n) (no_index 12)

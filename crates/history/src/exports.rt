@@ -1,26 +1,54 @@
 // The library for its callers: byte slices and numbers, and nothing is asked of the bytes. A reader's `state` is 0 where there
 // is an element, 1 where there are not so many, 12 where the history breaks its storage rules. `history_c` exports the same
 // functions to callers in other languages.
-ghost use Rattle.std.specs.Prelude.{◌≡◌};
+ghost use Rattle.std.specs.Prelude.{◌≡◌, ℕ, true, false, Option, Some, IfSome, IfNone};
+ghost use Rattle.storage.specs.Rules.{well_formed};
 ghost use Rattle.storage_bytes.specs.Layout.{history_length};
-ghost use Rattle.history.specs.Exports.{Handed, MadeFresh, found_as, leader_is, mark_is, index_is, finding_out, leader_out, unseen_out, unknown_out, committed_out};
+ghost use Rattle.history.specs.Exports.{Handed, MadeFresh, no_finding, found_as, no_leader, leader_is, no_mark, mark_is, no_index, index_is, finding_out, leader_out, unseen_out, unknown_out, committed_out};
 
-use answers::numbers::{Reply, reply_of};
-use finding_lists::findings::{FindingAnswer, finding_at};
+use answers::numbers::Reply;
+use finding_lists::findings::finding_at;
 use index_lists::committed::{committed_length, committed_owner};
-use index_lists::unknown::{UnknownAnswer, unknown_at};
-use index_lists::unseen::{UnseenAnswer, unseen_at};
-use lists::leaders::{LeaderAnswer, leader_at};
+use index_lists::unknown::unknown_at;
+use index_lists::unseen::{Unseen, unseen_at};
+use lists::leaders::{Leader, leader_at};
 use rules::whole::well_formed;
-use storage::fresh::{Made, fresh};
+use storage::fresh::{WrongLength, fresh};
 use storage_bytes::layout::HISTORY_LENGTH;
 use submission::submit::submit;
+use table_rows::findings::Found;
+use units::LogIndex;
 
+// The states of a reply are numbers because callers in C read them.
 const HERE: u8 = 0;
 
 const NO_MORE: u8 = 1;
 
 const BROKEN: u8 = 12;
+
+// A reply of the readers.
+trait Stated: Copy {
+    ghost nothing: { ℕ → Self };
+
+    // No element: the state, and zeros.
+    fn nothing(state: u8) -> Self
+        ensures { result ≡ nothing state };
+}
+
+// The reply of the element that a reader gives, where the history keeps its storage rules.
+fn reply<T: Copy, R: Stated + From<T>, F: FnOnce() -> Option<T>>(history: &[u8], nth: F) -> R
+    requires { well_formed history.now ≡ true → F.pre nth }
+    ensures broken { well_formed history.now ≡ false → result ≡ R.nothing 12 }
+    ensures given { well_formed history.now ≡ true → (x : Option T) × F.post nth x × IfSome x (λ v. R.from_gives v result) × IfNone x (result ≡ R.nothing 1) }
+{
+    if !well_formed(history) {
+        return R::nothing(BROKEN);
+    }
+    match nth() {
+        Some(x) => R::from(x),
+        None => R::nothing(NO_MORE),
+    }
+}
 
 // How many bytes a history has.
 pub fn gamiwhoru_length() -> usize
@@ -33,9 +61,9 @@ pub fn gamiwhoru_length() -> usize
 pub fn gamiwhoru_fresh(history: &mut [u8]) -> u8
     ensures { MadeFresh history.old result history.new }
 {
-    match fresh(&mut history[..]) {
-        Made::Fresh => 0,
-        Made::WrongLength => 12,
+    match fresh(history) {
+        Ok(()) => 0,
+        Err(WrongLength) => BROKEN,
     }
 }
 
@@ -43,8 +71,7 @@ pub fn gamiwhoru_fresh(history: &mut [u8]) -> u8
 pub fn gamiwhoru_submit(history: &mut [u8], s: &[u8]) -> Reply
     ensures { Handed history.old s.now result history.new }
 {
-    let a = submit(&mut history[..], s);
-    reply_of(a)
+    Reply::from(submit(history, s))
 }
 
 #[repr(C)]
@@ -59,24 +86,31 @@ pub struct FindingReply {
     pub term: u32,
 }
 
-fn found_as(a: FindingAnswer) -> FindingReply
-    ensures { result ≡ found_as a }
-{
-    match a {
-        FindingAnswer::Finding(f) => FindingReply {
+impl From<Found> for FindingReply {
+    ghost from_gives = { λ f r. r ≡ found_as (Some f) };
+
+    fn from(f: Found) -> FindingReply {
+        FindingReply {
             state: HERE,
             name: f.name,
             node: f.node.0,
             index: f.index.0,
             term: f.term.0,
-        },
-        FindingAnswer::NoMore => FindingReply {
-            state: NO_MORE,
+        }
+    }
+}
+
+impl Stated for FindingReply {
+    ghost nothing = { no_finding };
+
+    fn nothing(state: u8) -> FindingReply {
+        FindingReply {
+            state,
             name: 0,
             node: 0,
             index: 0,
             term: 0,
-        },
+        }
     }
 }
 
@@ -84,16 +118,7 @@ fn found_as(a: FindingAnswer) -> FindingReply
 pub fn gamiwhoru_finding(history: &[u8], n: usize) -> FindingReply
     ensures { result ≡ finding_out history.now n }
 {
-    if well_formed(history) {
-        return found_as(finding_at(history, n));
-    }
-    FindingReply {
-        state: BROKEN,
-        name: 0,
-        node: 0,
-        index: 0,
-        term: 0,
-    }
+    reply(history, || finding_at(history, n))
 }
 
 #[repr(C)]
@@ -104,20 +129,27 @@ pub struct LeaderReply {
     pub leader: u8,
 }
 
-fn leader_is(a: LeaderAnswer) -> LeaderReply
-    ensures { result ≡ leader_is a }
-{
-    match a {
-        LeaderAnswer::Leader { term, leader } => LeaderReply {
+impl From<Leader> for LeaderReply {
+    ghost from_gives = { λ l r. r ≡ leader_is (Some l) };
+
+    fn from(l: Leader) -> LeaderReply {
+        LeaderReply {
             state: HERE,
-            term: term.0,
-            leader: leader.0,
-        },
-        LeaderAnswer::NoMore => LeaderReply {
-            state: NO_MORE,
+            term: l.term.0,
+            leader: l.leader.0,
+        }
+    }
+}
+
+impl Stated for LeaderReply {
+    ghost nothing = { no_leader };
+
+    fn nothing(state: u8) -> LeaderReply {
+        LeaderReply {
+            state,
             term: 0,
             leader: 0,
-        },
+        }
     }
 }
 
@@ -125,14 +157,7 @@ fn leader_is(a: LeaderAnswer) -> LeaderReply
 pub fn gamiwhoru_leader(history: &[u8], n: usize) -> LeaderReply
     ensures { result ≡ leader_out history.now n }
 {
-    if well_formed(history) {
-        return leader_is(leader_at(history, n));
-    }
-    LeaderReply {
-        state: BROKEN,
-        term: 0,
-        leader: 0,
-    }
+    reply(history, || leader_at(history, n))
 }
 
 #[repr(C)]
@@ -143,20 +168,27 @@ pub struct UnseenReply {
     pub index: usize,
 }
 
-fn mark_is(a: UnseenAnswer) -> UnseenReply
-    ensures { result ≡ mark_is a }
-{
-    match a {
-        UnseenAnswer::Mark { node, index } => UnseenReply {
+impl From<Unseen> for UnseenReply {
+    ghost from_gives = { λ u r. r ≡ mark_is (Some u) };
+
+    fn from(u: Unseen) -> UnseenReply {
+        UnseenReply {
             state: HERE,
-            node: node.0,
-            index: index.0,
-        },
-        UnseenAnswer::NoMore => UnseenReply {
-            state: NO_MORE,
+            node: u.node.0,
+            index: u.index.0,
+        }
+    }
+}
+
+impl Stated for UnseenReply {
+    ghost nothing = { no_mark };
+
+    fn nothing(state: u8) -> UnseenReply {
+        UnseenReply {
+            state,
             node: 0,
             index: 0,
-        },
+        }
     }
 }
 
@@ -164,14 +196,7 @@ fn mark_is(a: UnseenAnswer) -> UnseenReply
 pub fn gamiwhoru_unseen(history: &[u8], n: usize) -> UnseenReply
     ensures { result ≡ unseen_out history.now n }
 {
-    if well_formed(history) {
-        return mark_is(unseen_at(history, n));
-    }
-    UnseenReply {
-        state: BROKEN,
-        node: 0,
-        index: 0,
-    }
+    reply(history, || unseen_at(history, n))
 }
 
 #[repr(C)]
@@ -181,18 +206,22 @@ pub struct UnknownReply {
     pub index: usize,
 }
 
-fn index_is(a: UnknownAnswer) -> UnknownReply
-    ensures { result ≡ index_is a }
-{
-    match a {
-        UnknownAnswer::Index(index) => UnknownReply {
+impl From<LogIndex> for UnknownReply {
+    ghost from_gives = { λ i r. r ≡ index_is (Some i) };
+
+    fn from(i: LogIndex) -> UnknownReply {
+        UnknownReply {
             state: HERE,
-            index: index.0,
-        },
-        UnknownAnswer::NoMore => UnknownReply {
-            state: NO_MORE,
-            index: 0,
-        },
+            index: i.0,
+        }
+    }
+}
+
+impl Stated for UnknownReply {
+    ghost nothing = { no_index };
+
+    fn nothing(state: u8) -> UnknownReply {
+        UnknownReply { state, index: 0 }
     }
 }
 
@@ -200,13 +229,7 @@ fn index_is(a: UnknownAnswer) -> UnknownReply
 pub fn gamiwhoru_unknown(history: &[u8], n: usize) -> UnknownReply
     ensures { result ≡ unknown_out history.now n }
 {
-    if well_formed(history) {
-        return index_is(unknown_at(history, n));
-    }
-    UnknownReply {
-        state: BROKEN,
-        index: 0,
-    }
+    reply(history, || unknown_at(history, n))
 }
 
 #[repr(C)]

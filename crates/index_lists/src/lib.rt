@@ -3,5 +3,6 @@
 #![tactic(auto)]
 
 pub mod committed;
+pub mod pick;
 pub mod unknown;
 pub mod unseen;

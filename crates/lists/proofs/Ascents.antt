@@ -15,7 +15,8 @@ use Rattle.model.specs.Leaders.{Leader, placed, ascending}
 use Rattle.model.specs.Lists.{leaders_of}
 use Rattle.model.proofs.Tests.{cond_true, cond_false, either}
 use Rattle.model.proofs.Leaders.{Before, Ascending, ascending_ascends}
-use Rattle.lists.specs.declared.leaders.LeaderAnswer.{LeaderAnswer}
+use Rattle.lists.specs.declared.leaders.Leader.{Leader as Printed}
+use Rattle.std.specs.Prelude.{Option, None}
 use Rattle.lists.specs.Leaders.{pair, leader_as, is_below, lesser, better_of, least_in, next_of, rounds_of, leader_in}
 use Rattle.finding_lists.proofs.OrderLaws.{key_differs, key_same}
 use Rattle.lists.proofs.Ordered.{Order, by_number, by_key}
@@ -53,12 +54,12 @@ same a b e f = λ i. record { term = same_term i; leader = same_leader i }
 
 -- ---- the first of a list that is not below a bound, and all from there
 
-unfoldable first_from : Leader → List Leader → LeaderAnswer
+unfoldable first_from : Leader → List Leader → Option Printed
 unfolding is_below
-first_from bd [] = LeaderAnswer.NoMore
+first_from bd [] = None
 first_from bd (b ∷ bs) = cond (is_below b bd) (first_from bd bs) (leader_as b)
 
-first_nil : (bd : Leader) → first_from bd [] ≡ LeaderAnswer.NoMore
+first_nil : (bd : Leader) → first_from bd [] ≡ None
 unfolding first_from
 first_nil bd = refl
 
@@ -159,7 +160,7 @@ leaders_nil : leaders [] ≡ []
 unfolding leaders_of ascending
 leaders_nil = refl
 
-least_nil : (bd : Leader) → least_in bd [] ≡ LeaderAnswer.NoMore
+least_nil : (bd : Leader) → least_in bd [] ≡ None
 unfolding least_in
 least_nil bd = refl
 
@@ -206,8 +207,8 @@ all_here : (bd b : Leader) (bs : List Leader) → is_below b bd ≡ false → al
 unfolding all_from
 all_here bd b bs e = cond_false _ _ _ e
 
-abbrev nth_of : List Leader → ℕ → LeaderAnswer
-nth_of l n = get_or (map leader_as l) n LeaderAnswer.NoMore
+abbrev nth_of : List Leader → ℕ → Option Printed
+nth_of l n = get_or (map leader_as l) n None
 
 first_all : (bd : Leader) (l : List Leader) → first_from bd l ≡ nth_of (all_from bd l) 0
 first_all bd [] = first_nil bd ∙ ap (λ (l : List Leader). nth_of l 0) (sym (all_nil bd))
@@ -260,15 +261,15 @@ all_next bd b rest (c ∷ cs) u e =
     ap (λ (x : Leader). all_from (past x) (c ∷ cs)) (sym eb) ∙ all_low (past c) c cs (past_self c) ∙ all_past c cs u.0 ∙ er)
     (either (is_below c bd))
 
-rounds_zero : (fs : List Finding) (found : LeaderAnswer) → rounds_of fs found 0 ≡ found
+rounds_zero : (fs : List Finding) (found : Option Printed) → rounds_of fs found 0 ≡ found
 unfolding rounds_of
 rounds_zero fs found = refl
 
-rounds_suc : (fs : List Finding) (found : LeaderAnswer) (n : ℕ) → rounds_of fs found (suc n) ≡ rounds_of fs (next_of fs found) n
+rounds_suc : (fs : List Finding) (found : Option Printed) (n : ℕ) → rounds_of fs found (suc n) ≡ rounds_of fs (next_of fs found) n
 unfolding rounds_of
 rounds_suc fs found n = refl
 
-next_nothing : (fs : List Finding) → next_of fs LeaderAnswer.NoMore ≡ LeaderAnswer.NoMore
+next_nothing : (fs : List Finding) → next_of fs None ≡ None
 unfolding next_of
 next_nothing fs = refl
 
@@ -276,20 +277,20 @@ next_leader : (fs : List Finding) (a : Leader) → next_of fs (leader_as a) ≡ 
 unfolding next_of
 next_leader fs a = refl
 
-rounds_nothing : (fs : List Finding) (n : ℕ) → rounds_of fs LeaderAnswer.NoMore n ≡ LeaderAnswer.NoMore
+rounds_nothing : (fs : List Finding) (n : ℕ) → rounds_of fs None n ≡ None
 rounds_nothing fs zero = rounds_zero fs _
-rounds_nothing fs (suc n) = rounds_suc fs _ n ∙ ap (λ (a : LeaderAnswer). rounds_of fs a n) (next_nothing fs) ∙ rounds_nothing fs n
+rounds_nothing fs (suc n) = rounds_suc fs _ n ∙ ap (λ (a : Option Printed). rounds_of fs a n) (next_nothing fs) ∙ rounds_nothing fs n
 
 rounds_are : (fs : List Finding) (n : ℕ) (bd : Leader) (xs : List Leader) → all_from bd (leaders fs) ≡ xs → rounds_of fs (least_in bd fs) n ≡ nth_of xs n
 rounds_are fs zero bd xs e =
     rounds_zero fs _ ∙ least_first bd fs ∙ first_all bd (leaders fs) ∙ ap (λ (l : List Leader). nth_of l 0) e
 rounds_are fs (suc n) bd [] e =
-    ap (λ (a : LeaderAnswer). rounds_of fs a (suc n)) (least_first bd fs ∙ first_all bd (leaders fs) ∙ ap (λ (l : List Leader). nth_of l 0) e)
+    ap (λ (a : Option Printed). rounds_of fs a (suc n)) (least_first bd fs ∙ first_all bd (leaders fs) ∙ ap (λ (l : List Leader). nth_of l 0) e)
     ∙ rounds_nothing fs (suc n)
 rounds_are fs (suc n) bd (b ∷ rest) e =
-    ap (λ (a : LeaderAnswer). rounds_of fs a (suc n)) (least_first bd fs ∙ first_all bd (leaders fs) ∙ ap (λ (l : List Leader). nth_of l 0) e)
+    ap (λ (a : Option Printed). rounds_of fs a (suc n)) (least_first bd fs ∙ first_all bd (leaders fs) ∙ ap (λ (l : List Leader). nth_of l 0) e)
     ∙ rounds_suc fs (leader_as b) n
-    ∙ ap (λ (a : LeaderAnswer). rounds_of fs a n) (next_leader fs b)
+    ∙ ap (λ (a : Option Printed). rounds_of fs a n) (next_leader fs b)
     ∙ rounds_are fs n (past b) rest (all_next bd b rest (leaders fs) (ascending_ascends (leaders_of fs)) e)
 
 -- nothing is below the first bound
@@ -305,7 +306,7 @@ all_start (b ∷ bs) = all_here (pair 0 0) b bs (none_below b)
         (λ e. sym (key_differs b.term 0 (ltb b.leader 0) (eqb-false b.term 0 e)) ∙ le-ltb b.term 0 (omega arith))
         (either (eqb b.term 0))
 
-pub leaders_picked : (fs : List Finding) (n : ℕ) → leader_in fs n ≡ get_or (map leader_as (ascending (leaders_of fs))) n LeaderAnswer.NoMore
+pub leaders_picked : (fs : List Finding) (n : ℕ) → leader_in fs n ≡ get_or (map leader_as (ascending (leaders_of fs))) n None
 unfolding leader_in
 leaders_picked fs n = rounds_are fs n (pair 0 0) (leaders fs) (all_start (leaders fs))
 

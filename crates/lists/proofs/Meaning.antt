@@ -14,13 +14,10 @@ use Rattle.storage.specs.Tables.{nodes_part, terms_part, finding_rows, findings_
 use Rattle.storage.specs.Decode.{decode}
 use Rattle.storage.specs.Values.{committed_end}
 use Rattle.storage.proofs.Meanings.{Stands, owner_read, end_is, findings_stored}
-use Rattle.index_lists.specs.declared.unseen.UnseenAnswer.{UnseenAnswer}
-use Rattle.index_lists.specs.declared.unknown.UnknownAnswer.{UnknownAnswer}
 use Rattle.index_lists.specs.Picked.{nth}
 use Rattle.index_lists.specs.Committed.{owner_in}
-use Rattle.finding_lists.specs.declared.findings.FindingAnswer.{FindingAnswer}
 use Rattle.finding_lists.specs.Findings.{finding_of, finding_answer}
-use Rattle.lists.specs.declared.leaders.LeaderAnswer.{LeaderAnswer}
+use Rattle.std.specs.Prelude.{None}
 use Rattle.lists.specs.Leaders.{leader_as, leader_answer}
 use Rattle.index_lists.specs.Unseen.{mark_of, mark_in, unseen_answer}
 use Rattle.index_lists.specs.Unknown.{is_known, index_of, index_in, unknown_answer}
@@ -39,32 +36,32 @@ owner_told h x s =
 
 -- ---- unseen marks
 
-pub unseen_told : (h : Bytes) (x : History) (n : ℕ) → Stands h x → unseen_answer h n ≡ nth mark_of UnseenAnswer.NoMore (unseen_list x) n
+pub unseen_told : (h : Bytes) (x : History) (n : ℕ) → Stands h x → unseen_answer h n ≡ nth mark_of None (unseen_list x) n
 unfolding unseen_answer mark_in unseen_list decode tables_in
 unseen_told h x n s =
-    marks_picked (nodes_part h) 0 64 n ∙ ap (λ (y : History). nth mark_of UnseenAnswer.NoMore (marks_from 0 y.unseen) n) s.decodes
+    marks_picked (nodes_part h) 0 64 n ∙ ap (λ (y : History). nth mark_of None (marks_from 0 y.unseen) n) s.decodes
 
 -- ---- unknown indexes
 
-pub unknown_told : (h : Bytes) (x : History) (n : ℕ) → Stands h x → unknown_answer h n ≡ nth index_of UnknownAnswer.NoMore (unknown_list x) n
+pub unknown_told : (h : Bytes) (x : History) (n : ℕ) → Stands h x → unknown_answer h n ≡ nth index_of None (unknown_list x) n
 unfolding unknown_answer index_in unknown_list
 unknown_told h x n s =
     indexes_picked (is_known (terms_part h) (word_at h 2 2)) (decode h).terms (known_read h) 0 (committed_end h) n
-    ∙ (λ i. nth index_of UnknownAnswer.NoMore (unknown_from (s.decodes i).terms 0 (end_is h x s i)) n)
+    ∙ (λ i. nth index_of None (unknown_from (s.decodes i).terms 0 (end_is h x s i)) n)
 
 -- ---- findings
 
-pub findings_told : (h : Bytes) (x : History) (n : ℕ) → Stands h x → finding_answer h n ≡ nth finding_of FindingAnswer.NoMore (finding_list x) n
+pub findings_told : (h : Bytes) (x : History) (n : ℕ) → Stands h x → finding_answer h n ≡ nth finding_of None (finding_list x) n
 unfolding finding_answer finding_list
 findings_told h x n s =
     ordered_picked (finding_rows (findings_part h) (word_at h 7 1)) n
-    ∙ ap (λ (l : List Finding). nth finding_of FindingAnswer.NoMore (ordered l) n) (findings_stored h x s)
+    ∙ ap (λ (l : List Finding). nth finding_of None (ordered l) n) (findings_stored h x s)
 
 -- ---- leaders
 
-pub leaders_told : (h : Bytes) (x : History) (n : ℕ) → Stands h x → leader_answer h n ≡ nth leader_as LeaderAnswer.NoMore (leader_list x) n
+pub leaders_told : (h : Bytes) (x : History) (n : ℕ) → Stands h x → leader_answer h n ≡ nth leader_as None (leader_list x) n
 unfolding leader_answer leader_list
 leaders_told h x n s =
     leaders_all (finding_rows (findings_part h) (word_at h 7 1)) (word_at h 7 1) n (tabulate_length _ 0 _)
-    ∙ ap (λ (l : List Finding). nth leader_as LeaderAnswer.NoMore (ascending (leaders_of l)) n)
+    ∙ ap (λ (l : List Finding). nth leader_as None (ascending (leaders_of l)) n)
     (findings_stored h x s)

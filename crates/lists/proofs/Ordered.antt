@@ -17,7 +17,8 @@ use Rattle.model.specs.Lists.{insert, ordered}
 use Rattle.model.proofs.Tests.{cond_true, cond_false, either, or_cases, and_left, and_right, or_false_left, and_both}
 use Rattle.storage_bytes.specs.Lists.{every}
 use Rattle.storage_bytes.proofs.ListLaws.{both, every_weaker, every_insert, map_insert}
-use Rattle.finding_lists.specs.declared.findings.FindingAnswer.{FindingAnswer}
+use Rattle.table_rows.specs.declared.findings.Found.{Found}
+use Rattle.std.specs.Prelude.{Option, None}
 use Rattle.finding_lists.specs.Findings.{comes_before, count_first, finding_of, pick_ordered}
 use Rattle.finding_lists.proofs.OrderLaws.{key_differs, key_same}
 
@@ -271,21 +272,21 @@ pick_cons : (f : Finding) (fs : List Finding) (n : ℕ) → pick_ordered (f ∷ 
 unfolding pick_ordered
 pick_cons f fs n = refl
 
-pick_nil : (n : ℕ) → pick_ordered [] n ≡ FindingAnswer.NoMore
+pick_nil : (n : ℕ) → pick_ordered [] n ≡ None
 unfolding pick_ordered
 pick_nil n = refl
 
-pub ordered_picked : (fs : List Finding) (n : ℕ) → pick_ordered fs n ≡ get_or (map finding_of (ordered fs)) n FindingAnswer.NoMore
-ordered_picked [] n = pick_nil n ∙ ap (λ (l : List Finding). get_or (map finding_of l) n FindingAnswer.NoMore) (sym ordered_nil)
+pub ordered_picked : (fs : List Finding) (n : ℕ) → pick_ordered fs n ≡ get_or (map finding_of (ordered fs)) n None
+ordered_picked [] n = pick_nil n ∙ ap (λ (l : List Finding). get_or (map finding_of l) n None) (sym ordered_nil)
 ordered_picked (f ∷ fs) n =
     let gs = ordered fs in
     let p = count_first f fs in
     let c : p ≡ count_first f gs = sym (count_ordered f fs) in
     let fits : p ≤ length (map finding_of gs) = (let a = count_small f gs in let b = length-map gs finding_of in omega arith) in
     pick_cons f fs n
-    ∙ ap (λ (a : FindingAnswer). cond (eqb n p) (finding_of f) a) (ordered_picked fs (cond (ltb p n) (n - 1) n))
-    ∙ sym (place_any FindingAnswer.NoMore (finding_of f) p n (map finding_of gs) fits)
-    ∙ ap (λ (l : List FindingAnswer). get_or l n FindingAnswer.NoMore)
+    ∙ ap (λ (a : Option Found). cond (eqb n p) (finding_of f) a) (ordered_picked fs (cond (ltb p n) (n - 1) n))
+    ∙ sym (place_any None (finding_of f) p n (map finding_of gs) fits)
+    ∙ ap (λ (l : List (Option Found)). get_or l n None)
     (sym (map_insert finding_of gs p f)
     ∙ ap (map finding_of)
     (ap (λ (q : ℕ). take q gs ++ (f ∷ drop q gs)) c ∙ sym (inserted f gs (ordered_sorted fs)) ∙ sym (ordered_cons f fs)))

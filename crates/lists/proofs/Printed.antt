@@ -18,10 +18,9 @@ use Rattle.storage_bytes.specs.Lists.{tabulate}
 use Rattle.storage.specs.Tables.{NodeRow, row_of_node, term_row, terms_part}
 use Rattle.storage.specs.Decode.{decode}
 use Rattle.storage.proofs.Meanings.{terms_read, term_read}
-use Rattle.index_lists.specs.declared.unseen.UnseenAnswer.{UnseenAnswer}
-use Rattle.index_lists.specs.declared.unknown.UnknownAnswer.{UnknownAnswer}
+use Rattle.units.specs.declared.LogIndex.{LogIndex}
 use Rattle.index_lists.specs.Picked.{nth, pick_from}
-use Rattle.lists.specs.declared.leaders.LeaderAnswer.{LeaderAnswer}
+use Rattle.std.specs.Prelude.{Option, None}
 use Rattle.lists.specs.Leaders.{leader_as, leader_in}
 use Rattle.index_lists.specs.Unseen.{mark_of, unmarked, mark_at}
 use Rattle.index_lists.specs.Unknown.{is_known, index_of}
@@ -39,12 +38,12 @@ turn answer none x xs later h false (suc n) =
 -- ---- unseen marks
 
 pub marks_picked : (t : Bytes) (k m n : ℕ)
-    → pick_from (unmarked t) (mark_at t) UnseenAnswer.NoMore k m n
-    ≡ nth mark_of UnseenAnswer.NoMore (marks_from k (map (λ (r : NodeRow). r.unseen) (tabulate (row_of_node t) k m))) n
+    → pick_from (unmarked t) (mark_at t) None k m n
+    ≡ nth mark_of None (marks_from k (map (λ (r : NodeRow). r.unseen) (tabulate (row_of_node t) k m))) n
 unfolding pick_from marks_from tabulate
 marks_picked t k zero n = refl
 marks_picked t k (suc m) n =
-    turn mark_of UnseenAnswer.NoMore (record { node = k; index = (row_of_node t k).unseen }) _ _ (marks_picked t (k + 1) m) (eqb (row_of_node t k).unseen 0) n
+    turn mark_of None (record { node = k; index = (row_of_node t k).unseen }) _ _ (marks_picked t (k + 1) m) (eqb (row_of_node t k).unseen 0) n
 
 -- ---- unknown indexes
 
@@ -61,17 +60,17 @@ known_read h i = go (dec_le (word_at h 2 2) i)
         let l : i < word_at h 2 2 = omega arith in
         cond_false (leb (word_at h 2 2) i) false _ (lt-leb _ _ l) ∙ ap (λ (v : ℕ). not (eqb v 0)) (sym (term_read h i 0 l))
 
-unknown_turn : (b : Bool) (i n : ℕ) (xs : List ℕ) (later : ℕ → UnknownAnswer) → ((n : ℕ) → later n ≡ nth index_of UnknownAnswer.NoMore xs n)
-    → cond (not b) (later n) (cond (eqb n 0) (index_of i) (later (n - 1))) ≡ nth index_of UnknownAnswer.NoMore (cond b (i ∷ []) [] ++ xs) n
-unknown_turn true i n xs later h = turn index_of UnknownAnswer.NoMore i xs later h false n
-unknown_turn false i n xs later h = turn index_of UnknownAnswer.NoMore i xs later h true n
+unknown_turn : (b : Bool) (i n : ℕ) (xs : List ℕ) (later : ℕ → Option LogIndex) → ((n : ℕ) → later n ≡ nth index_of None xs n)
+    → cond (not b) (later n) (cond (eqb n 0) (index_of i) (later (n - 1))) ≡ nth index_of None (cond b (i ∷ []) [] ++ xs) n
+unknown_turn true i n xs later h = turn index_of None i xs later h false n
+unknown_turn false i n xs later h = turn index_of None i xs later h true n
 
 pub indexes_picked : (known : ℕ → Bool) (ts : List ℕ) → ((i : ℕ) → known i ≡ not (eqb (get_or ts i 0) 0)) → (i m n : ℕ)
-    → pick_from known (λ j. index_of (j + 1)) UnknownAnswer.NoMore i m n ≡ nth index_of UnknownAnswer.NoMore (unknown_from ts i m) n
+    → pick_from known (λ j. index_of (j + 1)) None i m n ≡ nth index_of None (unknown_from ts i m) n
 unfolding pick_from unknown_from
 indexes_picked known ts e i zero n = refl
 indexes_picked known ts e i (suc m) n =
-    let later = pick_from known (λ j. index_of (j + 1)) UnknownAnswer.NoMore (i + 1) m in
+    let later = pick_from known (λ j. index_of (j + 1)) None (i + 1) m in
     ap (λ (b : Bool). cond b (later n) (cond (eqb n 0) (index_of (i + 1)) (later (n - 1)))) (e i)
     ∙ unknown_turn (eqb (get_or ts i 0) 0) (i + 1) n (unknown_from ts (i + 1) m) _ (indexes_picked known ts e (i + 1) m)
 
@@ -79,12 +78,12 @@ indexes_picked known ts e i (suc m) n =
 
 -- however many are asked for: there are no more leaders than findings
 pub leaders_all : (fs : List Finding) (m n : ℕ) → length fs ≡ m
-    → cond (leb m n) LeaderAnswer.NoMore (leader_in fs n) ≡ nth leader_as LeaderAnswer.NoMore (ascending (leaders_of fs)) n
+    → cond (leb m n) None (leader_in fs n) ≡ nth leader_as None (ascending (leaders_of fs)) n
 leaders_all fs m n e = go (dec_le m n)
   where
-    go : Dec (m ≤ n) → cond (leb m n) LeaderAnswer.NoMore (leader_in fs n) ≡ nth leader_as LeaderAnswer.NoMore (ascending (leaders_of fs)) n
+    go : Dec (m ≤ n) → cond (leb m n) None (leader_in fs n) ≡ nth leader_as None (ascending (leaders_of fs)) n
     go (yes l) =
         cond_true (leb m n) _ _ (le-leb _ _ l)
-        ∙ sym (get_or-eq_default (map leader_as (ascending (leaders_of fs))) LeaderAnswer.NoMore
+        ∙ sym (get_or-eq_default (map leader_as (ascending (leaders_of fs))) None
         (let a = length-map (ascending (leaders_of fs)) leader_as in let b = leaders_few fs in omega arith))
     go (no f) = cond_false (leb m n) _ _ (lt-leb m n (omega arith)) ∙ leaders_picked fs n

@@ -17,7 +17,9 @@ use Rattle.bit_fields.specs.declared.bits.Fault.{Fault}
 use Rattle.storage.specs.Decode.{decode}
 use Rattle.storage.specs.Fresh.{fresh_history}
 use Rattle.storage.proofs.Meanings.{Stands, fresh_stands}
-use Rattle.answers.specs.declared.answer.Answer.{Answer}
+use Rattle.std.specs.Prelude.{Result, Ok, Err}
+use Rattle.answers.specs.declared.answer.Accepted.{Accepted}
+use Rattle.answers.specs.declared.answer.Refusal.{Refusal}
 use Rattle.answers.specs.Numbers.{reply_of}
 use Rattle.submission.specs.Replies.{submit_answer, submit_bytes}
 use Rattle.submission.proofs.Meaning.{modelled, Means, submit_means}
@@ -33,7 +35,7 @@ abbrev or_else : Option model.Answer → model.Answer
 or_else none = model.refused unknownKind
 or_else (some a) = a
 
-abbrev pub said : Answer → model.Answer
+abbrev pub said : Result Accepted Refusal → model.Answer
 said a = or_else (modelled a)
 
 abbrev pub submitting : Machine
@@ -56,23 +58,23 @@ submitting =
 -- ---- its runs are those of Run.antt
 
 -- whether a record was accepted, by its number
-fault_number : (f : Fault) → eqb (reply_of (Answer.Unreadable f)).refusal 0 ≡ is_accepted (said (Answer.Unreadable f))
+fault_number : (f : Fault) → eqb (reply_of (Err (Refusal.Unreadable f))).refusal 0 ≡ is_accepted (said (Err (Refusal.Unreadable f)))
 fault_number Fault.UnknownKind = refl
 fault_number Fault.BitsMissing = refl
 fault_number Fault.Filling = refl
 fault_number Fault.OutOfLimit = refl
 fault_number Fault.NotAbove = refl
 
-by_number : (a : Answer) → eqb (reply_of a).refusal 0 ≡ is_accepted (said a)
-by_number (Answer.Accepted v n) = refl
-by_number (Answer.Unreadable f) = fault_number f
-by_number Answer.PrefixesFull = refl
-by_number Answer.FindingsFull = refl
-by_number Answer.OldExceedsNew = refl
-by_number Answer.LengthExceedsFront = refl
-by_number Answer.CertificatesFull = refl
-by_number Answer.NumberTaken = refl
-by_number Answer.StorageBroken = refl
+by_number : (a : Result Accepted Refusal) → eqb (reply_of a).refusal 0 ≡ is_accepted (said a)
+by_number (Ok v) = refl
+by_number (Err (Refusal.Unreadable f)) = fault_number f
+by_number (Err Refusal.PrefixesFull) = refl
+by_number (Err Refusal.FindingsFull) = refl
+by_number (Err Refusal.OldExceedsNew) = refl
+by_number (Err Refusal.LengthExceedsFront) = refl
+by_number (Err Refusal.CertificatesFull) = refl
+by_number (Err Refusal.NumberTaken) = refl
+by_number (Err Refusal.StorageBroken) = refl
 
 pub accepts_is : (h s : Bytes) → accepts h s ≡ is_accepted (said (submit_answer h s))
 accepts_is h s = by_number (submit_answer h s)

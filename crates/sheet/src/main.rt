@@ -51,6 +51,7 @@ fn take_block<W: Write>(
 {
     let mut number = first;
     let mut from = 0;
+    // the number goes on by as many as were taken, and is told in the sheet: no index is counted
     while number < LAST {
         let p = take_some(&mut history[..], block, &mut out[..], number, from);
         flush(writer, &out[..], p.at)?;
@@ -92,8 +93,7 @@ fn take_input<R: Read, W: Write>(
 {
     let mut number: u64 = 1;
     let mut rest = 0;
-    let mut blocks: u64 = 0;
-    while blocks < LAST {
+    for _ in 0..LAST {
         let got = fill(reader, &mut input[rest..])?;
         if got == 0 {
             return end_of_input(writer, &mut out[..], number, rest);
@@ -103,7 +103,6 @@ fn take_input<R: Read, W: Write>(
         let p = take_block(writer, &mut history[..], block, &mut out[..], number)?;
         rest = move_down(&mut input[..], p.from, to);
         number = p.number;
-        blocks += 1;
     }
     Ok(())
 }

@@ -1,57 +1,65 @@
 -- Laws of the closing lists: the lines of a list, one after another, and the parts of the closing.
 -- Assumes nothing.
-use Prim.Native.Nat.{ℕ, zero, suc, ◌+◌, ◌*◌, ◌≤◌}
+use Prim.Native.Nat.{ℕ, zero, suc, ◌+◌, ◌*◌, ◌≤◌, ◌<◌}
 use native.Mathlib.Nat.{mul-le-mul_right}
 use native.Mathlib.Numerals.{add-one}
 use native.Mathlib.Omega.{arith}
 use mathlib.Core.Path.{◌≡◌, refl, ap, sym, ◌∙◌}
 use mathlib.Core.Bool.{true, false}
 use mathlib.Core.List.{List, [], ◌∷◌, ◌++◌, append_assoc, append-nil}
-use lib.ListN.{length, take}
+use lib.ListN.{length, take, length-map}
 use lib.Seq.{take_all}
+use mathlib.Core.List.{map}
+use Rattle.std.specs.Prelude.{Option, Some, None, slice_get}
+use Rattle.std.specs.Option.{option_map}
+use Rattle.std.proofs.lemmas.Option.{none-some, same_Some}
 use Rattle.model.specs.Sizes.{Bytes}
 use Rattle.storage_bytes.specs.Words.{put_bytes}
-use Rattle.model.specs.History.{Finding}
-use Rattle.model.specs.Leaders.{Leader}
-use Rattle.model.specs.Lists.{Unseen, finding_list, leader_list, unseen_list, unknown_list}
+use Rattle.model.specs.Lists.{finding_list, leader_list, unseen_list, unknown_list}
 use Rattle.model.proofs.Tests.{cond_true, cond_false}
 use Rattle.storage.specs.Rules.{well_formed}
 use Rattle.storage.specs.Decode.{decode}
 use Rattle.storage.specs.Values.{committed_end}
 use Rattle.storage.proofs.Meanings.{end_is, stand}
 use Rattle.index_lists.specs.Committed.{owner_in}
-use Rattle.lists.proofs.Meaning.{owner_told}
+use Rattle.lists.proofs.Meaning.{owner_told, findings_told, leaders_told, unseen_told, unknown_told}
 use Rattle.index_lists.specs.Picked.{nth}
-use Rattle.finding_lists.specs.declared.findings.FindingAnswer.{FindingAnswer}
-use Rattle.finding_lists.specs.Findings.{finding_of}
-use Rattle.lists.specs.declared.leaders.LeaderAnswer.{LeaderAnswer}
-use Rattle.lists.specs.Leaders.{leader_as}
-use Rattle.index_lists.specs.declared.unseen.UnseenAnswer.{UnseenAnswer}
-use Rattle.index_lists.specs.Unseen.{mark_of}
-use Rattle.index_lists.specs.declared.unknown.UnknownAnswer.{UnknownAnswer}
-use Rattle.index_lists.specs.Unknown.{index_of}
+use Rattle.table_rows.specs.declared.findings.Found.{Found}
+use Rattle.finding_lists.specs.Findings.{finding_answer}
+use Rattle.lists.specs.declared.leaders.Leader.{Leader as Printed}
+use Rattle.lists.specs.Leaders.{leader_answer}
+use Rattle.index_lists.specs.declared.unseen.Unseen.{Unseen as Mark}
+use Rattle.index_lists.specs.Unseen.{unseen_answer}
+use Rattle.units.specs.declared.LogIndex.{LogIndex}
+use Rattle.index_lists.specs.Unknown.{unknown_answer}
 use Rattle.sheet_numbers.specs.Decimal.{Put}
 use Rattle.sheet_lines.specs.Lines.{finding_line, leader_line, unseen_line, unknown_line, committed_line}
-use Rattle.sheet_lists.specs.Closing.{lines_of, of_finding, of_leader, of_unseen, closing, closing_of}
-use Rattle.sheet_numbers.proofs.PutLaws.{put_then, put_as}
+use Rattle.sheet_lists.specs.Closing.{lines_of, joined, of_finding, of_leader, of_unseen, closing, closing_of}
+use Rattle.sheet_lists.proofs.ListBounds.{findings_bound, leaders_bound, unseen_bound, unknown_bound}
+use Rattle.sheet_numbers.proofs.PutLaws.{put_then, put_as, put_kept}
 
 -- ---- the lists
 
+joined_map : {A : Type 0} (line : A → Bytes) (xs : List A) → joined (map line xs) ≡ lines_of line xs
+unfolding lines_of
+joined_map line [] = refl
+joined_map line (x ∷ xs) = ap (λ (l : Bytes). line x ++ l) (joined_map line xs)
+
 -- the five parts of the closing, put one after another
 pub closed_right : (h t : Bytes) (a b c d r : ℕ) (ta tb tc td t' : Bytes) → well_formed h ≡ true
-    → Put 22528 t 0 (lines_of of_finding (finding_list (decode h))) a ta
-    → Put 12544 ta a (lines_of of_leader (leader_list (decode h))) b tb
-    → Put 12544 tb b (lines_of of_unseen (unseen_list (decode h))) c tc
-    → Put 7424 tc c (lines_of unknown_line (unknown_list (decode h))) d td
+    → Put 22528 t 0 (joined (map of_finding (finding_list (decode h)))) a ta
+    → Put 12544 ta a (joined (map of_leader (leader_list (decode h)))) b tb
+    → Put 12544 tb b (joined (map of_unseen (unseen_list (decode h)))) c tc
+    → Put 7424 tc c (joined (map unknown_line (unknown_list (decode h)))) d td
     → (n o : ℕ) → n ≡ committed_end h → o ≡ owner_in h → Put 52 td d (committed_line n o) r t' → Put 55092 t 0 (closing_of h) r t'
 unfolding closing
 closed_right h t a b c d r ta tb tc td t' w p q s u n o en eo v =
     let x = decode h in
     let st = stand h w in
     put_as (put_then (put_then (put_then (put_then p q) s) u) v) _
-    (ap (λ (l : Bytes).
-    lines_of of_finding (finding_list x) ++ lines_of of_leader (leader_list x) ++ lines_of of_unseen (unseen_list x) ++ lines_of unknown_line (unknown_list x) ++ l)
-    (λ i. committed_line ((en ∙ end_is h x st) i) ((eo ∙ owner_told h x st) i))
+    ((λ i.
+    joined_map of_finding (finding_list x) i ++ joined_map of_leader (leader_list x) i ++ joined_map of_unseen (unseen_list x) i
+    ++ joined_map unknown_line (unknown_list x) i ++ committed_line ((en ∙ end_is h x st) i) ((eo ∙ owner_told h x st) i))
     ∙ sym (cond_true (well_formed h) _ [] w))
     (omega arith)
 
@@ -63,117 +71,72 @@ closed_broken h t w =
 
 -- ---- the lines of a list
 
--- how a list is shown: the line of an element, what a reader answers for it, and the line of an answer
-pub record Shown (A B : Type 0) : Type 0 where
-  pub line : A → Bytes
-  pub answer : A → B
-  pub none : B
-  pub shown : B → Bytes
-  pub same : (x : A) → shown (answer x) ≡ line x
-  pub blank : shown none ≡ []
-  pub told : (x : A) → answer x ≡ none → ⊥
-
 -- the first k lines are put
-abbrev pub Listed : {A B : Type 0} → Shown A B → ℕ → List A → Bytes → ℕ → ℕ → ℕ → Bytes → Type 0
-Listed d w xs t o k r t' = Put (k * w) t o (lines_of d.line (take k xs)) r t'
+abbrev pub Put_to : ℕ → List Bytes → Bytes → ℕ → ℕ → ℕ → Bytes → Type 0
+Put_to w ls t o k r t' = Put (k * w) t o (joined (take k ls)) r t'
 
-module _ {A B : Type 0} (d : Shown A B) where
-  lines_more : (xs : List A) (k : ℕ)
-      → lines_of d.line (take (suc k) xs) ≡ lines_of d.line (take k xs) ++ d.shown (nth d.answer d.none xs k)
-  unfolding lines_of
-  lines_more [] zero = sym d.blank
-  lines_more [] (suc k) = sym d.blank
-  lines_more (x ∷ xs) zero = append-nil (d.line x) ∙ sym (d.same x)
-  lines_more (x ∷ xs) (suc k) = ap (λ (l : Bytes). d.line x ++ l) (lines_more xs k) ∙ sym (append_assoc (d.line x) _ _)
+lines_more : (ls : List Bytes) (k : ℕ) (v : Bytes) → Some v ≡ slice_get ls k → joined (take (suc k) ls) ≡ joined (take k ls) ++ v
+unfolding lines_of
+lines_more [] k v e = absurd (none-some v (sym e))
+lines_more (x ∷ ls) zero v e = append-nil x ∙ sym (same_Some v x e)
+lines_more (x ∷ ls) (suc k) v e = ap (λ (l : Bytes). x ++ l) (lines_more ls k v e) ∙ sym (append_assoc x _ _)
 
-  none_left : (xs : List A) (k : ℕ) → nth d.answer d.none xs k ≡ d.none → length xs ≤ k
-  none_left [] k e = omega arith
-  none_left (x ∷ xs) zero e = absurd (d.told x e)
-  none_left (x ∷ xs) (suc k) e = let l = none_left xs k e in omega arith
+past_last : (ls : List Bytes) (k : ℕ) → None ≡ slice_get ls k → length ls ≤ k
+past_last [] k e = omega arith
+past_last (x ∷ ls) zero e = absurd (none-some x e)
+past_last (x ∷ ls) (suc k) e = let l = past_last ls k e in omega arith
 
-  module _ (w : ℕ) (xs : List A) (t : Bytes) (o : ℕ) where
-    pub listed_none : Listed d w xs t o 0 o t
-    unfolding put_bytes lines_of
-    listed_none = record { next = omega arith; bytes = refl; within = omega arith }
+module _ (w : ℕ) (ls : List Bytes) (t : Bytes) (o : ℕ) where
+  pub put_none : Put_to w ls t o 0 o t
+  unfolding put_bytes lines_of
+  put_none = record { next = omega arith; bytes = refl; within = omega arith }
 
-    pub listed_next : (k r e : ℕ) (t' t'' : Bytes) (b : B) → Listed d w xs t o k r t' → b ≡ nth d.answer d.none xs k
-        → Put w t' r (d.shown b) e t'' → Listed d w xs t o (k + 1) e t''
-    listed_next k r e t' t'' b p q n =
-        put_as (put_then p n) _
-        (ap (λ (y : B). lines_of d.line (take k xs) ++ d.shown y) q
-        ∙ sym (lines_more xs k)
-        ∙ ap (λ (j : ℕ). lines_of d.line (take j xs)) (sym (add-one k)))
-        (omega arith)
+  pub put_next : (k r e : ℕ) (t' t'' : Bytes) (v : Bytes) → Put_to w ls t o k r t' → Some v ≡ slice_get ls k
+      → Put w t' r v e t'' → Put_to w ls t o (k + 1) e t''
+  put_next k r e t' t'' v p q n =
+      put_as (put_then p n) _ (sym (lines_more ls k v q) ∙ ap (λ (j : ℕ). joined (take j ls)) (sym (add-one k))) (omega arith)
 
-    pub listed_all : (k r : ℕ) (t' : Bytes) → Listed d w xs t o k r t' → k ≤ 256 → length xs ≤ k → Put (256 * w) t o (lines_of d.line xs) r t'
-    listed_all k r t' p l h = put_as p _ (ap (lines_of d.line) (take_all k xs h)) (mul-le-mul_right w l)
+  -- a line more has room
+  pub put_room : (k r : ℕ) (t' : Bytes) → Put_to w ls t o k r t' → k < 256 → o + 256 * w ≤ length t → r + w ≤ length t'
+  put_room k r t' p l h = let m : (k + 1) * w ≤ 256 * w = mul-le-mul_right w (let q : k + 1 ≤ 256 = omega arith in q) in omega (arith, p.next, p.within, put_kept p, m)
 
-    pub listed_end : (k r : ℕ) (t' : Bytes) → Listed d w xs t o k r t' → k ≤ 256 → d.none ≡ nth d.answer d.none xs k
-        → Put (256 * w) t o (lines_of d.line xs) r t'
-    listed_end k r t' p l e = listed_all k r t' p l (none_left xs k (sym e))
+  pub put_all : (k r : ℕ) (t' : Bytes) → Put_to w ls t o k r t' → k ≤ 256 → length ls ≤ k → Put (256 * w) t o (joined ls) r t'
+  put_all k r t' p l h = put_as p _ (ap joined (take_all k ls h)) (mul-le-mul_right w l)
 
--- ---- the four lists
+  pub put_end : (k r : ℕ) (t' : Bytes) → Put_to w ls t o k r t' → k ≤ 256 → None ≡ slice_get ls k → Put (256 * w) t o (joined ls) r t'
+  put_end k r t' p l e = put_all k r t' p l (past_last ls k e)
 
-abbrev shown_finding : FindingAnswer → Bytes
-shown_finding (FindingAnswer.Finding f) = finding_line f.name f.node.0 f.index.0 f.term.0
-shown_finding FindingAnswer.NoMore = []
+-- the line of the n-th element is the n-th line
+nth_line : {A B : Type 0} (of : A → B) (line : B → Bytes) (xs : List A) (n : ℕ)
+    → option_map line (nth (λ x. Some (of x)) None xs n) ≡ slice_get (map (λ x. line (of x)) xs) n
+nth_line of line [] n = refl
+nth_line of line (x ∷ xs) zero = refl
+nth_line of line (x ∷ xs) (suc n) = nth_line of line xs n
 
-abbrev pub findings : Shown Finding FindingAnswer
-findings =
-    record {
-      line = of_finding;
-      answer = finding_of;
-      none = FindingAnswer.NoMore;
-      shown = shown_finding;
-      same = λ x. refl;
-      blank = refl;
-      told = λ x e. absurd (let z : ◌≡◌ {A = ℕ} 0 1 = cc in omega arith);
-    }
+pub finding_nth : (h : Bytes) (n : ℕ) → well_formed h ≡ true → {r : Option Found} → r ≡ finding_answer h n
+    → option_map (λ f. finding_line f.name f.node.0 f.index.0 f.term.0) r ≡ slice_get (map of_finding (finding_list (decode h))) n
+finding_nth h n w e = ap (option_map _) (e ∙ findings_told h (decode h) n (stand h w)) ∙ nth_line _ _ (finding_list (decode h)) n
 
-abbrev shown_leader : LeaderAnswer → Bytes
-shown_leader (LeaderAnswer.Leader t l) = leader_line t.0 l.0
-shown_leader LeaderAnswer.NoMore = []
+pub leader_nth : (h : Bytes) (n : ℕ) → well_formed h ≡ true → {r : Option Printed} → r ≡ leader_answer h n
+    → option_map (λ l. leader_line l.term.0 l.leader.0) r ≡ slice_get (map of_leader (leader_list (decode h))) n
+leader_nth h n w e = ap (option_map _) (e ∙ leaders_told h (decode h) n (stand h w)) ∙ nth_line _ _ (leader_list (decode h)) n
 
-abbrev pub leaders : Shown Leader LeaderAnswer
-leaders =
-    record {
-      line = of_leader;
-      answer = leader_as;
-      none = LeaderAnswer.NoMore;
-      shown = shown_leader;
-      same = λ x. refl;
-      blank = refl;
-      told = λ x e. absurd (let z : ◌≡◌ {A = ℕ} 0 1 = cc in omega arith);
-    }
+pub unseen_nth : (h : Bytes) (n : ℕ) → well_formed h ≡ true → {r : Option Mark} → r ≡ unseen_answer h n
+    → option_map (λ u. unseen_line u.node.0 u.index.0) r ≡ slice_get (map of_unseen (unseen_list (decode h))) n
+unseen_nth h n w e = ap (option_map _) (e ∙ unseen_told h (decode h) n (stand h w)) ∙ nth_line _ _ (unseen_list (decode h)) n
 
-abbrev shown_unseen : UnseenAnswer → Bytes
-shown_unseen (UnseenAnswer.Mark n i) = unseen_line n.0 i.0
-shown_unseen UnseenAnswer.NoMore = []
+pub unknown_nth : (h : Bytes) (n : ℕ) → well_formed h ≡ true → {r : Option LogIndex} → r ≡ unknown_answer h n
+    → option_map (λ i. unknown_line i.0) r ≡ slice_get (map unknown_line (unknown_list (decode h))) n
+unknown_nth h n w e = ap (option_map _) (e ∙ unknown_told h (decode h) n (stand h w)) ∙ nth_line _ _ (unknown_list (decode h)) n
 
-abbrev pub marks : Shown Unseen UnseenAnswer
-marks =
-    record {
-      line = of_unseen;
-      answer = mark_of;
-      none = UnseenAnswer.NoMore;
-      shown = shown_unseen;
-      same = λ x. refl;
-      blank = refl;
-      told = λ x e. absurd (let z : ◌≡◌ {A = ℕ} 0 1 = cc in omega arith);
-    }
+pub findings_short : (h : Bytes) → well_formed h ≡ true → length (map of_finding (finding_list (decode h))) ≤ 256
+findings_short h w = let b = findings_bound h w in omega (arith, length-map (finding_list (decode h)) of_finding)
 
-abbrev shown_unknown : UnknownAnswer → Bytes
-shown_unknown (UnknownAnswer.Index i) = unknown_line i.0
-shown_unknown UnknownAnswer.NoMore = []
+pub leaders_short : (h : Bytes) → well_formed h ≡ true → length (map of_leader (leader_list (decode h))) ≤ 256
+leaders_short h w = let b = leaders_bound h w in omega (arith, length-map (leader_list (decode h)) of_leader)
 
-abbrev pub indexes : Shown ℕ UnknownAnswer
-indexes =
-    record {
-      line = unknown_line;
-      answer = index_of;
-      none = UnknownAnswer.NoMore;
-      shown = shown_unknown;
-      same = λ x. refl;
-      blank = refl;
-      told = λ x e. absurd (let z : ◌≡◌ {A = ℕ} 0 1 = cc in omega arith);
-    }
+pub unseen_short : (h : Bytes) → well_formed h ≡ true → length (map of_unseen (unseen_list (decode h))) ≤ 256
+unseen_short h w = let b = unseen_bound h w in omega (arith, length-map (unseen_list (decode h)) of_unseen)
+
+pub unknown_short : (h : Bytes) → well_formed h ≡ true → length (map unknown_line (unknown_list (decode h))) ≤ 256
+unknown_short h w = let b = unknown_bound h w in omega (arith, length-map (unknown_list (decode h)) unknown_line)

@@ -13,6 +13,10 @@ unfoldable pub lines_of : {A : Type 0} → (A → Bytes) → List A → Bytes
 lines_of line [] = []
 lines_of line (x ∷ xs) = line x ++ lines_of line xs
 
+-- lines, one after another
+abbrev pub joined : List Bytes → Bytes
+joined ls = lines_of (λ l. l) ls
+
 abbrev pub of_finding : Finding → Bytes
 of_finding f = finding_line f.name f.node f.index f.term
 

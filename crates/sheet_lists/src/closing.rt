@@ -1,87 +1,125 @@
 // The lists of a history, put into lent bytes: findings, leaders, unseen, unknown, committed.
-ghost use Rattle.std.specs.Prelude.{◌≡◌, true, ◌+◌, ◌≤◌, length};
+ghost use Rattle.std.specs.Prelude.{◌≡◌, ℕ, true, ◌+◌, ◌*◌, ◌≤◌, List, map, length, slice_get};
+ghost use Rattle.std.specs.Option.{option_map};
 ghost use Rattle.model.specs.Lists.{finding_list, leader_list, unseen_list, unknown_list};
+ghost use Rattle.model.specs.Sizes.{Bytes};
 ghost use Rattle.storage.specs.Rules.{well_formed};
 ghost use Rattle.storage.specs.Decode.{decode};
 ghost use Rattle.sheet_numbers.specs.Decimal.{Put};
-ghost use Rattle.sheet_lines.specs.Lines.{unknown_line};
-ghost use Rattle.sheet_lists.specs.Closing.{lines_of, of_finding, of_leader, of_unseen, closing_of};
+ghost use Rattle.sheet_lines.specs.Lines.{finding_line, leader_line, unseen_line, unknown_line};
+ghost use Rattle.sheet_lists.specs.Closing.{joined, of_finding, of_leader, of_unseen, closing_of};
 
-use finding_lists::findings::{FindingAnswer, finding_at};
+use finding_lists::findings::finding_at;
 use index_lists::committed::{committed_length, committed_owner};
-use index_lists::unknown::{UnknownAnswer, unknown_at};
-use index_lists::unseen::{UnseenAnswer, unseen_at};
-use lists::leaders::{LeaderAnswer, leader_at};
+use index_lists::unknown::unknown_at;
+use index_lists::unseen::{Unseen, unseen_at};
+use lists::leaders::{Leader, leader_at};
 use rules::whole::well_formed;
 use sheet_lines::lines::{put_committed, put_finding, put_leader, put_unknown, put_unseen};
+use table_rows::findings::Found;
+use units::LogIndex;
 
 // No list is longer: 128 findings and leaders, 64 unseen marks, 256 unknown indexes.
 const MOST: usize = 256;
 
-fn put_findings(history: &[u8], out: &mut [u8], start: usize) -> usize
-    requires history_value { well_formed history.now ≡ true }
-    requires start_in_bounds { start + 22528 ≤ length out.old }
-    ensures { Put 22528 out.old start (lines_of of_finding (finding_list (decode history.now))) result out.new }
-{
-    let mut at = start;
-    let mut k = 0;
-    while k < MOST {
-        let FindingAnswer::Finding(f) = finding_at(history, k) else {
-            return at;
-        };
-        at = put_finding(&mut out[..], at, f);
-        k += 1;
-    }
-    at
+// An element of one of the lists, with the line that is printed of it.
+trait Listed: Copy {
+    // The lines of the list that a history holds.
+    ghost lines: { Bytes → List Bytes };
+
+    // No line has more bytes.
+    ghost width: { ℕ };
+
+    ghost line: { Self → Bytes };
+
+    // The n-th element, counted from 0.
+    fn nth(history: &[u8], n: usize) -> Option<Self>
+        requires { well_formed history.now ≡ true }
+        ensures { option_map line result ≡ slice_get (lines history.now) n };
+
+    fn put(self, out: &mut [u8], at: usize) -> usize
+        requires { at + width ≤ length out.old }
+        ensures { Put width out.old at (line self) result out.new };
 }
 
-fn put_leaders(history: &[u8], out: &mut [u8], start: usize) -> usize
-    requires history_value { well_formed history.now ≡ true }
-    requires start_in_bounds { start + 12544 ≤ length out.old }
-    ensures { Put 12544 out.old start (lines_of of_leader (leader_list (decode history.now))) result out.new }
-{
-    let mut at = start;
-    let mut k = 0;
-    while k < MOST {
-        let LeaderAnswer::Leader { term, leader } = leader_at(history, k) else {
-            return at;
-        };
-        at = put_leader(&mut out[..], at, term, leader);
-        k += 1;
+impl Listed for Found {
+    ghost lines = { λ h. map of_finding (finding_list (decode h)) };
+
+    ghost width = { 88 };
+
+    ghost line = { λ f. finding_line f.name f.node.0 f.index.0 f.term.0 };
+
+    fn nth(history: &[u8], n: usize) -> Option<Found> {
+        finding_at(history, n)
     }
-    at
+
+    fn put(self, out: &mut [u8], at: usize) -> usize {
+        put_finding(&mut out[..], at, self)
+    }
 }
 
-fn put_marks(history: &[u8], out: &mut [u8], start: usize) -> usize
-    requires history_value { well_formed history.now ≡ true }
-    requires start_in_bounds { start + 12544 ≤ length out.old }
-    ensures { Put 12544 out.old start (lines_of of_unseen (unseen_list (decode history.now))) result out.new }
-{
-    let mut at = start;
-    let mut k = 0;
-    while k < MOST {
-        let UnseenAnswer::Mark { node, index } = unseen_at(history, k) else {
-            return at;
-        };
-        at = put_unseen(&mut out[..], at, node, index);
-        k += 1;
+impl Listed for Leader {
+    ghost lines = { λ h. map of_leader (leader_list (decode h)) };
+
+    ghost width = { 49 };
+
+    ghost line = { λ l. leader_line l.term.0 l.leader.0 };
+
+    fn nth(history: &[u8], n: usize) -> Option<Leader> {
+        leader_at(history, n)
     }
-    at
+
+    fn put(self, out: &mut [u8], at: usize) -> usize {
+        put_leader(&mut out[..], at, self.term, self.leader)
+    }
 }
 
-fn put_indexes(history: &[u8], out: &mut [u8], start: usize) -> usize
+impl Listed for Unseen {
+    ghost lines = { λ h. map of_unseen (unseen_list (decode h)) };
+
+    ghost width = { 49 };
+
+    ghost line = { λ u. unseen_line u.node.0 u.index.0 };
+
+    fn nth(history: &[u8], n: usize) -> Option<Unseen> {
+        unseen_at(history, n)
+    }
+
+    fn put(self, out: &mut [u8], at: usize) -> usize {
+        put_unseen(&mut out[..], at, self.node, self.index)
+    }
+}
+
+// An unknown index.
+impl Listed for LogIndex {
+    ghost lines = { λ h. map unknown_line (unknown_list (decode h)) };
+
+    ghost width = { 29 };
+
+    ghost line = { λ i. unknown_line i.0 };
+
+    fn nth(history: &[u8], n: usize) -> Option<LogIndex> {
+        unknown_at(history, n)
+    }
+
+    fn put(self, out: &mut [u8], at: usize) -> usize {
+        put_unknown(&mut out[..], at, self)
+    }
+}
+
+// The lines of a list, one after another: where they end.
+fn put_list<T: Listed>(history: &[u8], out: &mut [u8], start: usize) -> usize
     requires history_value { well_formed history.now ≡ true }
-    requires start_in_bounds { start + 7424 ≤ length out.old }
-    ensures { Put 7424 out.old start (lines_of unknown_line (unknown_list (decode history.now))) result out.new }
+    requires start_in_bounds { start + 256 * T.width ≤ length out.old }
+    requires short { length (T.lines history.now) ≤ 256 }
+    ensures { Put (256 * T.width) out.old start (joined (T.lines history.now)) result out.new }
 {
     let mut at = start;
-    let mut k = 0;
-    while k < MOST {
-        let UnknownAnswer::Index(index) = unknown_at(history, k) else {
+    for n in 0..MOST {
+        let Some(x) = T::nth(history, n) else {
             return at;
         };
-        at = put_unknown(&mut out[..], at, index);
-        k += 1;
+        at = x.put(&mut out[..], at);
     }
     at
 }
@@ -94,10 +132,10 @@ pub fn put_lists(history: &[u8], out: &mut [u8]) -> usize
     if !well_formed(history) {
         return 0;
     }
-    let a = put_findings(history, &mut out[..], 0);
-    let b = put_leaders(history, &mut out[..], a);
-    let c = put_marks(history, &mut out[..], b);
-    let d = put_indexes(history, &mut out[..], c);
+    let a = put_list::<Found>(history, &mut out[..], 0);
+    let b = put_list::<Leader>(history, &mut out[..], a);
+    let c = put_list::<Unseen>(history, &mut out[..], b);
+    let d = put_list::<LogIndex>(history, &mut out[..], c);
     put_committed(
         &mut out[..],
         d,

@@ -1,16 +1,16 @@
 -- Laws of the split: which piece is at a place, that a whole one lies within the bytes, and a rest moved to the front.
 -- Assumes nothing.
 use Prim.Native.Nat.{ℕ, zero, suc, ◌+◌, ◌-◌, ◌≤◌, ◌<◌}
-use native.Mathlib.Nat.{zero-add, eq-or-lt_of_le}
+use native.Mathlib.Nat.{zero-add}
 use native.Mathlib.Omega.{arith}
 use mathlib.Core.Path.{◌≡◌, refl, ap, sym, ◌∙◌}
 use mathlib.Core.Bool.{Bool, true, false, cond}
-use mathlib.Core.Logic.{⊎_elim}
 use lib.Dec.{ltb, eqb}
 use mathlib.Core.List.{List, [], ◌∷◌, ◌++◌}
-use lib.ListN.{length, get_or, set, take, drop, length-set, length-drop, length-append, get_or-append}
-use lib.Seq.{get_or-set_same, get_or-set_other, get_or-drop, drop-drop, take-append-le, drop-append-le}
+use lib.ListN.{length, get_or, take, drop, length-drop, length-append, get_or-append}
+use lib.Seq.{get_or-drop, drop-drop, take-append-le, drop-append-le}
 use borrow.Author.Tests.{ltb-false, eqb-false, lt-ltb, le-ltb, eq-eqb, ne_eqb}
+use Rattle.std.specs.List.{CopiedTo}
 use Rattle.model.specs.Sizes.{Bytes}
 use Rattle.storage_bytes.specs.Words.{word_at}
 use Rattle.storage_bytes.specs.Layout.{part}
@@ -174,36 +174,9 @@ piece_joined s more at body size w =
 
 -- ---- a rest moved to the front
 
--- the first i bytes from a on are at the front of t, and the others of t are those of s
-pub record Moving (s : Bytes) (a i : ℕ) (t : Bytes) : Type 0 where
-  pub long : length t ≡ length s
-  pub done : (k : ℕ) → k < i → get_or t k 0 ≡ get_or s (a + k) 0
-  pub left : (k : ℕ) → i ≤ k → get_or t k 0 ≡ get_or s k 0
-
-pub moving_none : (s : Bytes) (a : ℕ) → Moving s a 0 s
-moving_none s a = record { long = refl; done = λ k h. absurd (omega arith); left = λ k h. refl }
-
-pub moving_next : (s : Bytes) (a i : ℕ) (t : Bytes) → Moving s a i t → i < length t → Moving s a (i + 1) (set t i (get_or t (a + i) 0))
-moving_next s a i t m h =
-    let v = get_or t (a + i) 0 in
-    record {
-      long = length-set t i v ∙ m.long;
-      done =
-          λ k l.
-          ⊎_elim
-          (λ (e : suc k ≡ i + 1). let f : k ≡ i = omega arith in
-          ap (λ (j : ℕ). get_or (set t i v) j 0) f
-          ∙ get_or-set_same t i v 0 h
-          ∙ m.left (a + i) (omega arith)
-          ∙ ap (λ (j : ℕ). get_or s (a + j) 0) (sym f))
-          (λ (g : suc k < i + 1). get_or-set_other t i k v 0 (omega arith) ∙ m.done k (omega arith))
-          (eq-or-lt_of_le l);
-      left = λ k l. get_or-set_other t i k v 0 (omega arith) ∙ m.left k (omega arith);
-    }
-
-pub moving_all : (s : Bytes) (a e : ℕ) (t : Bytes) → Moving s a (e - a) t → Moved s a e (e - a) t
-moving_all s a e t m =
+pub moved_front : (s t : Bytes) (a e : ℕ) → CopiedTo s t a 0 (e - a) → Moved s a e (e - a) t
+moved_front s t a e m =
     record {
       count = refl;
-      front = bytes_shift t s 0 a (e - a) (λ k l. ap (λ (j : ℕ). get_or t j 0) (zero-add k) ∙ m.done k l);
+      front = bytes_shift t s 0 a (e - a) (λ k l. ap (λ (j : ℕ). get_or t j 0) (zero-add k) ∙ m k 0 (omega arith) (omega arith) ∙ ap (λ (j : ℕ). get_or s (a + j) 0) (let e : k - 0 ≡ k = omega arith in e));
     }

@@ -39,11 +39,6 @@ pub fn move_down(t: &mut [u8], from: usize, to: usize) -> usize
     requires to_in_bounds { to ≤ length t.old }
     ensures { Moved t.old from to result t.new }
 {
-    let n = to - from;
-    let mut i = 0;
-    while i < n {
-        t[i] = t[from + i];
-        i += 1;
-    }
-    n
+    t.copy_within(from..to, 0);
+    to - from
 }

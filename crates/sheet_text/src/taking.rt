@@ -3,7 +3,7 @@ ghost use Rattle.std.specs.Prelude.{◌+◌, ◌≤◌, length};
 ghost use Rattle.sheet_numbers.specs.Decimal.{Put};
 ghost use Rattle.sheet_text.specs.Sheet.{cut_line, HandedOver, Taken};
 
-use answers::numbers::{Reply, reply_of};
+use answers::numbers::Reply;
 use sheet_lines::lines::put_record;
 use sheet_pieces::split::{Piece, piece_at};
 use storage_bytes::layout::part;
@@ -43,8 +43,7 @@ fn hand_over(history: &mut [u8], s: &[u8], out: &mut [u8], at: usize, number: u6
         return put_cut(&mut out[..], at, number);
     }
     let kind = s[0] / 16;
-    let a = submit(&mut history[..], s);
-    let r = reply_of(a);
+    let r = Reply::from(submit(history, s));
     put_record(&mut out[..], at, number, kind, r)
 }
 
@@ -59,11 +58,10 @@ pub fn take_some(
     requires { (start ≤ length block.now) × (63000 ≤ length out.old) × (first + 600 ≤ 18446744073709551615) }
     ensures { Taken history.old block.now out.old first start result history.new out.new }
 {
-    let mut count = 0;
     let mut number = first;
     let mut from = start;
     let mut at = 0;
-    while count < SOME {
+    for count in 0..SOME {
         let Piece::Whole { body, size } = piece_at(block, from) else {
             return Progress {
                 count,
@@ -76,10 +74,9 @@ pub fn take_some(
         at = hand_over(&mut history[..], s, &mut out[..], at, number);
         from = body + size;
         number += 1;
-        count += 1;
     }
     Progress {
-        count,
+        count: SOME,
         number,
         from,
         at,

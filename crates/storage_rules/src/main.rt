@@ -27,17 +27,13 @@ struct Piece {
 fn up_to(s: &[u8], from: usize, least: u8) -> Piece
     ensures { (from ≤ result.end) × (result.end ≤ from + length s.now) }
 {
-    let mut i = from;
-    let mut n = 90000;
-    while i < s.len() {
-        let b = s[i];
-        if b < least {
-            break;
-        }
-        n = n % 10000 * 10 + (b % 16) as usize;
-        i += 1;
+    let rest = &s[from.min(s.len())..];
+    let size = rest.iter().position(|b| *b < least).unwrap_or(rest.len());
+    let digits = rest[..size].iter();
+    Piece {
+        number: digits.fold(90000, |n, b| n % 10000 * 10 + usize::from(*b % 16)),
+        end: from + size,
     }
-    Piece { number: n, end: i }
 }
 
 // The text, and what a reader of the library answers. The byte behind the history is 1 where its last byte is left out.
@@ -83,6 +79,7 @@ fn run<W: Write>(writer: &mut W, s: &[u8], history: &mut [u8]) -> io::Result<()>
     requires { (length s.now ≤ 65536) × (24138 ≤ length history.old) }
 {
     let mut at = 0;
+    // a line begins where the one before it ends: no index is counted
     while at < s.len() {
         let place = up_to(s, at, b'0');
         let value = up_to(s, place.end + 1, b'0');

@@ -3,9 +3,6 @@
 use Rattle.std.proofs.Common.{length, ◌-◌, ◌≡◌, ◌≤◌}
 use Rattle.sheet.proofs.take_input.Given as goal
 
-abbrev pub invariant-loop-blocks : goal.invariant-loop-blocks
-invariant-loop-blocks g l =
+abbrev pub invariant-loop : goal.invariant-loop
+invariant-loop g l =
     (length l.history ≡ length l.initial.history) × (length l.input ≡ 131072) × (length l.out ≡ 65536) × (l.rest ≤ 131072)
-
-abbrev pub decreases-loop-blocks : goal.decreases-loop-blocks
-decreases-loop-blocks g l = 18446744073709551000 - l.blocks

@@ -4,7 +4,6 @@ use Prim.Native.Nat.{ℕ, ◌+◌}
 use mathlib.Core.Path.{ap, sym, ◌∙◌}
 use mathlib.Core.Bool.{Bool, cond}
 use native.Mathlib.Omega.{arith}
-use borrow.Author.Count.{falls}
 use native.Mathlib.Nat.{zero-add, add-zero}
 use Rattle.storage.specs.Tables.{finding_row}
 use Rattle.table_rows.specs.Values.{finding_value}
@@ -16,13 +15,10 @@ use Rattle.finding_lists.proofs.findings.count_first.Goals.{then-not-comes_befor
 pub loop-j-init : goal.loop-j-init
 loop-j-init c = (omega arith, sym (zero-add _))
 
-pub loop-j-smaller : goal.loop-j-smaller
-loop-j-smaller c = falls _ _ c.loop-j-test.true
-
 pub loop-j-preserved : goal.loop-j-preserved
 loop-j-preserved c =
     let s = c.args in
-    let told = c.comes_before.ensures ∙ ap (comes_before (finding_value s.f)) c.finding_at-g.ensures in (
+    let told = c.comes_before.ensures ∙ ap (comes_before (finding_value s.f)) c.finding_at.ensures in (
       elim c.if-not-comes_before.branch [ then-not-comes_before w ↦ omega (arith, w.count-is) | else-not-comes_before w ↦ omega (arith, w.count-is) ],
       count_next (finding_value s.f) (finding_row s.findings.now) c.loop-j.count c.loop-j.j s.m c.loop-j.invariant.1 c.loop-j-test.true
           (elim c.if-not-comes_before.branch [

@@ -12,6 +12,3 @@ abbrev pub invariant-loop-j : goal.invariant-loop-j
 invariant-loop-j l =
     (l.count ≤ l.j)
     × (count_first (finding_value l.f) (tabulate (finding_row l.findings) l.k (l.m - l.k)) ≡ l.count + count_first (finding_value l.f) (tabulate (finding_row l.findings) l.j (l.m - l.j)))
-
-abbrev pub decreases-loop-j : goal.decreases-loop-j
-decreases-loop-j l = l.m - l.j

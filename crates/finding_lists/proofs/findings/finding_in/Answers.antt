@@ -4,7 +4,6 @@ use Prim.Native.Nat.{◌+◌, ◌-◌}
 use mathlib.Core.Path.{ap, sym, ◌∙◌}
 use native.Mathlib.Omega.{arith}
 use mathlib.Core.List.{List}
-use borrow.Author.Count.{falls}
 use Rattle.model.specs.History.{Finding}
 use Rattle.storage_bytes.specs.Lists.{tabulate}
 use Rattle.storage.specs.Tables.{finding_row}
@@ -25,9 +24,6 @@ returns-then-left-p c =
     ap finding_of c.finding_at-f.ensures
     ∙ sym (order_here (finding_row s.findings.now) c.loop-k.k s.m c.loop-k.left _ c.loop-k.invariant.1 c.loop-k-test.true
     (c.count_first-p.ensures ∙ ap (λ (x : Finding). count_first x (tabulate (finding_row s.findings.now) (c.loop-k.k + 1) (s.m - (c.loop-k.k + 1)))) c.finding_at-f.ensures) c.if-left-p.true)
-
-pub loop-k-smaller : goal.loop-k-smaller
-loop-k-smaller c = falls _ _ c.loop-k-test.true
 
 pub loop-k-preserved : goal.loop-k-preserved
 loop-k-preserved c =

@@ -10,6 +10,3 @@ use Rattle.finding_lists.proofs.findings.finding_in.Given as goal
 abbrev pub invariant-loop-k : goal.invariant-loop-k
 invariant-loop-k l =
     (l.k ≤ l.m) × (pick_ordered (finding_rows l.findings l.m) l.n ≡ pick_ordered (tabulate (finding_row l.findings) l.k (l.m - l.k)) l.left)
-
-abbrev pub decreases-loop-k : goal.decreases-loop-k
-decreases-loop-k l = l.m - l.k

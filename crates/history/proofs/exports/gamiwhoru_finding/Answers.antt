@@ -1,16 +1,15 @@
 -- `history::exports::gamiwhoru_finding` meets its contract.
 -- Assumes nothing.
-use mathlib.Core.Path.{sym, ◌∙◌}
-use Rattle.history.proofs.Printed.{finding_here, is_broken}
+use mathlib.Core.Path.{refl}
+use Rattle.std.proofs.Common.{rules}
+use Rattle.finding_lists.specs.Findings.{finding_answer}
+use Rattle.history.specs.Exports.{found_as, no_finding, finding_out}
+use Rattle.history.proofs.Printed.{replied, finding_here, is_broken}
 use Rattle.history.proofs.exports.gamiwhoru_finding.Goals as goal
 
-pub finding_at-requires : goal.finding_at-requires
-finding_at-requires c = sym c.well_formed-2.ensures ∙ c.if-well_formed.true
-
-pub returns-then-well_formed : goal.returns-then-well_formed
-returns-then-well_formed c =
-    finding_here _ _ (sym c.well_formed-2.ensures ∙ c.if-well_formed.true) _
-    c.finding_at.ensures _ c.found_as.ensures
-
 pub returns : goal.returns
-returns c = is_broken _ _ _ (sym c.well_formed-2.ensures ∙ c.if-well_formed.false)
+returns c =
+    let h = c.args.history.now in
+    let n = c.args.n in
+    replied h _ (finding_answer h n) found_as (no_finding 12) (finding_out h n) _ c.reply.ensures.broken c.reply.ensures.given (λ x q. search rules)
+    (λ w. finding_here h n w _ refl _ refl) (λ w. is_broken h _ _ w)

@@ -4,4 +4,4 @@ use Rattle.history.proofs.Handed.{handed}
 use Rattle.history.proofs.exports.gamiwhoru_submit.Goals as goal
 
 pub returns : goal.returns
-returns c = handed _ _ _ _ c.submit-a.ensures _ c.reply_of.ensures
+returns c = handed _ _ _ _ c.submit.ensures _ c.from.ensures

@@ -1,16 +1,15 @@
 -- `history::exports::gamiwhoru_unseen` meets its contract.
 -- Assumes nothing.
-use mathlib.Core.Path.{sym, ◌∙◌}
-use Rattle.history.proofs.Printed.{mark_here, is_broken}
+use mathlib.Core.Path.{refl}
+use Rattle.std.proofs.Common.{rules}
+use Rattle.index_lists.specs.Unseen.{unseen_answer}
+use Rattle.history.specs.Exports.{mark_is, no_mark, unseen_out}
+use Rattle.history.proofs.Printed.{replied, mark_here, is_broken}
 use Rattle.history.proofs.exports.gamiwhoru_unseen.Goals as goal
 
-pub unseen_at-requires : goal.unseen_at-requires
-unseen_at-requires c = sym c.well_formed-2.ensures ∙ c.if-well_formed.true
-
-pub returns-then-well_formed : goal.returns-then-well_formed
-returns-then-well_formed c =
-    mark_here _ _ (sym c.well_formed-2.ensures ∙ c.if-well_formed.true) _
-    c.unseen_at.ensures _ c.mark_is.ensures
-
 pub returns : goal.returns
-returns c = is_broken _ _ _ (sym c.well_formed-2.ensures ∙ c.if-well_formed.false)
+returns c =
+    let h = c.args.history.now in
+    let n = c.args.n in
+    replied h _ (unseen_answer h n) mark_is (no_mark 12) (unseen_out h n) _ c.reply.ensures.broken c.reply.ensures.given (λ x q. search rules)
+    (λ w. mark_here h n w _ refl _ refl) (λ w. is_broken h _ _ w)

@@ -5,8 +5,8 @@ use Rattle.storage.proofs.WellFormed.{formed}
 use Rattle.index_lists.proofs.Whole.{unseen_lent}
 use Rattle.index_lists.proofs.unseen.unseen_at.Goals as goal
 
-pub node_table-nodes-requires : goal.node_table-nodes-requires
-node_table-nodes-requires c = let l = (formed _ c.requires).long in omega arith
+pub of-nodes-requires : goal.of-nodes-requires
+of-nodes-requires c = let l = (formed _ c.requires).long in omega arith
 
 pub returns : goal.returns
-returns c = unseen_lent _ _ _ c.node_table-nodes.ensures.is c.mark_in.ensures
+returns c = unseen_lent _ _ _ c.of-nodes.ensures.is c.mark_in.ensures

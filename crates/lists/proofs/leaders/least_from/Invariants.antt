@@ -9,7 +9,4 @@ use Rattle.lists.proofs.leaders.least_from.Given as goal
 
 abbrev pub invariant-loop-k : goal.invariant-loop-k
 invariant-loop-k l =
-    (l.k ≤ l.m) × (l.best ≡ least_in (pair l.t.0 l.l) (tabulate (finding_row l.findings) l.k (l.m - l.k)))
-
-abbrev pub decreases-loop-k : goal.decreases-loop-k
-decreases-loop-k l = l.k
+    (l.k ≤ l.m) × (l.best ≡ least_in (pair l.bound.term.0 l.bound.node) (tabulate (finding_row l.findings) l.k (l.m - l.k)))

@@ -11,5 +11,5 @@ returns-then-s-eq0 c = over_none _ _ _ _ _ _ _ c.if-s-eq0.true c.put_cut.ensures
 pub returns : goal.returns
 returns c =
     over_some _ _ _ _ _ _ _ c.if-s-eq0.false _
-    (c.reply_of-r.ensures ∙ ap reply_of c.submit-a.ensures.answer) _
-    c.submit-a.ensures.bytes c.put_record.ensures
+    (c.from-r.ensures ∙ ap reply_of c.submit.ensures.answer) _
+    c.submit.ensures.bytes c.put_record.ensures

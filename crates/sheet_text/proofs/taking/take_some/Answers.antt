@@ -1,7 +1,7 @@
 -- `sheet_text::taking::take_some` meets its contract.
 -- Assumes nothing.
 use borrow.Enum.Refused.{opened}
-use mathlib.Core.Path.{refl, ap, ◌∙◌}
+use mathlib.Core.Path.{◌≡◌, refl, ap, ◌∙◌}
 use mathlib.Core.Logic.{⊎_elim}
 use native.Mathlib.Omega.{arith}
 use Rattle.sheet_pieces.specs.contracts.split.Piece.{the_type}
@@ -47,4 +47,7 @@ loop-count-preserved c = (
 )
 
 pub returns : goal.returns
-returns c = taking_ends _ _ _ _ _ _ _ _ _ _ _ c.loop-count.invariant.0 c.loop-count.invariant.1 (λ l. absurd (omega arith))
+returns c =
+    let full : c.loop-count.count ≡ 600 = omega (arith, c.loop-count.invariant.1) in
+    let t = taking_ends _ _ _ _ _ _ _ _ _ _ _ c.loop-count.invariant.0 c.loop-count.invariant.1 (λ l. absurd (omega arith)) in
+    rw full at t

@@ -9,6 +9,3 @@ use Rattle.sheet_text.proofs.taking.take_some.Given as goal
 abbrev pub invariant-loop-count : goal.invariant-loop-count
 invariant-loop-count l =
     Taking l.initial.history l.block l.initial.out l.first l.start l.count l.number l.from l.at l.history l.out × (l.count ≤ 600) × (length l.history ≡ length l.initial.history)
-
-abbrev pub decreases-loop-count : goal.decreases-loop-count
-decreases-loop-count l = 600 - l.count
