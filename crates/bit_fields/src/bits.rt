@@ -58,7 +58,7 @@ pub fn holds(s: &[u8], at: usize, w: usize) -> bool
     at / 8 + (at % 8 + w + 7) / 8 <= s.len()
 }
 
-// A field of w bits: its number, or 2 where its bits are missing.
+// A field of w bits: its number, or that its bits are missing.
 #[tactic(auto, using(crate::proofs::Widths::field_lt), unfolding(model::specs::Reading::field))]
 pub fn field(s: &[u8], at: usize, w: usize) -> Result<u64, Fault>
     requires { w ≤ 57 }

@@ -1,15 +1,15 @@
 // The certificates held stand by term, then arrival, and a new one is mostly of the newest term: so its place is looked for
 // from the end, and its number and whether that is taken only among those of its term, right before the place.
-ghost use Rattle.std.specs.Prelude.{◌≡◌, ◌≤◌, ◌<◌, length};
+ghost use Rattle.std.specs.Prelude.{◌≡◌, ◌≤◌};
 ghost use Rattle.storage.specs.Tables.{certificate_row};
 ghost use Rattle.certificate_order.specs.Order.{place_from, held_before, taken_before};
 
-use certificate_rows::certificates::{number_at, term_at};
+use certificate_rows::certificates::{Certificates, number_at, term_at};
 use units::Term;
 
 // How many of the n stand before those of a later term: from the end back, the first that is of no later one is the last of them.
-pub fn place_of(certificates: &[u8], n: usize, term: Term) -> usize
-    requires { (n ≤ 64) × (length certificates.now ≡ 704) }
+pub fn place_of(certificates: &Certificates, n: usize, term: Term) -> usize
+    requires { n ≤ 64 }
     ensures { result ≡ place_from (certificate_row certificates.now) term.0 n }
 {
     for k in (0..n).rev() {
@@ -21,8 +21,8 @@ pub fn place_of(certificates: &[u8], n: usize, term: Term) -> usize
 }
 
 // How many right before the place are of the term.
-pub fn held_of(certificates: &[u8], place: usize, term: Term) -> usize
-    requires { (place ≤ 64) × (length certificates.now ≡ 704) }
+pub fn held_of(certificates: &Certificates, place: usize, term: Term) -> usize
+    requires { place ≤ 64 }
     ensures { result ≡ held_before (certificate_row certificates.now) term.0 place }
 {
     for k in (0..place).rev() {
@@ -34,8 +34,8 @@ pub fn held_of(certificates: &[u8], place: usize, term: Term) -> usize
 }
 
 // Whether one of the `held` right before the place has the number.
-pub fn is_taken(certificates: &[u8], place: usize, held: usize, number: usize) -> bool
-    requires { (held ≤ place) × (place ≤ 64) × (length certificates.now ≡ 704) }
+pub fn is_taken(certificates: &Certificates, place: usize, held: usize, number: usize) -> bool
+    requires { (held ≤ place) × (place ≤ 64) }
     ensures { result ≡ taken_before (certificate_row certificates.now) number place held }
 {
     for k in place - held..place {

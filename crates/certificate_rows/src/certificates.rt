@@ -1,9 +1,9 @@
 // The table of certificates, by term, then arrival. A log is a stored prefix, where it is present.
 ghost use Rattle.std.specs.Prelude.{◌≡◌, ◌+◌, ◌*◌, ◌≤◌, ◌<◌, length, refl};
 ghost use Rattle.std.proofs.Common.{lit≤};
-ghost use Rattle.storage.specs.Tables.{certificate_row};
+ghost use Rattle.storage.specs.Tables.{CertificateRow, certificate_row};
 ghost use Rattle.storage.proofs.RowLaws.{certificate_length};
-ghost use Rattle.certificate_rows.specs.Values.{certificate_value, stored_certificate};
+ghost use Rattle.certificate_rows.specs.Values.{certificate_value};
 ghost use Rattle.storage_bytes.specs.declared.layout.TheConstants.{CERTIFICATES};
 ghost use Rattle.storage_bytes.specs.Words.{word_at, word_bytes, put_bytes};
 ghost use Rattle.storage.specs.Writes.{certificate_bytes, certificate_inserted, certificate_added};
@@ -13,6 +13,9 @@ use storage::rows::{Row, StoredRow};
 use storage_bytes::layout::{CERTIFICATE_MARK, CERTIFICATE_WIDTH, CERTIFICATES, Region};
 use storage_bytes::words::{Field, move_up, put8};
 use units::{LogIndex, LogPrefixWitness, NodeId, Term};
+
+// The table's bytes.
+pub type Certificates = [u8; 704];
 
 // A certificate without a log.
 pub const LOG_ABSENT: usize = 0;
@@ -64,7 +67,11 @@ impl Row for Certificate {
 }
 
 impl StoredRow for Certificate {
-    ghost stored = { stored_certificate };
+    ghost Value = { CertificateRow };
+
+    ghost value = { certificate_value };
+
+    ghost stored = { certificate_row };
 
     fn at(certificates: &[u8], k: usize) -> Certificate {
         let o = k * CERTIFICATE_WIDTH;
@@ -79,33 +86,25 @@ impl StoredRow for Certificate {
     }
 }
 
-// As `at` gives it, in the model's words.
-pub fn certificate_at(certificates: &[u8], k: usize) -> Certificate
-    requires { (k < 64) × (length certificates.now ≡ 704) }
-    ensures { certificate_value result ≡ certificate_row certificates.now k }
-{
-    Certificate::at(certificates, k)
-}
-
 // The term of row k alone. Fields that are read alone have a function each, in the model's words.
-pub fn term_at(certificates: &[u8], k: usize) -> Term
-    requires { (k < 64) × (length certificates.now ≡ 704) }
+pub fn term_at(certificates: &Certificates, k: usize) -> Term
+    requires { k < 64 }
     ensures { result.0 ≡ (certificate_row certificates.now k).term }
 {
     Term::read(certificates, k * CERTIFICATE_WIDTH)
 }
 
 // Its mark alone.
-pub fn mark_at(certificates: &[u8], k: usize) -> LogIndex
-    requires { (k < 64) × (length certificates.now ≡ 704) }
+pub fn mark_at(certificates: &Certificates, k: usize) -> LogIndex
+    requires { k < 64 }
     ensures { result.0 ≡ (certificate_row certificates.now k).mark }
 {
     LogIndex::read(certificates, k * CERTIFICATE_WIDTH + CERTIFICATE_MARK)
 }
 
 // Its number within its term alone.
-pub fn number_at(certificates: &[u8], k: usize) -> usize
-    requires { (k < 64) × (length certificates.now ≡ 704) }
+pub fn number_at(certificates: &Certificates, k: usize) -> usize
+    requires { k < 64 }
     ensures { result ≡ (certificate_row certificates.now k).number }
 {
     usize::from(u8::read(certificates, k * CERTIFICATE_WIDTH + 9))

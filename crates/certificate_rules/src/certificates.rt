@@ -1,13 +1,13 @@
 // The storage rules of the table of certificates: of each row by itself, and of the numbers within each term.
-ghost use Rattle.std.specs.Prelude.{◌≡◌, ◌≤◌, length};
+ghost use Rattle.std.specs.Prelude.{◌≡◌, ◌≤◌};
 ghost use Rattle.storage_bytes.specs.Lists.{every};
 ghost use Rattle.storage.specs.Tables.{rows_of_certificates};
 ghost use Rattle.storage.specs.Rules.{certificate_right, follows as followsRow, numbered as numberedRows};
 ghost use Rattle.certificate_rows.specs.Values.{certificate_value};
 
-use certificate_rows::certificates::{Certificate, certificate_at};
-use storage::rows::all_rows;
-use units::{INDEX_LIMIT, NODE_LIMIT};
+use certificate_rows::certificates::{Certificate, Certificates};
+use storage::rows::{StoredRow, all_rows};
+use units::{LogIndex, NodeId};
 
 // The storage rules of one row by itself, where n prefixes are stored.
 #[tactic(auto, unfolding(storage::specs::Rules::certificate_right))]
@@ -17,18 +17,18 @@ fn certificate_right(n: usize, c: Certificate) -> bool
     if n < c.log.0 {
         return false;
     }
-    if INDEX_LIMIT < c.mark.0 {
+    if LogIndex::LAST < c.mark {
         return false;
     }
-    if NODE_LIMIT < c.leader.0 {
+    if NodeId::LAST < c.leader {
         return false;
     }
     c.present <= 1
 }
 
 // The storage rules of every one of m rows by itself.
-pub fn certificates_right(certificates: &[u8], m: usize, n: usize) -> bool
-    requires { (m ≤ 64) × (length certificates.now ≡ 704) }
+pub fn certificates_right(certificates: &Certificates, m: usize, n: usize) -> bool
+    requires { m ≤ 64 }
     ensures { result ≡ every (certificate_right n) (rows_of_certificates certificates.now m) }
 {
     all_rows(certificates, m, |c: Certificate| certificate_right(n, c))
@@ -53,19 +53,19 @@ fn follows(c: Certificate, d: Certificate) -> bool
 
 // The certificates of each term are numbered 0, 1, .. unbroken.
 #[tactic(auto, using(crate::proofs::Turns::numbered_start, crate::proofs::Turns::numbered_first, crate::proofs::Turns::numbered_no_rows, crate::proofs::Turns::numbered_next, crate::proofs::Turns::numbered_stop, crate::proofs::Turns::numbered_none))]
-pub fn numbered(certificates: &[u8], m: usize) -> bool
-    requires { (m ≤ 64) × (length certificates.now ≡ 704) }
+pub fn numbered(certificates: &Certificates, m: usize) -> bool
+    requires { m ≤ 64 }
     ensures { result ≡ numberedRows (rows_of_certificates certificates.now m) }
 {
     if m == 0 {
         return true;
     }
-    let mut c = certificate_at(certificates, 0);
+    let mut c = Certificate::at(certificates, 0);
     if c.number != 0 {
         return false;
     }
     for k in 1..m {
-        let d = certificate_at(certificates, k);
+        let d = Certificate::at(certificates, k);
         if !follows(c, d) {
             return false;
         }

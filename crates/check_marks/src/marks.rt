@@ -5,8 +5,9 @@ ghost use Rattle.storage_bytes.specs.Words.{word_at};
 ghost use Rattle.check_marks.specs.Marks.{mark_moved, marks_moved};
 
 use certificate_mark::mark::with_mark;
-use certificate_rows::certificates::certificate_at;
+use certificate_rows::certificates::Certificate;
 use storage::head::certificate_count;
+use storage::rows::StoredRow;
 use storage_bytes::layout::CERTIFICATES;
 use term_marks::marks::{checked_mark, store_mark};
 use units::LogIndex;
@@ -20,7 +21,7 @@ pub fn move_mark(history: &mut [u8], k: usize, end: LogIndex)
     if end <= checked_mark(history, k) {
         return;
     }
-    let c = certificate_at(CERTIFICATES.of(history), k);
+    let c = Certificate::at(CERTIFICATES.of(history), k);
     let moved = with_mark(c, end);
     store_mark(history, k, moved.mark);
 }

@@ -6,7 +6,7 @@ ghost use Rattle.storage.specs.Rules.{within_limits, committed_right};
 use storage::head::{
     certificate_count, committed, finding_count, last_recorded, owner, prefix_count,
 };
-use units::{CERTIFICATE_LIMIT, FINDING_LIMIT, INDEX_LIMIT, NODE_LIMIT, PREFIX_LIMIT};
+use units::{CERTIFICATE_LIMIT, FINDING_LIMIT, LogIndex, NodeId, PREFIX_LIMIT};
 
 // The counts are within the limits.
 #[tactic(auto, unfolding(storage::specs::Rules::within_limits))]
@@ -17,7 +17,7 @@ pub fn within_limits(head: &[u8]) -> bool
     if PREFIX_LIMIT < prefix_count(head) {
         return false;
     }
-    if INDEX_LIMIT < last_recorded(head).0 {
+    if LogIndex::LAST < last_recorded(head) {
         return false;
     }
     if CERTIFICATE_LIMIT < certificate_count(head) {
@@ -35,5 +35,5 @@ pub fn committed_right(head: &[u8]) -> bool
     if prefix_count(head) < committed(head).0 {
         return false;
     }
-    owner(head).0 <= NODE_LIMIT
+    owner(head) <= NodeId::LAST
 }

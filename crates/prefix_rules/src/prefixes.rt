@@ -5,7 +5,7 @@ ghost use Rattle.storage.specs.Rules.{prefix_right, prefixes_right_after};
 
 use prefix_rows::prefixes::{index_at, parent_at, size_at, through};
 use stored_once::once::is_among;
-use units::{CONTENT_LIMIT, INDEX_LIMIT};
+use units::{CONTENT_LIMIT, LogIndex};
 
 // The storage rules of row k, by the rows before it.
 fn prefix_right(prefixes: &[u8], k: usize) -> bool
@@ -20,7 +20,7 @@ fn prefix_right(prefixes: &[u8], k: usize) -> bool
     if i.0 != through(prefixes, p).0 + 1 {
         return false;
     }
-    if INDEX_LIMIT < i.0 {
+    if LogIndex::LAST < i {
         return false;
     }
     if CONTENT_LIMIT < size_at(prefixes, k) {

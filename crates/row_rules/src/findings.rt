@@ -7,7 +7,7 @@ ghost use Rattle.table_rows.specs.Values.{finding_value};
 
 use storage::rows::all_rows;
 use table_rows::findings::{Found, LG_03, LG_05};
-use units::{INDEX_LIMIT, NODE_LIMIT};
+use units::{LogIndex, NodeId};
 
 // The storage rules of one row.
 #[tactic(auto, unfolding(storage::specs::Rules::finding_right))]
@@ -20,10 +20,10 @@ fn finding_right(f: Found) -> bool
     if LG_05 < f.name {
         return false;
     }
-    if NODE_LIMIT < f.node.0 {
+    if NodeId::LAST < f.node {
         return false;
     }
-    f.index.0 <= INDEX_LIMIT
+    f.index <= LogIndex::LAST
 }
 
 // The storage rules of every one of m rows.

@@ -7,7 +7,7 @@ ghost use Rattle.table_rows.specs.Values.{node_value};
 
 use storage::rows::all_rows;
 use table_rows::nodes::Node;
-use units::INDEX_LIMIT;
+use units::LogIndex;
 
 // The storage rules of one row, where n prefixes are stored.
 #[tactic(auto, unfolding(storage::specs::Rules::node_right))]
@@ -17,10 +17,10 @@ fn node_right(n: usize, x: Node) -> bool
     if n < x.front.0 {
         return false;
     }
-    if INDEX_LIMIT < x.last.0 {
+    if LogIndex::LAST < x.last {
         return false;
     }
-    x.unseen.0 <= INDEX_LIMIT
+    x.unseen <= LogIndex::LAST
 }
 
 // The storage rules of every row.

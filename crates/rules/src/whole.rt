@@ -29,7 +29,7 @@ pub fn well_formed(history: &[u8]) -> bool
     if !nodes_right(NODES.of(history), n) {
         return false;
     }
-    let certificates = CERTIFICATES.of(history);
+    let certificates = CERTIFICATES.array(history);
     let m = certificate_count(head);
     if !certificates_right(certificates, m, n) {
         return false;

@@ -10,7 +10,6 @@ use lib.Dec.{leb, ltb, eqb}
 use lib.ListN.{get_or, set, get_or-map}
 use borrow.Author.Tests.{leb-true, ne_eqb}
 use Rattle.model.specs.Sizes.{Bytes}
-use Rattle.storage_bytes.specs.Lists.{every, tabulate}
 use Rattle.storage.specs.Tables.{PrefixRow, CertificateRow, prefix_row, rows_of_prefixes}
 use Rattle.storage.specs.Rules.{follows, numbered_after, numbered, index_among, within_limits}
 use Rattle.storage.specs.Values.{number_index}
@@ -32,14 +31,7 @@ index_among_lem t k (suc p) h =
     none : PrefixRow
     none = record { parent = 0; index = 0; term = 0; size = 0; content = [] }
 
--- ---- tests of every row, and in a row, and the limits
-
--- values of the code that each stand for a row
-pub every_value : {A B : Type 0} (test : B → Bool) (value : A → B) (f : ℕ → A) (i n : ℕ)
-    → every (λ x. test (value x)) (tabulate f i n) ≡ every test (tabulate (λ k. value (f k)) i n)
-unfolding every tabulate
-every_value test value f i zero = refl
-every_value test value f i (suc n) = ap (λ (b : Bool). test (value (f i)) && b) (every_value test value f (i + 1) n)
+-- ---- tests in a row, and the limits
 
 -- a test that failed decides, one that passed hands on
 pub stop : {a : Bool} (b : Bool) → a ≡ false → (a && b) ≡ false

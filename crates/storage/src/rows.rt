@@ -36,11 +36,16 @@ pub trait Row: Copy {
 
 // A row that is also read as a whole.
 pub trait StoredRow: Row {
-    ghost stored: { List ℕ → ℕ → Self };
+    // A row in the model's words: the code's own, and the one stored at a place of the table.
+    ghost Value: { Type 0 };
+
+    ghost value: { Self → Value };
+
+    ghost stored: { List ℕ → ℕ → Value };
 
     fn at(table: &[u8], k: usize) -> Self
         requires { (k < Self.count) × (length table.now ≡ Self.TABLE.length) }
-        ensures { result ≡ stored table.now k };
+        ensures { value result ≡ stored table.now k };
 }
 
 // A row written in the whole history, of which only its table is lent.
@@ -58,7 +63,7 @@ pub fn set<R: Row>(history: &mut [u8], k: usize, row: R)
 pub fn all_rows<R: StoredRow, F: Fn(R) -> bool>(table: &[u8], m: usize, test: F) -> bool
     requires callable { F.IsAlwaysCallable test }
     requires within { (m ≤ R.count) × (length table.now ≡ R.TABLE.length) }
-    ensures { (p : R → Bool) → ((x : R) (b : Bool) → F.post test x b → b ≡ p x) → result ≡ every p (tabulate (R.stored table.now) 0 m) }
+    ensures { (p : R.Value → Bool) → ((x : R) (b : Bool) → F.post test x b → b ≡ p (R.value x)) → result ≡ every p (tabulate (R.stored table.now) 0 m) }
 {
     for k in 0..m {
         if !test(R::at(table, k)) {

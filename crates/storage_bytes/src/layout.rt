@@ -3,7 +3,8 @@
 ghost use Rattle.std.specs.Prelude.{◌≡◌, ◌+◌, ◌≤◌, length};
 ghost use Rattle.storage_bytes.specs.Layout.{Part};
 
-// A table's place in a history: where it starts, and its length.
+// A table's place in a history: where it starts, and its length. That it lies inside is no ghost field: specs could not name its
+// constants then.
 #[derive(Clone, Copy)]
 pub struct Region {
     pub start: usize,
@@ -17,6 +18,14 @@ impl Region {
         ensures { Part history.now self.start self.length result.now }
     {
         part(history, self.start, self.length)
+    }
+
+    // The same with their count in the type, so that whoever reads a row need not ask for it.
+    pub fn array<const N: usize>(self, history: &[u8]) -> &[u8; N]
+        requires { (self.length ≡ N) × (self.start + self.length ≤ length history.now) }
+        ensures { Part history.now self.start self.length result.now }
+    {
+        self.of(history).try_into().unwrap()
     }
 }
 
@@ -66,7 +75,10 @@ const _: () = prove!(PREFIXES.start == FINDINGS.start + FINDINGS.length);
 
 const _: () = prove!(HISTORY_LENGTH == PREFIXES.start + PREFIXES.length);
 
+// The length of the table of findings, for an array of it.
 pub const FINDINGS_LENGTH: usize = 1024;
+
+const _: () = prove!(FINDINGS_LENGTH == FINDINGS.length);
 
 pub const NODE_WIDTH: usize = 6;
 

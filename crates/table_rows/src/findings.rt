@@ -1,9 +1,10 @@
 // The table of findings, in the order found.
-ghost use Rattle.std.specs.Prelude.{◌≡◌, ◌+◌, ◌*◌, ◌≤◌, ◌<◌, ◌++◌, length, refl};
+ghost use Rattle.std.specs.Prelude.{◌≡◌, ◌+◌, ◌*◌, ◌≤◌, ◌<◌, ◌++◌, refl};
 ghost use Rattle.std.proofs.Common.{lit≤};
+ghost use Rattle.model.specs.History.{Finding};
 ghost use Rattle.storage.specs.Tables.{finding_row};
 ghost use Rattle.storage.proofs.RowLaws.{finding_length};
-ghost use Rattle.table_rows.specs.Values.{finding_value, stored_finding};
+ghost use Rattle.table_rows.specs.Values.{finding_value};
 ghost use Rattle.storage_bytes.specs.declared.layout.TheConstants.{FINDINGS};
 ghost use Rattle.storage_bytes.specs.Words.{word_bytes, put_bytes};
 ghost use Rattle.storage.specs.Writes.{finding_bytes};
@@ -61,7 +62,11 @@ impl Row for Found {
 }
 
 impl StoredRow for Found {
-    ghost stored = { stored_finding };
+    ghost Value = { Finding };
+
+    ghost value = { finding_value };
+
+    ghost stored = { finding_row };
 
     fn at(findings: &[u8], k: usize) -> Found {
         let o = k * FINDING_WIDTH;
@@ -72,12 +77,4 @@ impl StoredRow for Found {
             term: Term::read(findings, o + 4),
         }
     }
-}
-
-// As `at` gives it, in the model's words.
-pub fn finding_at(findings: &[u8], k: usize) -> Found
-    requires { (k < 128) × (length findings.now ≡ 1024) }
-    ensures { finding_value result ≡ finding_row findings.now k }
-{
-    Found::at(findings, k)
 }

@@ -1,8 +1,8 @@
 // The table of nodes: of each of the 64 its front, the last index of its view and its unseen mark.
-ghost use Rattle.std.specs.Prelude.{◌≡◌, ◌+◌, ◌*◌, ◌<◌, length, refl};
+ghost use Rattle.std.specs.Prelude.{◌≡◌, ◌+◌, ◌*◌, ◌<◌, refl};
 ghost use Rattle.std.proofs.Common.{lit≤};
-ghost use Rattle.storage.specs.Tables.{row_of_node};
-ghost use Rattle.table_rows.specs.Values.{node_value, stored_node};
+ghost use Rattle.storage.specs.Tables.{NodeRow, row_of_node};
+ghost use Rattle.table_rows.specs.Values.{node_value};
 ghost use Rattle.storage_bytes.specs.declared.layout.TheConstants.{NODES};
 ghost use Rattle.storage.proofs.RowLaws.{node_length};
 ghost use Rattle.storage_bytes.specs.Words.{put_bytes};
@@ -49,7 +49,11 @@ impl Row for Node {
 }
 
 impl StoredRow for Node {
-    ghost stored = { stored_node };
+    ghost Value = { NodeRow };
+
+    ghost value = { node_value };
+
+    ghost stored = { row_of_node };
 
     fn at(nodes: &[u8], k: usize) -> Node {
         let o = k * NODE_WIDTH;
@@ -59,12 +63,4 @@ impl StoredRow for Node {
             unseen: LogIndex::read(nodes, o + 4),
         }
     }
-}
-
-// As `at` gives it, in the model's words.
-pub fn node_at(nodes: &[u8], k: usize) -> Node
-    requires { (k < 64) × (length nodes.now ≡ 384) }
-    ensures { node_value result ≡ row_of_node nodes.now k }
-{
-    Node::at(nodes, k)
 }

@@ -14,7 +14,7 @@ fn election_term(history: &[u8], k: usize) -> Term
     requires { (k < 64) × (length history.now ≡ 24137) }
     ensures { result.0 ≡ (certificate_of history.now k).term }
 {
-    term_at(CERTIFICATES.of(history), k)
+    term_at(CERTIFICATES.array(history), k)
 }
 
 // The mark of certificate k.
@@ -22,7 +22,7 @@ pub fn checked_mark(history: &[u8], k: usize) -> LogIndex
     requires { (k < 64) × (length history.now ≡ 24137) }
     ensures { result.0 ≡ (certificate_of history.now k).mark }
 {
-    mark_at(CERTIFICATES.of(history), k)
+    mark_at(CERTIFICATES.array(history), k)
 }
 
 // The mark of certificate k, written. Only the table is lent.

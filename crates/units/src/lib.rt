@@ -43,6 +43,11 @@ pub struct LogPrefixWitness(pub usize);
 #[derive(Clone, Copy, PartialEq, Eq)]
 pub struct OutOfLimit;
 
+impl NodeId {
+    // The greatest node.
+    pub const LAST: NodeId = NodeId(NODE_LIMIT);
+}
+
 impl TryFrom<u8> for NodeId {
     type Error = OutOfLimit;
 
@@ -74,6 +79,9 @@ impl TryFrom<usize> for LogIndex {
 impl LogIndex {
     // No entry: the index before the first.
     pub const ZERO: LogIndex = LogIndex(0);
+
+    // The greatest index.
+    pub const LAST: LogIndex = LogIndex(INDEX_LIMIT);
 }
 
 impl From<u32> for Term {

@@ -4,7 +4,7 @@ use mathlib.Core.Bool.{not}
 use Rattle.storage.proofs.RuleLaws.{stop, pass}
 use Rattle.prefix_rules.proofs.Turns.{right_parent, right_rest}
 use borrow.Author.Tests.{le-leb, lt-leb, eq-eqb, ne_eqb}
-use mathlib.Core.Path.{ap, sym, ◌∙◌}
+use Rattle.std.proofs.Common.{ap, sym, ◌∙◌, rules}
 use Rattle.prefix_rules.proofs.prefixes.prefix_right.Goals as goal
 
 pub returns-then-k-p : goal.returns-then-k-p
@@ -19,13 +19,13 @@ returns-then-i-through c =
     (right_rest s.prefixes.now s.k _ _ _ c.parent_at-p.ensures.is c.if-k-p.false c.index_at-i.ensures.is c.through.ensures.is
     ∙ stop _ (ne_eqb _ _ c.if-i-through.true))
 
-pub returns-then-i-gt-INDEX_LIMIT : goal.returns-then-i-gt-INDEX_LIMIT
-returns-then-i-gt-INDEX_LIMIT c =
+pub returns-then-lt : goal.returns-then-lt
+returns-then-lt c =
     let s = c.args in
     sym
     (right_rest s.prefixes.now s.k _ _ _ c.parent_at-p.ensures.is c.if-k-p.false c.index_at-i.ensures.is c.through.ensures.is
     ∙ pass _ (eq-eqb _ _ c.if-i-through.false)
-    ∙ stop _ (lt-leb _ _ c.if-i-gt-INDEX_LIMIT.true))
+    ∙ stop _ (lt-leb c.index_at-i.result.0 256 (search rules)))
 
 pub returns-then-size_at-gt-CONTENT_LIMIT : goal.returns-then-size_at-gt-CONTENT_LIMIT
 returns-then-size_at-gt-CONTENT_LIMIT c =
@@ -33,7 +33,7 @@ returns-then-size_at-gt-CONTENT_LIMIT c =
     sym
     (right_rest s.prefixes.now s.k _ _ _ c.parent_at-p.ensures.is c.if-k-p.false c.index_at-i.ensures.is c.through.ensures.is
     ∙ pass _ (eq-eqb _ _ c.if-i-through.false)
-    ∙ pass _ (le-leb _ _ c.if-i-gt-INDEX_LIMIT.false)
+    ∙ pass _ (le-leb c.index_at-i.result.0 256 (search rules))
     ∙ stop _ (lt-leb _ _ (rw c.size_at.ensures.is at c.if-size_at-gt-CONTENT_LIMIT.true)))
 
 pub returns : goal.returns
@@ -43,5 +43,5 @@ returns c =
     ∙ sym
     (right_rest s.prefixes.now s.k _ _ _ c.parent_at-p.ensures.is c.if-k-p.false c.index_at-i.ensures.is c.through.ensures.is
     ∙ pass _ (eq-eqb _ _ c.if-i-through.false)
-    ∙ pass _ (le-leb _ _ c.if-i-gt-INDEX_LIMIT.false)
+    ∙ pass _ (le-leb c.index_at-i.result.0 256 (search rules))
     ∙ pass _ (le-leb _ _ (rw c.size_at.ensures.is at c.if-size_at-gt-CONTENT_LIMIT.false)))
