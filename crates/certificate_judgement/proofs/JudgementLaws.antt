@@ -2,8 +2,8 @@
 -- Assumes nothing.
 use Prim.Native.Nat.{ℕ, ◌+◌, ◌-◌, ◌<◌, ◌≤◌}
 use native.Mathlib.Omega.{arith}
-use mathlib.Core.Path.{◌≡◌, sym, ◌∙◌, ap, subst}
-use mathlib.Core.Bool.{Bool, true, false, not}
+use mathlib.Core.Path.{◌≡◌, refl, sym, ◌∙◌, ap, subst}
+use mathlib.Core.Bool.{Bool, true, false, cond, not, ◌||◌}
 use mathlib.Core.List.{List, [], ◌∷◌}
 use lib.Dec.{eqb}
 use borrow.Author.Tests.{eq-eqb, ne_eqb}
@@ -45,45 +45,49 @@ module _ (h : Bytes) (c : CertificateRow) (i : ℕ) where
 -- ---- one certificate
 
 module _ (h : Bytes) (c : CertificateRow) where
-  module _ (t : Bytes) (b held r : ℕ) (e : r ≡ relevant_in h c) where
+  module _ (t : Bytes) (held r : ℕ) (e : r ≡ relevant_in h c) where
     irrelevant : r ≡ 0 → eqb (relevant_in h c) 0 ≡ true
     irrelevant z = eq-eqb (relevant_in h c) 0 (sym e ∙ z)
 
-    pub judged_none : r ≡ 0 → JudgedAs h c t b held b held t
+    pub judged_none : r ≡ 0 → JudgedAs h c t held false held t
     unfolding flag_in lacking_in held_all bytes_all
     judged_none z =
         let n : lacking_in h c ≡ [] = cond_true (eqb (relevant_in h c) 0) [] _ (irrelevant z) in
         record {
-          flag = sym (cond_true (eqb (relevant_in h c) 0) b 4 (irrelevant z));
+          flag = λ b. sym (cond_true (eqb (relevant_in h c) 0) b 4 (irrelevant z));
           holds = sym (ap (held_all t held) n);
           table = sym (ap (bytes_all t held) n);
         }
 
     -- l: its log lacks the committed prefix through r
     pub judged_some : (r ≡ 0 → ⊥) → (l : Bool) → l ≡ lacks_through h c r → (held' : ℕ) (t' : Bytes)
-        → NotedAll t held (note_where l (lacking_of c r)) held' t' → JudgedAs h c t b held 4 held' t'
+        → NotedAll t held (note_where l (lacking_of c r)) held' t' → JudgedAs h c t held true held' t'
     unfolding flag_in lacking_in lacking_at
     judged_some z l el held' t' w =
         let f : eqb (relevant_in h c) 0 ≡ false = ne_eqb (relevant_in h c) 0 (λ q. z (e ∙ q)) in
         let n : note_where l (lacking_of c r) ≡ lacking_in h c =
         ap (λ (x : Bool). note_where x (lacking_of c r)) el ∙ ap (lacking_at h c) e ∙ sym (cond_false (eqb (relevant_in h c) 0) [] _ f) in
         record {
-          flag = sym (cond_false (eqb (relevant_in h c) 0) b 4 f);
+          flag = λ b. sym (cond_false (eqb (relevant_in h c) 0) b 4 f);
           holds = w.0 ∙ ap (held_all t held) n;
           table = w.1 ∙ ap (bytes_all t held) n;
         }
 
 -- ---- the walk over all of them
 
+either_flag : (r b : Bool) → cond {A = ℕ} r 4 (cond b 4 0) ≡ cond (r || b) 4 0
+either_flag true b = refl
+either_flag false b = refl
+
 -- what is left of the certificates from the k-th on gives the rest
-pub record Walking (h t₀ : Bytes) (held m : ℕ) (t : Bytes) (b n k : ℕ) : Type 0 where
-  pub flag : flags_in h 0 (certificates_of h) ≡ flags_in h b (tabulate (certificate_row (certificates_part h)) k (m - k))
+pub record Walking (h t₀ : Bytes) (held m : ℕ) (t : Bytes) (b : Bool) (n k : ℕ) : Type 0 where
+  pub flag : flags_in h 0 (certificates_of h) ≡ flags_in h (cond b 4 0) (tabulate (certificate_row (certificates_part h)) k (m - k))
   pub holds : held_all t₀ held (lackings_in h (certificates_of h)) ≡ held_all t n (lackings_in h (tabulate (certificate_row (certificates_part h)) k (m - k)))
   pub table : bytes_all t₀ held (lackings_in h (certificates_of h)) ≡ bytes_all t n (lackings_in h (tabulate (certificate_row (certificates_part h)) k (m - k)))
   pub within : k ≤ m
 
 module _ (h t₀ : Bytes) (held m : ℕ) where
-  pub walking_starts : m ≡ word_at h 6 1 → Walking h t₀ held m t₀ 0 held 0
+  pub walking_starts : m ≡ word_at h 6 1 → Walking h t₀ held m t₀ false held 0
   walking_starts e =
       let s : certificates_of h ≡ tabulate (certificate_row (certificates_part h)) 0 (m - 0) =
       ap (λ (x : ℕ). tabulate (certificate_row (certificates_part h)) 0 x) (let z : word_at h 6 1 ≡ m - 0 = omega arith in z) in
@@ -94,13 +98,13 @@ module _ (h t₀ : Bytes) (held m : ℕ) where
         within = omega arith;
       }
 
-  module _ (t : Bytes) (b n k : ℕ) (w : Walking h t₀ held m t b n k) where
+  module _ (t : Bytes) (b : Bool) (n k : ℕ) (w : Walking h t₀ held m t b n k) where
     pub walking_ends : m ≤ k → JudgedAll h t₀ held b n t
     unfolding flags_in lackings_in held_all bytes_all
     walking_ends l =
         let s : tabulate (certificate_row (certificates_part h)) k (m - k) ≡ [] = tabulate_none (certificate_row (certificates_part h)) k m l in
         record {
-          flag = sym (w.flag ∙ ap (flags_in h b) s);
+          flag = sym (w.flag ∙ ap (flags_in h (cond b 4 0)) s);
           holds = sym (w.holds ∙ ap (λ (cs : List CertificateRow). held_all t n (lackings_in h cs)) s);
           table = sym (w.table ∙ ap (λ (cs : List CertificateRow). bytes_all t n (lackings_in h cs)) s);
         }
@@ -113,11 +117,13 @@ module _ (h t₀ : Bytes) (held m : ℕ) where
       unfolding rest
       more = tabulate_cons (certificate_row (certificates_part h)) k m l ∙ ap (λ (x : CertificateRow). x ∷ rest) (sym e)
 
-      pub walking_next : (b' n' : ℕ) (t' : Bytes) → JudgedAs h c t b n b' n' t' → Walking h t₀ held m t' b' n' (k + 1)
+      -- r: this one has a relevant index
+      pub walking_next : (r : Bool) (n' : ℕ) (t' : Bytes) → JudgedAs h c t n r n' t' → (b' : Bool) → b' ≡ (r || b) → Walking h t₀ held m t' b' n' (k + 1)
       unfolding rest flags_in lackings_in
-      walking_next b' n' t' j =
+      walking_next r n' t' j b' e' =
           record {
-            flag = w.flag ∙ ap (flags_in h b) more ∙ ap (λ (x : ℕ). flags_in h x rest) (sym j.flag);
+            flag = w.flag ∙ ap (flags_in h (cond b 4 0)) more
+                ∙ ap (λ (x : ℕ). flags_in h x rest) (sym (j.flag (cond b 4 0)) ∙ either_flag r b ∙ ap (λ (x : Bool). cond {A = ℕ} x 4 0) (sym e'));
             holds = w.holds ∙ ap (λ (cs : List CertificateRow). held_all t n (lackings_in h cs)) more
                 ∙ held_then t n (lacking_in h c) n' t' (j.holds, j.table) (lackings_in h rest);
             table = w.table ∙ ap (λ (cs : List CertificateRow). bytes_all t n (lackings_in h cs)) more

@@ -37,12 +37,12 @@ either_set true b = refl
 either_set false b = refl
 
 module _ (h : Bytes) (x : History) (s : Stands h x) where
-  pub judge_means : (c : CertificateRow) → CertificateNamed (word_at h 0 2) c → (t : Bytes) (b held b' held' : ℕ) (t' : Bytes) (fs : List Finding)
-      → length t ≡ 1024 → Holds t held fs → JudgedAs h c t b held b' held' t' → StepMeans x (certificate_in x.prefixes c) b fs b' held' t'
+  pub judge_means : (c : CertificateRow) → CertificateNamed (word_at h 0 2) c → (t : Bytes) (b held : ℕ) (r : Bool) (held' : ℕ) (t' : Bytes) (fs : List Finding)
+      → length t ≡ 1024 → Holds t held fs → JudgedAs h c t held r held' t' → StepMeans x (certificate_in x.prefixes c) b fs (cond r 4 b) held' t'
   unfolding flag_in
-  judge_means c w t b held b' held' t' fs l k j =
+  judge_means c w t b held r held' t' fs l k j =
       record {
-        flag = j.flag ∙ either_set (eqb (relevant_in h c) 0) b ∙ ap (λ (z : Bool). cond z 4 b) (positive (relevant_in h c))
+        flag = j.flag b ∙ either_set (eqb (relevant_in h c) 0) b ∙ ap (λ (z : Bool). cond z 4 b) (positive (relevant_in h c))
             ∙ ap (λ (r : ℕ). cond (ltb 0 r) 4 b) (relevant_means h x s c);
         findings = subst (λ (gs : List Finding). Holds t' held' (noted fs gs)) (lacking_means h x s c w.log)
             (subst₂ (λ (u : Bytes) (n : ℕ). Holds u n (noted fs (lacking_in h c))) (sym j.table) (sym j.holds)

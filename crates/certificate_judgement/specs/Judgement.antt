@@ -42,8 +42,9 @@ pub record Noting (h : Bytes) (p : ℕ) (c : CertificateRow) : Type 0 where
   pub committed : p ≡ word_at h 4 2
   pub stored : c.log ≤ word_at h 0 2
 
-pub record JudgedAs (h : Bytes) (c : CertificateRow) (t : Bytes) (b held b' held' : ℕ) (t' : Bytes) : Type 0 where
-  pub flag : b' ≡ flag_in h c b
+-- r: it has a relevant index
+pub record JudgedAs (h : Bytes) (c : CertificateRow) (t : Bytes) (held : ℕ) (r : Bool) (held' : ℕ) (t' : Bytes) : Type 0 where
+  pub flag : (b : ℕ) → cond r 4 b ≡ flag_in h c b
   pub holds : held' ≡ held_all t held (lacking_in h c)
   pub table : t' ≡ bytes_all t held (lacking_in h c)
 
@@ -63,7 +64,8 @@ pub record Judging (h : Bytes) (p : ℕ) : Type 0 where
   pub right : well_formed h ≡ true
   pub committed : p ≡ word_at h 4 2
 
-pub record JudgedAll (h t : Bytes) (held b held' : ℕ) (t' : Bytes) : Type 0 where
-  pub flag : b ≡ flags_in h 0 (certificates_of h)
+-- r: one of them has a relevant index
+pub record JudgedAll (h t : Bytes) (held : ℕ) (r : Bool) (held' : ℕ) (t' : Bytes) : Type 0 where
+  pub flag : cond r 4 0 ≡ flags_in h 0 (certificates_of h)
   pub holds : held' ≡ held_all t held (lackings_in h (certificates_of h))
   pub table : t' ≡ bytes_all t held (lackings_in h (certificates_of h))

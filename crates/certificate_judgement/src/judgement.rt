@@ -1,4 +1,4 @@
-// A certificate judged: flag 4 where it has a relevant index, LG-05 where its log is absent, shorter or different through
+// A certificate judged: whether it has a relevant index, LG-05 where its log is absent, shorter or different through
 // it. Nothing of the history is written; findings are noted in a copy of its table (`Notes`).
 ghost use Rattle.std.specs.Prelude.{◌≡◌, ◌≤◌, true};
 ghost use Rattle.storage_bytes.specs.Words.{word_at};
@@ -7,17 +7,22 @@ ghost use Rattle.storage.specs.Values.{committed_end};
 ghost use Rattle.certificate_rows.specs.Values.{certificate_value};
 ghost use Rattle.certificate_judgement.specs.Judgement.{lacks_through, Noting, Judging, JudgedAs, JudgedAll};
 
-use certificate_rows::certificates::{Certificate, LOG_ABSENT, certificate_at};
+use certificate_rows::certificates::{Certificate, LOG_ABSENT};
 use check_relevance::relevance::relevant_index;
 use committed_prefix::committed::agree_through;
 use log_violation::violation::Notes;
 use storage::head::certificate_count;
+use storage::rows::StoredRow;
 use storage_bytes::layout::CERTIFICATES;
 use table_rows::findings::{Found, LG_05};
 use units::{LogIndex, LogPrefixWitness};
 
-// The flag of a relevant index.
-const RELEVANT_INDEX: usize = 4;
+// The committed prefix that certificates are held against, and its last index.
+#[derive(Clone, Copy)]
+pub struct Committed {
+    pub prefix: LogPrefixWitness,
+    pub end: LogIndex,
+}
 
 // The certificate's log is absent, or shorter than the committed prefix through the index, or different.
 fn lacks_through(
@@ -36,23 +41,15 @@ fn lacks_through(
     !agree_through(history, log, committed, index)
 }
 
-// One certificate, by the committed prefix and its end: the sum of the flags with its own. LG-05 is noted where its log lacks the
-// committed prefix through the relevant index.
-pub fn judge(
-    history: &[u8],
-    committed: LogPrefixWitness,
-    end: LogIndex,
-    c: Certificate,
-    notes: &mut Notes,
-    flags: usize,
-) -> usize
-    requires { Noting history.now committed.0 (certificate_value c) × (end.0 ≡ committed_end history.now) }
-    ensures { JudgedAs history.now (certificate_value c) notes.old.rows flags notes.old.held result notes.new.held notes.new.rows }
+// One certificate: whether it has a relevant index. LG-05 is noted where its log lacks the committed prefix through it.
+pub fn judge(history: &[u8], committed: Committed, c: Certificate, notes: &mut Notes) -> bool
+    requires { Noting history.now committed.prefix.0 (certificate_value c) × (committed.end.0 ≡ committed_end history.now) }
+    ensures { JudgedAs history.now (certificate_value c) notes.old.rows notes.old.held result notes.new.held notes.new.rows }
 {
-    let Some(index) = relevant_index(history, end, c) else {
-        return flags;
+    let Some(index) = relevant_index(history, committed.end, c) else {
+        return false;
     };
-    let lacks = lacks_through(history, committed, c, index);
+    let lacks = lacks_through(history, committed.prefix, c, index);
     let lg05 = Found {
         name: LG_05,
         node: c.leader,
@@ -60,25 +57,22 @@ pub fn judge(
         term: c.term,
     };
     notes.note_where(lacks, lg05);
-    RELEVANT_INDEX
+    true
 }
 
-// Every certificate, by term, then arrival, as they are stored: the sum of the flags.
-pub fn judge_all(
-    history: &[u8],
-    committed: LogPrefixWitness,
-    end: LogIndex,
-    notes: &mut Notes,
-) -> usize
-    requires { Judging history.now committed.0 × (end.0 ≡ committed_end history.now) }
+// Every certificate, by term, then arrival, as they are stored: whether one has a relevant index.
+pub fn judge_all(history: &[u8], committed: Committed, notes: &mut Notes) -> bool
+    requires { Judging history.now committed.prefix.0 × (committed.end.0 ≡ committed_end history.now) }
     ensures { JudgedAll history.now notes.old.rows notes.old.held result notes.new.held notes.new.rows }
 {
     let m = certificate_count(history);
     let certificates = CERTIFICATES.of(history);
-    let mut flags = 0;
+    let mut relevant = false;
     for k in 0..m {
-        let c = certificate_at(certificates, k);
-        flags = judge(history, committed, end, c, notes, flags);
+        let c = Certificate::at(certificates, k);
+        if judge(history, committed, c, notes) {
+            relevant = true;
+        }
     }
-    flags
+    relevant
 }

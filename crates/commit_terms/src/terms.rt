@@ -5,7 +5,10 @@ ghost use Rattle.storage.specs.Rules.{well_formed};
 ghost use Rattle.storage.specs.Tables.{term_row};
 ghost use Rattle.table_rows.specs.TermSearch.{found_index};
 ghost use Rattle.commit_terms.specs.Terms.{lengthened_to, is_replaced, first_replaced, replace_bytes, replace_all, terms_answer, terms_bytes};
+ghost use Rattle.answers.specs.declared.answer.Refusal.{Refusal};
 
+use answers::answer::Refusal;
+use records::head::CommitTerms;
 use storage::fresh::clear;
 use storage::head::{last_recorded, set_last_recorded};
 use storage::rows::set;
@@ -17,6 +20,14 @@ use units::{LogIndex, Term};
 // Old exceeds new: refusal 8.
 #[derive(Clone, Copy, PartialEq, Eq)]
 pub struct OldExceedsNew;
+
+impl From<OldExceedsNew> for Refusal {
+    ghost from_gives = { λ _ r. r ≡ Refusal.OldExceedsNew };
+
+    fn from(_e: OldExceedsNew) -> Refusal {
+        Refusal::OldExceedsNew
+    }
+}
 
 // The list is lengthened with zeros to `new`: the places first, then the count, once.
 fn lengthen(history: &mut [u8], new: LogIndex)
@@ -76,23 +87,18 @@ fn replace_terms(history: &mut [u8], first: LogIndex, new: LogIndex, term: Term)
 }
 
 // The indexes after old, through new, were committed in the term. A repeated record writes nothing.
-pub fn record_commit_terms(
-    history: &mut [u8],
-    old: LogIndex,
-    new: LogIndex,
-    term: Term,
-) -> Result<(), OldExceedsNew>
-    requires { (well_formed history.old ≡ true) × (new.0 ≤ 256) }
-    ensures { (result ≡ terms_answer old.0 new.0) × (history.new ≡ terms_bytes history.old old.0 new.0 term.0) }
+pub fn record_commit_terms(history: &mut [u8], t: CommitTerms) -> Result<(), OldExceedsNew>
+    requires { (well_formed history.old ≡ true) × (t.new.0 ≤ 256) }
+    ensures { (result ≡ terms_answer t.old.0 t.new.0) × (history.new ≡ terms_bytes history.old t.old.0 t.new.0 t.term.0) }
 {
-    if new < old {
+    if t.new < t.old {
         return Err(OldExceedsNew);
     }
-    lengthen(&mut history[..], new);
-    let found = first_replaced(TERMS.of(&history[..]), old, new, term);
+    lengthen(&mut history[..], t.new);
+    let found = first_replaced(TERMS.of(&history[..]), t.old, t.new, t.term);
     if let Some(first) = found {
-        replace_terms(&mut history[..], first, new, term);
-        lower_marks(&mut history[..], term, first);
+        replace_terms(&mut history[..], first, t.new, t.term);
+        lower_marks(&mut history[..], t.term, first);
     }
     Ok(())
 }

@@ -8,9 +8,9 @@ ghost use Rattle.committed_prefix.specs.Prefix.{unseen_set, agree_in, keep_bytes
 use log_comparison::comparison::same_prefix;
 use prefix_lookup::lookup::slice_through;
 use storage::head::{committed, set_committed};
-use storage::rows::set;
+use storage::rows::{StoredRow, set};
 use storage_bytes::layout::{NODES, PREFIXES};
-use table_rows::nodes::{Node, node_at};
+use table_rows::nodes::Node;
 use units::{LogIndex, LogPrefixWitness, NodeId};
 
 // The committed prefix, where one is kept.
@@ -30,8 +30,8 @@ pub fn set_unseen(history: &mut [u8], node: NodeId, mark: LogIndex)
     requires { (node.0 < 64) × (length history.old ≡ 24137) }
     ensures { history.new ≡ unseen_set history.old node.0 mark.0 }
 {
-    let k = node.0 as usize;
-    let x = node_at(NODES.of(&history[..]), k);
+    let k = usize::from(node.0);
+    let x = Node::at(NODES.of(&history[..]), k);
     set(&mut history[..], k, Node { unseen: mark, ..x });
 }
 

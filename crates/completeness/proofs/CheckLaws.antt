@@ -2,6 +2,7 @@
 -- Assumes nothing.
 use Prim.Native.Nat.{ℕ, ◌<◌, ◌≤◌}
 use mathlib.Core.Path.{◌≡◌, refl, sym, ◌∙◌, ap, subst}
+use mathlib.Core.Bool.{Bool, cond}
 use lib.Dec.{ltb}
 use lib.ListN.{length}
 use borrow.Author.Tests.{lt-ltb, le-ltb}
@@ -65,7 +66,7 @@ check_cases h P nothing kept = by (stored_of (word_at h 4 2)) refl
 
 -- ---- judged on a copy of the findings
 
-module _ (h u : Bytes) (n b m : ℕ) (t : Bytes) (eu : (n ≡ word_at h 7 1) × (u ≡ findings_part h)) (j : JudgedAll h u n b m t) where
+module _ (h u : Bytes) (n : ℕ) (b : Bool) (m : ℕ) (t : Bytes) (eu : (n ≡ word_at h 7 1) × (u ≡ findings_part h)) (j : JudgedAll h u n b m t) where
   held_is : m ≡ check_held h
   unfolding check_held
   held_is = j.holds ∙ (λ i. held_all (eu.1 i) (eu.0 i) (lackings_in h (certificates_of h)))
@@ -81,7 +82,7 @@ module _ (h u : Bytes) (n b m : ℕ) (t : Bytes) (eu : (n ≡ word_at h 7 1) × 
       (sym (cond_true (ltb 128 (check_held h)) (Err (record {})) _ f), sym (cond_true (ltb 128 (check_held h)) h _ f))
 
   pub judged_accepted : m ≤ 128 → (end : ℕ) → end ≡ committed_end h → (h' : Bytes) → h' ≡ check_written h t m end
-      → (Ok b ≡ judged_answer h) × (h' ≡ judged_bytes h)
+      → (Ok (cond b 4 0) ≡ judged_answer h) × (h' ≡ judged_bytes h)
   unfolding judged_answer judged_bytes
   judged_accepted l end ee h' eh =
       let f = le-ltb 128 (check_held h) (subst (λ (x : ℕ). x ≤ 128) held_is l) in (

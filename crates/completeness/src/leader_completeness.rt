@@ -1,15 +1,24 @@
 // The check of a whole history: its answer, its findings and its marks. A refused check leaves every byte.
-ghost use Rattle.std.specs.Prelude.{◌≡◌, true};
+ghost use Rattle.std.specs.Prelude.{◌≡◌, true, cond};
 ghost use Rattle.storage.specs.Rules.{well_formed};
 ghost use Rattle.completeness.specs.Check.{CheckedAs};
 
-use certificate_judgement::judgement::judge_all;
+use certificate_judgement::judgement::{Committed, judge_all};
 use check_marks::marks::move_marks;
 use committed_prefix::committed::committed_prefix;
 use log_violation::violation::{FindingsFull, Notes};
 use prefix_rows::prefixes::through;
 use storage_bytes::layout::PREFIXES;
-use units::FINDING_LIMIT;
+
+// The flag of a relevant index.
+const RELEVANT_INDEX: usize = 4;
+
+// The sum of the flags.
+fn flags(relevant: bool) -> usize
+    ensures { result ≡ cond relevant 4 0 }
+{
+    if relevant { RELEVANT_INDEX } else { 0 }
+}
 
 // The check: judged on a copy of the findings, then the marks and the findings are written. Its value: 4 where an index was relevant,
 // else 0. Where the findings would exceed their limit, no mark is moved.
@@ -17,16 +26,15 @@ pub fn record_leader_completeness(history: &mut [u8]) -> Result<usize, FindingsF
     requires { well_formed history.old ≡ true }
     ensures { CheckedAs history.old result history.new }
 {
-    let Some(committed) = committed_prefix(&history[..]) else {
+    let Some(prefix) = committed_prefix(&history[..]) else {
         return Ok(0); // nothing is committed, so no mark is passed
     };
-    let end = through(PREFIXES.of(&history[..]), committed);
+    let end = through(PREFIXES.of(&history[..]), prefix);
+    let committed = Committed { prefix, end };
     let mut notes = Notes::of(&history[..]);
-    let flags = judge_all(&history[..], committed, end, &mut notes);
-    if FINDING_LIMIT < notes.held {
-        return Err(FindingsFull);
-    }
+    let relevant = judge_all(&history[..], committed, &mut notes);
+    notes.fits()?;
     move_marks(&mut history[..], end);
     notes.keep(&mut history[..]);
-    Ok(flags)
+    Ok(flags(relevant))
 }

@@ -7,10 +7,17 @@ use Rattle.storage.specs.Tables.{CertificateRow}
 use Rattle.storage.specs.Writes.{certificate_added}
 use Rattle.prefix_lookup.specs.Prefix.{front_through}
 use Rattle.election.specs.declared.certificate.ElectionRefusal.{ElectionRefusal}
+use Rattle.answers.specs.declared.answer.Refusal.{Refusal}
 use Rattle.election_judging.specs.declared.judging.Numbering.{Numbering}
 use Rattle.election_judging.specs.declared.judging.NumberTaken.{NumberTaken}
 use Rattle.election_judging.specs.Certify.{numbering_of, numbering_in}
 use Rattle.units.specs.declared.LogPrefixWitness.{LogPrefixWitness}
+
+-- the refusal of a record
+abbrev pub refusal_of : ElectionRefusal → Refusal
+refusal_of ElectionRefusal.LengthExceedsFront = Refusal.LengthExceedsFront
+refusal_of ElectionRefusal.CertificatesFull = Refusal.CertificatesFull
+refusal_of ElectionRefusal.NumberTaken = Refusal.NumberTaken
 
 -- as many certificates are held as a history holds
 abbrev pub full_in : Bytes → Bool

@@ -3,14 +3,16 @@
 ghost use Rattle.std.specs.Prelude.{◌≡◌, ◌<◌, true};
 ghost use Rattle.storage.specs.Rules.{well_formed};
 ghost use Rattle.certificate_rows.specs.Values.{certificate_value};
-ghost use Rattle.election.specs.Certify.{kept, Recorded};
+ghost use Rattle.election.specs.Certify.{refusal_of, kept, Recorded};
 ghost use Rattle.election.specs.declared.certificate.ElectionRefusal.{ElectionRefusal};
 
+use answers::answer::Refusal;
 use certificate_rows::certificates::{Certificate, LOG_ABSENT, LOG_PRESENT, add_certificate};
 use election_judging::judging::{NumberTaken, number_in_term};
 use prefix_lookup::lookup::front_through;
+use records::head::Election;
 use storage::head::certificate_count;
-use units::{CERTIFICATE_LIMIT, LogIndex, LogPrefixWitness, NodeId, Term};
+use units::{CERTIFICATE_LIMIT, LogIndex, LogPrefixWitness};
 
 // Why an election is refused.
 #[derive(Clone, Copy, PartialEq, Eq)]
@@ -27,51 +29,50 @@ impl From<NumberTaken> for ElectionRefusal {
     ghost from_gives = { λ _ e. e ≡ ElectionRefusal.NumberTaken };
 
     fn from(_e: NumberTaken) -> ElectionRefusal {
-        ElectionRefusal::NumberTaken
+        Self::NumberTaken
+    }
+}
+
+impl From<ElectionRefusal> for Refusal {
+    ghost from_gives = { λ e r. r ≡ refusal_of e };
+
+    fn from(r: ElectionRefusal) -> Refusal {
+        match r {
+            ElectionRefusal::LengthExceedsFront => Refusal::LengthExceedsFront,
+            ElectionRefusal::CertificatesFull => Refusal::CertificatesFull,
+            ElectionRefusal::NumberTaken => Refusal::NumberTaken,
+        }
     }
 }
 
 // A new certificate: nothing of its log is checked yet.
-fn new_certificate(
-    leader: NodeId,
-    term: Term,
-    number: usize,
-    present: bool,
-    log: LogPrefixWitness,
-) -> Certificate
-    ensures { certificate_value result ≡ kept leader.0 term.0 number present log.0 }
+fn new_certificate(e: Election, number: usize, log: LogPrefixWitness) -> Certificate
+    ensures { certificate_value result ≡ kept e.leader.0 e.term.0 number e.present log.0 }
 {
     Certificate {
-        term,
+        term: e.term,
         log,
         mark: LogIndex::ZERO,
-        leader,
+        leader: e.leader,
         number,
-        present: if present { LOG_PRESENT } else { LOG_ABSENT },
+        present: if e.present { LOG_PRESENT } else { LOG_ABSENT },
     }
 }
 
 // An election of the leader in the term, with the first `length` entries of its front where its log is present: 9, then 10,
 // then 11, else the certificate is put in its place.
-pub fn record_election(
-    history: &mut [u8],
-    leader: NodeId,
-    term: Term,
-    // not an Option: the length is held against the front also where the log is absent
-    present: bool,
-    length: LogIndex,
-) -> Result<(), ElectionRefusal>
-    requires { (well_formed history.old ≡ true) × (leader.0 < 64) }
-    ensures { Recorded history.old leader.0 term.0 present length.0 result history.new }
+pub fn record_election(history: &mut [u8], e: Election) -> Result<(), ElectionRefusal>
+    requires { (well_formed history.old ≡ true) × (e.leader.0 < 64) }
+    ensures { Recorded history.old e.leader.0 e.term.0 e.present e.length result history.new }
 {
-    let Some(log) = front_through(&history[..], leader, length) else {
+    let Some(log) = front_through(&history[..], e.leader, LogIndex(e.length)) else {
         return Err(ElectionRefusal::LengthExceedsFront);
     };
     if CERTIFICATE_LIMIT <= certificate_count(&history[..]) {
         return Err(ElectionRefusal::CertificatesFull);
     }
-    let next = number_in_term(&history[..], term)?;
-    let c = new_certificate(leader, term, next.number, present, log);
+    let next = number_in_term(&history[..], e.term)?;
+    let c = new_certificate(e, next.number, log);
     add_certificate(&mut history[..], next.place, c);
     Ok(())
 }

@@ -26,7 +26,7 @@ pub fn number_in_term(history: &[u8], term: Term) -> Result<Numbering, NumberTak
     ensures { result ≡ numbering_in history.now term.0 }
 {
     let n = certificate_count(history);
-    let certificates = CERTIFICATES.of(history);
+    let certificates = CERTIFICATES.array(history);
     let place = place_of(certificates, n, term);
     let number = held_of(certificates, place, term);
     if is_taken(certificates, place, number, number) {

@@ -1,5 +1,5 @@
 // Kinds 4, 5 and 6: the own answer of each as an answer of the history.
-ghost use Rattle.std.specs.Prelude.{◌≡◌, true, ◌<◌, Ok, Err};
+ghost use Rattle.std.specs.Prelude.{◌≡◌, true, ◌<◌, Ok};
 ghost use Rattle.model.specs.Rows.{verdict};
 ghost use Rattle.record_scan.specs.Places as places;
 ghost use Rattle.storage.specs.Rules.{well_formed};
@@ -9,19 +9,9 @@ ghost use Rattle.leader_kinds.specs.Kinds.{of_election, of_check, of_rows, of_ve
 
 use answers::answer::{Accepted, Refusal};
 use completeness::leader_completeness::record_leader_completeness;
-use election::certificate::{ElectionRefusal, record_election};
+use election::certificate::record_election;
 use invariants::commit_safety::{Failure, check_commit_safety};
-use units::{LogIndex, NodeId, Term};
-
-fn election_refusal(r: ElectionRefusal) -> Refusal
-    ensures { Err result ≡ of_election (Err r) }
-{
-    match r {
-        ElectionRefusal::LengthExceedsFront => Refusal::LengthExceedsFront,
-        ElectionRefusal::CertificatesFull => Refusal::CertificatesFull,
-        ElectionRefusal::NumberTaken => Refusal::NumberTaken,
-    }
-}
+use records::head::Election;
 
 // The value is the rule that fails, 0 where none does.
 fn of_rows(failed: Option<Failure>) -> Accepted
@@ -37,18 +27,11 @@ fn of_rows(failed: Option<Failure>) -> Accepted
 }
 
 // Kind 4.
-pub fn take_election(
-    history: &mut [u8],
-    leader: NodeId,
-    term: Term,
-    present: bool,
-    length: usize,
-) -> Result<Accepted, Refusal>
-    requires { (well_formed history.old ≡ true) × (leader.0 < 64) }
-    ensures { (result ≡ of_election (answer_in history.old leader.0 term.0 length)) × (history.new ≡ bytes_in history.old leader.0 term.0 present length) }
+pub fn take_election(history: &mut [u8], e: Election) -> Result<Accepted, Refusal>
+    requires { (well_formed history.old ≡ true) × (e.leader.0 < 64) }
+    ensures { (result ≡ of_election (answer_in history.old e.leader.0 e.term.0 e.length)) × (history.new ≡ bytes_in history.old e.leader.0 e.term.0 e.present e.length) }
 {
-    let recorded = record_election(&mut history[..], leader, term, present, LogIndex(length));
-    recorded.map_err(election_refusal)?;
+    record_election(&mut history[..], e)?;
     Ok(Accepted::with(0))
 }
 
@@ -57,8 +40,7 @@ pub fn take_check(history: &mut [u8]) -> Result<Accepted, Refusal>
     requires { well_formed history.old ≡ true }
     ensures { (result ≡ of_check (check_answer history.old)) × (history.new ≡ check_bytes history.old) }
 {
-    let checked = record_leader_completeness(&mut history[..]);
-    let value = checked.map_err(|_| Refusal::FindingsFull)?;
+    let value = record_leader_completeness(&mut history[..])?;
     Ok(Accepted::with(value))
 }
 

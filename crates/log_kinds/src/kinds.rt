@@ -1,5 +1,5 @@
 // Kinds 1, 2 and 3: the own answer of each as an answer of the history.
-ghost use Rattle.std.specs.Prelude.{◌≡◌, true, ◌≤◌, ◌<◌, Err};
+ghost use Rattle.std.specs.Prelude.{◌≡◌, true, ◌≤◌, ◌<◌};
 ghost use Rattle.storage.specs.Rules.{well_formed};
 ghost use Rattle.view_judging.specs.Judging.{Observing};
 ghost use Rattle.logical_log.specs.Observation.{observed, observed_bytes};
@@ -10,17 +10,9 @@ ghost use Rattle.log_kinds.specs.Kinds.{of_view, of_commit, of_terms};
 use answers::answer::{Accepted, Refusal};
 use commit::prefix::observe_committed_prefixes;
 use commit_terms::terms::record_commit_terms;
-use logical_log::observation::{ViewRefusal, observe_prefixes};
-use units::{LogIndex, NodeId, PREFIX_LIMIT, Term};
-
-fn view_refusal(r: ViewRefusal) -> Refusal
-    ensures { Err result ≡ of_view (Err r) }
-{
-    match r {
-        ViewRefusal::PrefixesFull => Refusal::PrefixesFull,
-        ViewRefusal::FindingsFull => Refusal::FindingsFull,
-    }
-}
+use logical_log::observation::observe_prefixes;
+use records::head::CommitTerms;
+use units::{LogIndex, NodeId, PREFIX_LIMIT};
 
 // Kind 1.
 pub fn take_view(
@@ -32,8 +24,7 @@ pub fn take_view(
     requires { Observing history.old s.now count node.0 }
     ensures { (result ≡ of_view (observed 512 history.old s.now count node.0)) × (history.new ≡ observed_bytes 512 history.old s.now count node.0) }
 {
-    let observed = observe_prefixes(&mut history[..], s, count, node, PREFIX_LIMIT);
-    observed.map_err(view_refusal)?;
+    observe_prefixes(&mut history[..], s, count, node, PREFIX_LIMIT)?;
     Ok(Accepted::with(0))
 }
 
@@ -42,22 +33,15 @@ pub fn take_commit(history: &mut [u8], node: NodeId, index: LogIndex) -> Result<
     requires { (well_formed history.old ≡ true) × (node.0 < 64) }
     ensures { (result ≡ of_commit (commit_answer history.old node.0 index.0)) × (history.new ≡ commit_bytes history.old node.0 index.0) }
 {
-    let observed = observe_committed_prefixes(&mut history[..], node, index);
-    let value = observed.map_err(|_| Refusal::FindingsFull)?;
+    let value = observe_committed_prefixes(&mut history[..], node, index)?;
     Ok(Accepted::with(value))
 }
 
 // Kind 3.
-pub fn take_terms(
-    history: &mut [u8],
-    old: LogIndex,
-    new: LogIndex,
-    term: Term,
-) -> Result<Accepted, Refusal>
-    requires { (well_formed history.old ≡ true) × (new.0 ≤ 256) }
-    ensures { (result ≡ of_terms (terms_answer old.0 new.0)) × (history.new ≡ terms_bytes history.old old.0 new.0 term.0) }
+pub fn take_terms(history: &mut [u8], t: CommitTerms) -> Result<Accepted, Refusal>
+    requires { (well_formed history.old ≡ true) × (t.new.0 ≤ 256) }
+    ensures { (result ≡ of_terms (terms_answer t.old.0 t.new.0)) × (history.new ≡ terms_bytes history.old t.old.0 t.new.0 t.term.0) }
 {
-    let recorded = record_commit_terms(&mut history[..], old, new, term);
-    recorded.map_err(|_| Refusal::OldExceedsNew)?;
+    record_commit_terms(&mut history[..], t)?;
     Ok(Accepted::with(0))
 }

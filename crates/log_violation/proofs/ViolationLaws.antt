@@ -10,8 +10,8 @@ use mathlib.Core.List.Memᴰ
 use mathlib.Core.List.{List, [], ◌∷◌, ◌++◌, Memᴰ}
 use lib.Dec.{leb, ltb, eqb}
 use lib.ListN.{length, take, drop, length-append, take-append-drop}
-use borrow.Author.Tests.{eq-eqb, eqb-true, lt-ltb, le-ltb, le-leb, lt-leb, leb-true, leb-false}
-use Rattle.std.specs.Prelude.{Ok, Err}
+use borrow.Author.Tests.{eq-eqb, eqb-true, lt-ltb, le-ltb, le-leb, lt-leb, leb-true, leb-false, ltb-true, ltb-false}
+use Rattle.std.specs.Prelude.{⊤, Result, Ok, Err, is_ok}
 use Rattle.model.specs.Sizes.{Bytes}
 use Rattle.model.specs.Entry.{with, with_all}
 use Rattle.model.specs.History.{Finding, same_finding, noted}
@@ -28,34 +28,20 @@ use Rattle.storage_bytes.proofs.PartLaws.{part_length, part_lent, put_whole}
 use Rattle.storage.proofs.WellFormed.{formed}
 use Rattle.storage.proofs.WriteLaws.{part_written}
 use Rattle.storage.proofs.RowLaws.{rows_append, finding_own, finding_length, finding_back}
-use Rattle.log_violation.specs.Violation.{same_numbers, noted_from, is_noted, note_held, note_bytes, held_all, bytes_all, NotedAll, note_where, findings_written, room_for, room_answer, noted_in}
+use Rattle.log_violation.specs.declared.violation.FindingsFull.{FindingsFull}
+use Rattle.log_violation.specs.Violation.{same_numbers, noted_from, is_noted, note_held, note_bytes, held_all, bytes_all, NotedAll, note_where, findings_written, fits_answer, room_for, room_answer, noted_in}
 
--- ---- a row held against a finding, number by number: a is the flag of the first two tests, b that of the first three
+-- ---- whether the findings fit
 
--- a flag that is b where a holds, and a where it does not
-pub flag_so_far : (c a b : Bool) → ((a ≡ true) × (c ≡ b)) ⊎ ((a ≡ false) × (c ≡ a)) → c ≡ (a && b)
-flag_so_far c true b h = ⊎_elim (λ w. w.1) (λ w. absurd (true≢false w.0)) h
-flag_so_far c false b h = ⊎_elim (λ w. absurd (false≢true w.0)) (λ w. w.1) h
+pub too_many : (n : ℕ) (r : Result ⊤ FindingsFull) → r ≡ fits_answer n → (e : FindingsFull) → r ≡ Err e → 128 < n
+unfolding fits_answer
+too_many n r w e z =
+    ⊎_elim (λ t. ltb-true 128 n t) (λ f. absurd (tf (sym (ap is_ok (sym z ∙ w ∙ cond_false (ltb 128 n) _ _ f))))) (either (ltb 128 n))
 
-in_turn : (i t n m : Bool) → (i && (t && (n && m))) ≡ (((i && t) && n) && m)
-in_turn true true n m = refl
-in_turn true false n m = refl
-in_turn false t n m = refl
-
-module _ (x g f : Finding) (e : g ≡ x) {a b : Bool} (two : a ≡ (eqb g.index f.index && eqb g.term f.term)) (three : b ≡ (a && eqb g.node f.node)) where
-  by_three : same_numbers x f ≡ (b && eqb g.name f.name)
-  unfolding same_numbers
-  by_three =
-      ap (λ (y : Finding). same_numbers y f) (sym e)
-      ∙ in_turn (eqb g.index f.index) (eqb g.term f.term) (eqb g.node f.node) (eqb g.name f.name)
-      ∙ ap (λ (c : Bool). (c && eqb g.node f.node) && eqb g.name f.name) (sym two)
-      ∙ ap (λ (c : Bool). c && eqb g.name f.name) (sym three)
-
-  pub name_decides : b ≡ true → eqb g.name f.name ≡ same_numbers x f
-  name_decides h = sym (by_three ∙ ap (λ (c : Bool). c && eqb g.name f.name) h)
-
-  pub one_differs : b ≡ false → b ≡ same_numbers x f
-  one_differs h = h ∙ sym (by_three ∙ ap (λ (c : Bool). c && eqb g.name f.name) h)
+pub in_limit : (n : ℕ) (r : Result ⊤ FindingsFull) → r ≡ fits_answer n → (v : ⊤) → r ≡ Ok v → n ≤ 128
+unfolding fits_answer
+in_limit n r w v z =
+    ⊎_elim (λ t. absurd (tf (ap is_ok (sym z ∙ w ∙ cond_true (ltb 128 n) _ _ t)))) (λ f. ltb-false 128 n f) (either (ltb 128 n))
 
 -- ---- noting means one finding more, once
 

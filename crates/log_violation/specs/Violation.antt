@@ -52,6 +52,10 @@ NotedAll t n fs held after = (held ≡ held_all t n fs) × (after ≡ bytes_all 
 abbrev pub note_where : Bool → Finding → List Finding
 note_where b f = cond b (f ∷ []) []
 
+-- whether n findings fit
+unfoldable pub fits_answer : ℕ → Result ⊤ FindingsFull
+fits_answer n = cond (ltb 128 n) (Err (record {})) (Ok tt)
+
 -- a table written as the history's, with how many it holds
 unfoldable pub findings_written : Bytes → Bytes → ℕ → Bytes
 findings_written h t n = put_bytes (put_bytes h 2121 t) 7 (word_bytes 1 n)

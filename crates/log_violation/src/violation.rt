@@ -4,26 +4,36 @@ ghost use Rattle.std.specs.Prelude.{◌≡◌, ◌≤◌, ◌<◌, length};
 ghost use Rattle.storage_bytes.specs.Words.{word_at};
 ghost use Rattle.storage.specs.Tables.{finding_row, findings_part};
 ghost use Rattle.table_rows.specs.Values.{finding_value};
-ghost use Rattle.log_violation.specs.Violation.{same_numbers, is_noted, note_held, note_bytes, NotedAll, note_where, findings_kept, room_answer, noted_in};
+ghost use Rattle.log_violation.specs.Violation.{same_numbers, is_noted, note_held, note_bytes, NotedAll, note_where, findings_kept, fits_answer, room_answer, noted_in};
+ghost use Rattle.answers.specs.declared.answer.Refusal.{Refusal};
 
+use answers::answer::Refusal;
 use storage::head::{finding_count, set_finding_count};
-use storage::rows::Row;
+use storage::rows::{Row, StoredRow};
 use storage_bytes::layout::{FINDINGS, FINDINGS_LENGTH};
 use storage_bytes::words::put_bytes;
-use table_rows::findings::{Found, finding_at};
+use table_rows::findings::Found;
 use units::FINDING_LIMIT;
 
 // The findings would exceed their limit: refusal 7.
 #[derive(Clone, Copy, PartialEq, Eq)]
 pub struct FindingsFull;
 
-// Row k is the finding. The index is looked at first: it tells a node's findings apart.
+impl From<FindingsFull> for Refusal {
+    ghost from_gives = { λ _ r. r ≡ Refusal.FindingsFull };
+
+    fn from(_e: FindingsFull) -> Refusal {
+        Refusal::FindingsFull
+    }
+}
+
+// Row k is the finding.
+#[tactic(auto, unfolding(crate::specs::Violation::same_numbers))]
 fn is_finding(findings: &[u8], k: usize, f: Found) -> bool
     requires { (k < 128) × (length findings.now ≡ 1024) }
     ensures { result ≡ same_numbers (finding_row findings.now k) (finding_value f) }
 {
-    let g = finding_at(findings, k);
-    g.index == f.index && g.term == f.term && g.node == f.node && g.name == f.name
+    Found::at(findings, k) == f
 }
 
 // The finding is among the first n.
@@ -99,6 +109,17 @@ impl Notes {
             return;
         }
         self.held = note(&mut self.rows, self.held, f);
+    }
+
+    // No more are held than the limit.
+    #[tactic(auto, unfolding(crate::specs::Violation::fits_answer))]
+    pub fn fits(&self) -> Result<(), FindingsFull>
+        ensures { result ≡ fits_answer self.now.held }
+    {
+        if FINDING_LIMIT < self.held {
+            return Err(FindingsFull);
+        }
+        Ok(())
     }
 
     // They become the history's. As many as it holds are its own: then nothing is written.

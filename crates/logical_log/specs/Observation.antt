@@ -6,10 +6,16 @@ use Rattle.model.specs.Record.{front, last_index}
 use Rattle.record_scan.specs.Places.{first_entry, entries_at}
 use Rattle.storage_bytes.specs.Words.{word_at}
 use Rattle.logical_log.specs.declared.observation.ViewRefusal.{ViewRefusal}
+use Rattle.answers.specs.declared.answer.Refusal.{Refusal}
 use Rattle.log_prefix.specs.Extension.{written_bytes, written_number}
 use Rattle.view_judging.specs.Judging.{missing_in, held_in, table_in}
 use Rattle.log_violation.specs.Violation.{findings_kept}
 use Rattle.view_writing.specs.Observation.{view_replaced}
+
+-- the refusal of a record
+abbrev pub refusal_of : ViewRefusal → Refusal
+refusal_of ViewRefusal.PrefixesFull = Refusal.PrefixesFull
+refusal_of ViewRefusal.FindingsFull = Refusal.FindingsFull
 
 -- ---- a view as a whole
 

@@ -1,10 +1,13 @@
 // Observation of a view (observation.rs): judged, then written.
 ghost use Rattle.std.specs.Prelude.{◌≡◌, min};
 ghost use Rattle.view_judging.specs.Judging.{Observing};
-ghost use Rattle.logical_log.specs.Observation.{observed, observed_bytes};
+ghost use Rattle.logical_log.specs.Observation.{refusal_of, observed, observed_bytes};
+ghost use Rattle.logical_log.specs.declared.observation.ViewRefusal.{ViewRefusal};
 
+use answers::answer::Refusal;
+use log_violation::violation::FindingsFull;
 use storage::head::prefix_count;
-use units::{FINDING_LIMIT, NodeId, PREFIX_LIMIT};
+use units::{NodeId, PREFIX_LIMIT};
 use view_judging::judging::judge_view;
 use view_writing::writing::write_view;
 
@@ -15,6 +18,25 @@ pub enum ViewRefusal {
     PrefixesFull,
     // 7: the findings would exceed theirs.
     FindingsFull,
+}
+
+impl From<FindingsFull> for ViewRefusal {
+    ghost from_gives = { λ _ r. r ≡ ViewRefusal.FindingsFull };
+
+    fn from(_e: FindingsFull) -> ViewRefusal {
+        Self::FindingsFull
+    }
+}
+
+impl From<ViewRefusal> for Refusal {
+    ghost from_gives = { λ v r. r ≡ refusal_of v };
+
+    fn from(r: ViewRefusal) -> Refusal {
+        match r {
+            ViewRefusal::PrefixesFull => Refusal::PrefixesFull,
+            ViewRefusal::FindingsFull => Refusal::FindingsFull,
+        }
+    }
 }
 
 // A view of `entries` entries (kind 1): 6 when the stored prefixes would exceed `limit`, 7 when the findings would exceed 128; else
@@ -33,14 +55,11 @@ pub fn observe_prefixes(
     let judged = judge_view(&history[..], view, entries, node);
     let count = prefix_count(&history[..]);
     let total = count + judged.missing;
-    let held = judged.notes.held;
     let most = limit.min(PREFIX_LIMIT); // never more than the table holds
     if most < total {
         return Err(ViewRefusal::PrefixesFull);
     }
-    if FINDING_LIMIT < held {
-        return Err(ViewRefusal::FindingsFull);
-    }
+    judged.notes.fits()?;
     let rest = judged.rest;
     write_view(&mut history[..], count, view, rest, node, &judged.notes);
     Ok(())

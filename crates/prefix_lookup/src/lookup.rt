@@ -8,9 +8,10 @@ ghost use Rattle.prefix_lookup.specs.Prefix.{row_of, find, is_of, first, stored_
 use crate::table::Prefixes;
 use prefix_rows::prefixes::{index_at, parent_at, size_at, term_at, through};
 use record_walk::walk::ShownEntry;
+use storage::rows::StoredRow;
 use storage_bytes::layout::{NODES, PREFIX_CONTENT, PREFIX_WIDTH, PREFIXES};
 use storage_bytes::words::same_bytes;
-use table_rows::nodes::node_at;
+use table_rows::nodes::Node;
 use units::{LogIndex, LogPrefixWitness, NodeId, Term};
 
 // Row k extends the prefix by the entry (`matches_extension`).
@@ -94,6 +95,6 @@ pub fn front_through(history: &[u8], node: NodeId, index: LogIndex) -> Option<Lo
     requires { (well_formed history.now ≡ true) × (node.0 < 64) }
     ensures { result ≡ front_through history.now node.0 index.0 }
 {
-    let x = node_at(NODES.of(history), node.0 as usize);
+    let x = Node::at(NODES.of(history), usize::from(node.0));
     slice_through(PREFIXES.of(history), x.front, index)
 }

@@ -35,8 +35,8 @@ fault_back Fault.NotAbove = refl
 pub head_back : (s : Bytes) (r : Result Head Fault) → r ≡ head_of (reading_of s r)
 head_back s (Ok (Head.View n c)) = ap (λ (c : ℕ). Ok (Head.View n c)) (sym (items_length shown_at next_at s first_entry c))
 head_back s (Ok (Head.Commit n i)) = refl
-head_back s (Ok (Head.Terms o n t)) = refl
-head_back s (Ok (Head.Election l t p n)) = refl
+head_back s (Ok (Head.Terms x)) = refl
+head_back s (Ok (Head.Election x)) = refl
 head_back s (Ok Head.Check) = refl
 head_back s (Ok (Head.Rows c)) = ap (λ (c : ℕ). Ok (Head.Rows c)) (sym (items_length row_at after_row s first_row c))
 head_back s (Err f) = ap (λ (f : Fault). Err f) (fault_back f)

@@ -205,8 +205,8 @@ limits s (Ok (Head.Commit n i)) e =
   where
     commit_same : {a b x y : ℕ} → ◌≡◌ {A = Record} (commit a x) (commit b y) → (a ≡ b) × (x ≡ y)
     commit_same q = (cc, cc)
-limits s (Ok (Head.Terms o n t)) e =
-    let w = whole s (terms o.0 n.0 t.0) e in
+limits s (Ok (Head.Terms x)) e =
+    let w = whole s (terms x.old.0 x.new.0 x.term.0) e in
     let g₁ = went s (limited 10 256 s 4) _ w.fields in
     let g₂ = went s (limited 10 256 s g₁.place) _ g₁.rest in
     let g₃ = went s (field 32 s g₂.place) _ g₂.rest in
@@ -218,8 +218,8 @@ limits s (Ok (Head.Terms o n t)) e =
   where
     terms_same : {a b x y u v : ℕ} → ◌≡◌ {A = Record} (terms a x u) (terms b y v) → (a ≡ b) × (x ≡ y) × (u ≡ v)
     terms_same q = (cc, cc, cc)
-limits s (Ok (Head.Election l t p n)) e =
-    let w = whole s (election l.0 t.0 p n) e in
+limits s (Ok (Head.Election x)) e =
+    let w = whole s (election x.leader.0 x.term.0 x.present x.length) e in
     let g₁ = went s (field 6 s 4) _ w.fields in
     let g₂ = went s (field 32 s g₁.place) _ g₁.rest in
     let g₃ = went s (yes_no s g₂.place) _ g₂.rest in

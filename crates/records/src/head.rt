@@ -10,39 +10,37 @@ use record_reader::reader::RecordReader;
 use record_scan::scan::{Entry, Row, scan_items};
 use units::{LogIndex, NodeId, Term};
 
+// The indexes after old, through new, were committed in a term.
+#[derive(Clone, Copy)]
+pub struct CommitTerms {
+    pub old: LogIndex,
+    pub new: LogIndex,
+    pub term: Term,
+}
+
+// A leader was elected in a term, with that many entries of its front, if its log is present. Flag and length stand apart, and in
+// no Option: the model's record and the stored certificate have both, and an Option would be made here to be taken apart there.
+#[derive(Clone, Copy)]
+pub struct Election {
+    pub leader: NodeId,
+    pub term: Term,
+    pub present: bool,
+    pub length: usize,
+}
+
 // What a record says. A view's entries and the rows are walked where they are wanted (`record_walk`).
 #[derive(Clone, Copy)]
 pub enum Head {
     // The view of a node, with how many entries.
-    View {
-        node: NodeId,
-        count: usize,
-    },
+    View { node: NodeId, count: usize },
     // A node's commit index.
-    Commit {
-        node: NodeId,
-        index: LogIndex,
-    },
-    // The indexes after old, through new, were committed in a term.
-    Terms {
-        old: LogIndex,
-        new: LogIndex,
-        term: Term,
-    },
-    // A leader was elected in a term, with that many entries of its front, if its log is present. Flag and length stand apart, and in
-    // no Option: the model's record and the stored certificate have both, and an Option would be made here to be taken apart there.
-    Election {
-        leader: NodeId,
-        term: Term,
-        present: bool,
-        length: usize,
-    },
+    Commit { node: NodeId, index: LogIndex },
+    Terms(CommitTerms),
+    Election(Election),
     // The completeness check.
     Check,
     // How many rows.
-    Rows {
-        count: usize,
-    },
+    Rows { count: usize },
 }
 
 // The head, where the fields that end before bit `at` fill the record.
@@ -117,11 +115,11 @@ fn read_terms(s: &[u8]) -> Result<Head, Fault>
     finish(
         s,
         56,
-        Head::Terms {
+        Head::Terms(CommitTerms {
             old: LogIndex(old as usize),
             new: LogIndex(new as usize),
             term: Term(term as u32),
-        },
+        }),
     )
 }
 
@@ -138,12 +136,12 @@ fn read_election(s: &[u8]) -> Result<Head, Fault>
     finish(
         s,
         53,
-        Head::Election {
+        Head::Election(Election {
             leader: NodeId(leader as u8),
             term: Term(elected_in as u32),
             present,
             length: length as usize,
-        },
+        }),
     )
 }
 

@@ -26,21 +26,8 @@ module _ (h s : Bytes) (d : Result Head Fault) (t : Told s d) where
   pub view_asks : (n : NodeId) (c : ℕ) → well_formed h ≡ true → d ≡ Ok (Head.View n c) → Observing h s c n.0
   view_asks n c w e = record { right = w; walk = view_walk s d n c t e; is_node = (subst Within e t.within).0 }
 
-  pub commit_asks : (n : NodeId) (i : LogIndex) → d ≡ Ok (Head.Commit n i) → n.0 < 64
-  commit_asks n i e = (subst Within e t.within).0
-
-  pub terms_ask : (o n : LogIndex) (k : Term) → d ≡ Ok (Head.Terms o n k) → n.0 ≤ 256
-  terms_ask o n k e = (subst Within e t.within).1
-
-  pub election_asks : (l : NodeId) (k : Term) (p : Bool) (n : ℕ) → d ≡ Ok (Head.Election l k p n) → l.0 < 64
-  election_asks l k p n e = (subst Within e t.within).0
-
 pub replied : (h s : Bytes) (d d' : Result Head Fault) (r : Result Accepted Refusal) (h' : Bytes) → d ≡ d' → (r ≡ reply_to h s d') × (h' ≡ bytes_to h s d') → Replied h s d r h'
 replied h s d d' r h' e q = subst (λ (x : Result Head Fault). Replied h s x r h') (sym e) (record { answer = q.0; bytes = q.1 })
-
-pub rows_replied : (h s : Bytes) (d : Result Head Fault) (c : ℕ) (r : Result Accepted Refusal) → d ≡ Ok (Head.Rows c) → r ≡ of_rows (rows.verdict (rows_at s first_row c))
-    → Replied h s d r h
-rows_replied h s d c r e q = replied h s d (Ok (Head.Rows c)) r h e (q, refl)
 
 pub unreadable_replied : (h s : Bytes) (d : Result Head Fault) (f : Fault) → d ≡ Err f → Replied h s d (Err (Refusal.Unreadable f)) h
 unreadable_replied h s d f e = replied h s d (Err f) (Err (Refusal.Unreadable f)) h e (refl, refl)

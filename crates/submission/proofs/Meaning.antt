@@ -122,12 +122,12 @@ module _ (h : Bytes) (x : History) (st : Stands h x) where
   told_means s (Ok (Head.Commit n i)) t =
       took h x s _ _ _ _ t.reading (commit_said (commit_answer h n.0 i.0))
       (commits.commit_mean h x n.0 i.0 st t.within.0 t.within.1)
-  told_means s (Ok (Head.Terms b n k)) t =
-      took h x s _ _ _ _ t.reading (terms_said (terms_answer b.0 n.0))
-      (commit-terms.terms_mean h x b.0 n.0 k.0 st t.within.1 t.within.2)
-  told_means s (Ok (Head.Election l k p n)) t =
-      took h x s _ _ _ _ t.reading (election_said (answer_in h l.0 k.0 n))
-      (elections.election_recorded h x st l.0 k.0 p n t.within.0 t.within.1 _ _ (record { answer = refl; bytes = refl }))
+  told_means s (Ok (Head.Terms c)) t =
+      took h x s _ _ _ _ t.reading (terms_said (terms_answer c.old.0 c.new.0))
+      (commit-terms.terms_mean h x c.old.0 c.new.0 c.term.0 st t.within.1 t.within.2)
+  told_means s (Ok (Head.Election e)) t =
+      took h x s _ _ _ _ t.reading (election_said (answer_in h e.leader.0 e.term.0 e.length))
+      (elections.election_recorded h x st e.leader.0 e.term.0 e.present e.length t.within.0 t.within.1 _ _ (record { answer = refl; bytes = refl }))
   told_means s (Ok Head.Check) t =
       took h x s _ _ _ _ t.reading (check_said (check_answer h))
       (checks.check_means h x (check_answer h) (check_bytes h) st (record { is = refl; bytes = refl }))

@@ -25,8 +25,8 @@ use Rattle.leader_kinds.specs.Kinds.{of_election, of_check, of_rows}
 abbrev pub reply_to : Bytes → Bytes → Result Head Fault → Result Accepted Refusal
 reply_to h s (Ok (Head.View n c)) = of_view (observed 512 h s c n.0)
 reply_to h s (Ok (Head.Commit n i)) = of_commit (commit_answer h n.0 i.0)
-reply_to h s (Ok (Head.Terms o n t)) = of_terms (terms_answer o.0 n.0)
-reply_to h s (Ok (Head.Election l t p n)) = of_election (answer_in h l.0 t.0 n)
+reply_to h s (Ok (Head.Terms x)) = of_terms (terms_answer x.old.0 x.new.0)
+reply_to h s (Ok (Head.Election x)) = of_election (answer_in h x.leader.0 x.term.0 x.length)
 reply_to h s (Ok Head.Check) = of_check (check_answer h)
 reply_to h s (Ok (Head.Rows c)) = of_rows (rows.verdict (rows_at s first_row c))
 reply_to h s (Err f) = Err (Refusal.Unreadable f)
@@ -34,8 +34,8 @@ reply_to h s (Err f) = Err (Refusal.Unreadable f)
 abbrev pub bytes_to : Bytes → Bytes → Result Head Fault → Bytes
 bytes_to h s (Ok (Head.View n c)) = observed_bytes 512 h s c n.0
 bytes_to h s (Ok (Head.Commit n i)) = commit_bytes h n.0 i.0
-bytes_to h s (Ok (Head.Terms o n t)) = terms_bytes h o.0 n.0 t.0
-bytes_to h s (Ok (Head.Election l t p n)) = bytes_in h l.0 t.0 p n
+bytes_to h s (Ok (Head.Terms x)) = terms_bytes h x.old.0 x.new.0 x.term.0
+bytes_to h s (Ok (Head.Election x)) = bytes_in h x.leader.0 x.term.0 x.present x.length
 bytes_to h s (Ok Head.Check) = check_bytes h
 bytes_to h s (Ok (Head.Rows c)) = h
 bytes_to h s (Err f) = h

@@ -18,13 +18,8 @@ fn dispatch(history: &mut [u8], s: &[u8], head: Head) -> Result<Accepted, Refusa
     match head {
         Head::View { node, count } => take_view(&mut history[..], s, node, count),
         Head::Commit { node, index } => take_commit(&mut history[..], node, index),
-        Head::Terms { old, new, term } => take_terms(&mut history[..], old, new, term),
-        Head::Election {
-            leader,
-            term,
-            present,
-            length,
-        } => take_election(&mut history[..], leader, term, present, length),
+        Head::Terms(t) => take_terms(&mut history[..], t),
+        Head::Election(e) => take_election(&mut history[..], e),
         Head::Check => take_check(&mut history[..]),
         Head::Rows { count } => take_rows(s, count),
     }

@@ -5,9 +5,9 @@ ghost use Rattle.view_writing.specs.Observation.{Storing, StoredAs, view_replace
 use log_prefix::prefix::extend;
 use log_violation::violation::Notes;
 use record_walk::walk::{entry_at, last_index};
-use storage::rows::set;
+use storage::rows::{StoredRow, set};
 use storage_bytes::layout::NODES;
-use table_rows::nodes::{Node, node_at};
+use table_rows::nodes::Node;
 use units::{LogIndex, LogPrefixWitness, NodeId};
 use view_judging::judging::{Place, place_after};
 
@@ -35,8 +35,8 @@ fn replace_view(history: &mut [u8], node: NodeId, front: LogPrefixWitness, last:
     requires { (node.0 < 64) × (length history.old ≡ 24137) }
     ensures { history.new ≡ view_replaced history.old node.0 front.0 last.0 }
 {
-    let k = node.0 as usize;
-    let x = node_at(NODES.of(&history[..]), k);
+    let k = usize::from(node.0);
+    let x = Node::at(NODES.of(&history[..]), k);
     set(&mut history[..], k, Node { front, last, ..x });
 }
 

@@ -15,8 +15,8 @@ use Rattle.commit_terms.proofs.terms.record_commit_terms.Goals as goal
 pub returns-then-lt : goal.returns-then-lt
 returns-then-lt c =
     let s = c.args in
-    let exceeds : s.new.0 < s.old.0 = search rules in
-    record_refused s.history.now s.old.0 s.new.0 s.term.0 exceeds
+    let exceeds : s.t.new.0 < s.t.old.0 = search rules in
+    record_refused s.history.now s.t.old.0 s.t.new.0 s.t.term.0 exceeds
 
 pub lengthen-requires : goal.lengthen-requires
 lengthen-requires c =
@@ -45,11 +45,11 @@ lower_marks-requires c =
 pub returns-in-Some : goal.returns-in-Some
 returns-in-Some c =
     let s = c.args in
-    let within : s.old.0 ≤ s.new.0 = search rules in
-    record_changed s.history.now s.old.0 s.new.0 s.term.0 within _ c.lengthen.ensures _ c.of.ensures.is _ c.first_replaced-found.ensures _ c.in-Some.is _ c.replace_terms.ensures _ c.lower_marks.ensures
+    let within : s.t.old.0 ≤ s.t.new.0 = search rules in
+    record_changed s.history.now s.t.old.0 s.t.new.0 s.t.term.0 within _ c.lengthen.ensures _ c.of.ensures.is _ c.first_replaced-found.ensures _ c.in-Some.is _ c.replace_terms.ensures _ c.lower_marks.ensures
 
 pub returns-in_default : goal.returns-in_default
 returns-in_default c =
     let s = c.args in
-    let within : s.old.0 ≤ s.new.0 = search rules in
-    record_unchanged s.history.now s.old.0 s.new.0 s.term.0 within _ c.lengthen.ensures _ c.of.ensures.is _ c.first_replaced-found.ensures c.in_default.is
+    let within : s.t.old.0 ≤ s.t.new.0 = search rules in
+    record_unchanged s.history.now s.t.old.0 s.t.new.0 s.t.term.0 within _ c.lengthen.ensures _ c.of.ensures.is _ c.first_replaced-found.ensures c.in_default.is

@@ -1,11 +1,14 @@
 -- `completeness::leader_completeness::record_leader_completeness` meets its contract.
 -- Assumes nothing.
 use Rattle.completeness.proofs.CheckLaws.{checked_nothing, number_is, end_read, checked_kept, judged_refused, judged_accepted, written_as}
+use Rattle.std.proofs.lemmas.Result.{err_from_is_err_and}
+use Rattle.log_violation.proofs.ViolationLaws.{too_many, in_limit}
 use Rattle.storage.proofs.WellFormed.{formed}
 use Rattle.check_marks.proofs.MarkLaws.{marks_length}
 use Rattle.committed_prefix.proofs.PrefixTurns.{kept_within}
 use mathlib.Core.Path.{ap, ◌∙◌}
 use native.Mathlib.Omega.{arith}
+use Rattle.std.specs.Prelude.{Ok}
 use lib.ListN.{length}
 use Rattle.completeness.proofs.leader_completeness.record_leader_completeness.Goals as goal
 
@@ -29,16 +32,17 @@ through-end-requires c =
 pub of-notes-requires : goal.of-notes-requires
 of-notes-requires c = let l = (formed _ c.requires).long in omega arith
 
-pub judge_all-flags-requires : goal.judge_all-flags-requires
-judge_all-flags-requires c = (
+pub judge_all-relevant-requires : goal.judge_all-relevant-requires
+judge_all-relevant-requires c = (
   record { right = c.requires; committed = number_is _ _ c.committed_prefix.ensures _ c.in-Some.is },
   end_read c.args.history.now _ c.committed_prefix.ensures _ c.in-Some.is _ c.of.ensures.is _ c.through-end.ensures.is,
 )
 
-pub returns-then-notes-gt-FINDING_LIMIT : goal.returns-then-notes-gt-FINDING_LIMIT
-returns-then-notes-gt-FINDING_LIMIT c =
-    checked_kept c.args.history.now _ c.committed_prefix.ensures _ c.in-Some.is _ _
-    (judged_refused c.args.history.now _ _ _ _ _ c.of-notes.ensures c.judge_all-flags.ensures c.if-notes-gt-FINDING_LIMIT.true)
+pub returns-in_err-fits : goal.returns-in_err-fits
+returns-in_err-fits c =
+    let p = err_from_is_err_and c.from_residual.result c.from_residual.ensures.1 in
+    let q = judged_refused c.args.history.now _ _ _ _ _ c.of-notes.ensures c.judge_all-relevant.ensures (too_many _ _ c.fits.ensures _ c.in_err-fits.was) in
+    checked_kept c.args.history.now _ c.committed_prefix.ensures _ c.in-Some.is _ _ (p.1 ∙ q.0, q.1)
 
 pub move_marks-requires : goal.move_marks-requires
 move_marks-requires c =
@@ -51,7 +55,7 @@ keep-requires c = ap length c.move_marks.ensures ∙ marks_length _ _ _ _ ∙ (f
 pub returns : goal.returns
 returns c =
     let h = c.args.history.now in
-    checked_kept h _ c.committed_prefix.ensures _ c.in-Some.is _ _
-    (judged_accepted h _ _ _ _ _ c.of-notes.ensures c.judge_all-flags.ensures c.if-notes-gt-FINDING_LIMIT.false
+    let q = judged_accepted h _ _ _ _ _ c.of-notes.ensures c.judge_all-relevant.ensures (in_limit _ _ c.fits.ensures _ c.in_ok-fits.was)
     _ (end_read h _ c.committed_prefix.ensures _ c.in-Some.is _ c.of.ensures.is _ c.through-end.ensures.is)
-    _ (written_as h _ _ _ _ c.move_marks.ensures _ c.keep.ensures))
+    _ (written_as h _ _ _ _ c.move_marks.ensures _ c.keep.ensures) in
+    checked_kept h _ c.committed_prefix.ensures _ c.in-Some.is _ _ (ap Ok c.flags.ensures ∙ q.0, q.1)

@@ -13,7 +13,7 @@ use Rattle.election.proofs.certificate.record_election.Goals as goal
 pub returns-in_default : goal.returns-in_default
 returns-in_default c =
     let s = c.args in
-    beyond s.history.now s.leader.0 s.term.0 s.present s.length.0 _ c.front_through.ensures c.in_default.is
+    beyond s.history.now s.e.leader.0 s.e.term.0 s.e.present s.e.length _ c.front_through.ensures c.in_default.is
 
 pub certificate_count-requires : goal.certificate_count-requires
 certificate_count-requires c = let l = (formed _ c.requires.0).long in omega arith
@@ -21,15 +21,15 @@ certificate_count-requires c = let l = (formed _ c.requires.0).long in omega ari
 pub returns-then-certificate_count-ge-CERTIFICATE_LIMIT : goal.returns-then-certificate_count-ge-CERTIFICATE_LIMIT
 returns-then-certificate_count-ge-CERTIFICATE_LIMIT c =
     let s = c.args in
-    full s.history.now s.leader.0 s.term.0 s.present s.length.0 _ c.front_through.ensures _ c.in-Some.is _ c.certificate_count.ensures.is c.if-certificate_count-ge-CERTIFICATE_LIMIT.true
+    full s.history.now s.e.leader.0 s.e.term.0 s.e.present s.e.length _ c.front_through.ensures _ c.in-Some.is _ c.certificate_count.ensures.is c.if-certificate_count-ge-CERTIFICATE_LIMIT.true
 
 pub returns-in_err-next : goal.returns-in_err-next
 returns-in_err-next c =
     let s = c.args in
     let p = err_from_is_err_and c.from_residual.result c.from_residual.ensures.1 in
-    subst (λ (r : Result ⊤ ElectionRefusal). Recorded s.history.now s.leader.0 s.term.0 s.present s.length.0 r s.history.now)
+    subst (λ (r : Result ⊤ ElectionRefusal). Recorded s.history.now s.e.leader.0 s.e.term.0 s.e.present s.e.length r s.history.now)
     (sym (p.1 ∙ ap Err p.2))
-    (taken s.history.now s.leader.0 s.term.0 s.present s.length.0 _ c.front_through.ensures _ c.in-Some.is _ c.certificate_count.ensures.is c.if-certificate_count-ge-CERTIFICATE_LIMIT.false _
+    (taken s.history.now s.e.leader.0 s.e.term.0 s.e.present s.e.length _ c.front_through.ensures _ c.in-Some.is _ c.certificate_count.ensures.is c.if-certificate_count-ge-CERTIFICATE_LIMIT.false _
     c.number_in_term.ensures _ c.in_err-next.was)
 
 pub add_certificate-requires : goal.add_certificate-requires
@@ -42,5 +42,5 @@ add_certificate-requires c = (
 pub returns : goal.returns
 returns c =
     let s = c.args in
-    accepted s.history.now s.leader.0 s.term.0 s.present s.length.0 _ c.front_through.ensures _ c.in-Some.is _ c.certificate_count.ensures.is c.if-certificate_count-ge-CERTIFICATE_LIMIT.false _
+    accepted s.history.now s.e.leader.0 s.e.term.0 s.e.present s.e.length _ c.front_through.ensures _ c.in-Some.is _ c.certificate_count.ensures.is c.if-certificate_count-ge-CERTIFICATE_LIMIT.false _
     c.number_in_term.ensures _ c.in_ok-next.was _ c.new_certificate-c.ensures _ c.add_certificate.ensures

@@ -2,8 +2,11 @@
 -- Assumes nothing.
 use Prim.Native.Nat.{min}
 use borrow.Author.Rules.{rules}
-use mathlib.Core.Path.{◌≡◌}
+use mathlib.Core.Path.{◌≡◌, ap, ◌∙◌}
 use native.Mathlib.Omega.{arith}
+use Rattle.std.specs.Prelude.{Err}
+use Rattle.std.proofs.lemmas.Result.{err_from_is_err_and}
+use Rattle.log_violation.proofs.ViolationLaws.{too_many, in_limit}
 use Rattle.storage.proofs.WellFormed.{formed}
 use Rattle.logical_log.proofs.Whole.{total_small, observed_six, observed_seven, observed_ok, observed_room}
 use Rattle.logical_log.proofs.observation.observe_prefixes.Goals as goal
@@ -23,10 +26,12 @@ returns-then-most-total c =
     let m : c.min-most.result ≡ min c.args.limit 512 = search rules in
     observed_six (min c.args.limit 512) c.args.history.now c.args.view.now c.args.entries c.args.node.0 _ _ _ _ _ c.requires c.judge_view-judged.ensures c.prefix_count-count.ensures.is _ m c.if-most-total.true
 
-pub returns-then-held-gt-FINDING_LIMIT : goal.returns-then-held-gt-FINDING_LIMIT
-returns-then-held-gt-FINDING_LIMIT c =
+pub returns-in_err-fits : goal.returns-in_err-fits
+returns-in_err-fits c =
     let m : c.min-most.result ≡ min c.args.limit 512 = search rules in
-    observed_seven (min c.args.limit 512) c.args.history.now c.args.view.now c.args.entries c.args.node.0 _ _ _ _ _ c.requires c.judge_view-judged.ensures c.prefix_count-count.ensures.is _ m c.if-most-total.false c.if-held-gt-FINDING_LIMIT.true
+    let p = err_from_is_err_and c.from_residual.result c.from_residual.ensures.1 in
+    let q = observed_seven (min c.args.limit 512) c.args.history.now c.args.view.now c.args.entries c.args.node.0 _ _ _ _ _ c.requires c.judge_view-judged.ensures c.prefix_count-count.ensures.is _ m c.if-most-total.false (too_many _ _ c.fits.ensures _ c.in_err-fits.was) in
+    (p.1 ∙ ap Err p.2 ∙ q.0, q.1)
 
 pub write_view-requires : goal.write_view-requires
 write_view-requires c =
@@ -39,5 +44,5 @@ write_view-requires c =
 pub returns : goal.returns
 returns c =
     let m : c.min-most.result ≡ min c.args.limit 512 = search rules in
-    observed_ok (min c.args.limit 512) c.args.history.now c.args.view.now c.args.entries c.args.node.0 _ _ _ _ _ c.requires c.judge_view-judged.ensures c.prefix_count-count.ensures.is _ m c.if-most-total.false c.if-held-gt-FINDING_LIMIT.false
+    observed_ok (min c.args.limit 512) c.args.history.now c.args.view.now c.args.entries c.args.node.0 _ _ _ _ _ c.requires c.judge_view-judged.ensures c.prefix_count-count.ensures.is _ m c.if-most-total.false (in_limit _ _ c.fits.ensures _ c.in_ok-fits.was)
     _ c.write_view.ensures
