@@ -8,8 +8,9 @@ ghost use Rattle.table_rows.specs.Values.{finding_value};
 ghost use Rattle.finding_lists.specs.Findings.{comes_before, count_first, pick_ordered, finding_answer};
 
 use storage::head::finding_count;
+use storage::rows::StoredRow;
 use storage_bytes::layout::FINDINGS;
-use table_rows::findings::{Found, finding_at as row_at};
+use table_rows::findings::Found;
 
 // f is printed before g.
 #[tactic(auto, unfolding(crate::specs::Findings::comes_before))]
@@ -26,7 +27,7 @@ fn count_first(findings: &[u8], k: usize, m: usize, f: Found) -> usize
 {
     let mut count = 0;
     for j in k..m {
-        if !comes_before(f, row_at(findings, j)) {
+        if !comes_before(f, Found::at(findings, j)) {
             count += 1;
         }
     }
@@ -40,7 +41,7 @@ fn finding_in(findings: &[u8], m: usize, n: usize) -> Option<Found>
 {
     let mut left = n;
     for k in 0..m {
-        let f = row_at(findings, k);
+        let f = Found::at(findings, k);
         let p = count_first(findings, k + 1, m, f);
         if left == p {
             return Some(f);

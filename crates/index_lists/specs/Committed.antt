@@ -1,10 +1,18 @@
--- The committed prefix's owner, as the bytes of a history have it; 0 where there is none. (Its length: `committed_end` of `storage`.)
+-- The committed prefix and its owner, as the bytes of a history have it; the owner is 0 where there is none. (The length alone:
+-- `committed_end` of `storage`.)
 -- Assumes nothing.
-use Rattle.std.specs.Prelude.{ℕ, cond, eqb}
+use Rattle.std.specs.Prelude.{ℕ, Option, Some, None, cond, eqb}
 use Rattle.model.specs.Sizes.{Bytes}
 use Rattle.storage_bytes.specs.Words.{word_at}
 use Rattle.storage.specs.Values.{committed_end}
+use Rattle.index_lists.specs.declared.committed.Committed.{Committed}
 
 unfoldable pub owner_in : Bytes → ℕ
 unfolding word_at committed_end
 owner_in h = cond (eqb (committed_end h) 0) 0 (word_at h 8 1)
+
+-- the length and the owner, or that the committed prefix is empty
+unfoldable pub committed_answer : Bytes → Option Committed
+unfolding word_at committed_end
+committed_answer h =
+    cond (eqb (committed_end h) 0) None (Some (record { length = record { 0 = committed_end h }; owner = record { 0 = word_at h 8 1 } }))

@@ -1,11 +1,32 @@
-// The printed line of the committed prefix: its length and its owner, 0 and 0 where there is none.
+// The committed prefix's length and its owner, and the two as they are printed: 0 and 0 where there is none.
 ghost use Rattle.std.specs.Prelude.{◌≡◌, true};
 ghost use Rattle.storage.specs.Rules.{well_formed};
 ghost use Rattle.storage.specs.Values.{committed_end};
-ghost use Rattle.index_lists.specs.Committed.{owner_in};
+ghost use Rattle.index_lists.specs.Committed.{owner_in, committed_answer};
 
 use prefix_rows::prefixes::committed_end;
 use storage::head::owner;
+use units::{LogIndex, NodeId};
+
+// A committed prefix that is not empty.
+#[derive(Clone, Copy)]
+pub struct Committed {
+    pub length: LogIndex,
+    pub owner: NodeId,
+}
+
+#[tactic(auto, using(storage::proofs::WellFormed::formed), unfolding(crate::specs::Committed::committed_answer))]
+pub fn committed_prefix(history: &[u8]) -> Option<Committed>
+    requires { well_formed history.now ≡ true }
+    ensures { result ≡ committed_answer history.now }
+{
+    let length = committed_end(history);
+    if length == LogIndex::ZERO {
+        return None;
+    }
+    let owner = owner(history);
+    Some(Committed { length, owner })
+}
 
 pub fn committed_length(history: &[u8]) -> usize
     requires { well_formed history.now ≡ true }
@@ -14,12 +35,13 @@ pub fn committed_length(history: &[u8]) -> usize
     committed_end(history).0
 }
 
+#[tactic(auto, unfolding(crate::specs::Committed::committed_answer, crate::specs::Committed::owner_in))]
 pub fn committed_owner(history: &[u8]) -> usize
     requires { well_formed history.now ≡ true }
     ensures { result ≡ owner_in history.now }
 {
-    if committed_end(history).0 == 0 {
-        return 0;
+    match committed_prefix(history) {
+        None => 0,
+        Some(c) => usize::from(c.owner.0),
     }
-    owner(history).0 as usize
 }

@@ -8,9 +8,10 @@ use crate::pick::nth_held;
 use storage::head::last_recorded;
 use storage_bytes::layout::TERMS;
 use table_rows::terms::term_at;
-use units::LogIndex;
+use units::{LogIndex, Term};
 
 // The index after i has a term, of the count that are stored.
+#[tactic(auto, unfolding(crate::specs::Unknown::is_known))]
 fn is_known(terms: &[u8], count: usize, i: usize) -> bool
     requires { (count ≤ 256) × (length terms.now ≡ 1024) }
     ensures { result ≡ is_known terms.now count i }
@@ -19,7 +20,7 @@ fn is_known(terms: &[u8], count: usize, i: usize) -> bool
         return false;
     }
     let t = term_at(terms, i);
-    t.0 != 0
+    t != Term::ZERO
 }
 
 // The n-th unknown index of the first m, counted from 0.
@@ -36,6 +37,7 @@ fn index_in(terms: &[u8], count: usize, m: usize, n: usize) -> Option<LogIndex>
 }
 
 // The n-th printed index, counted from 0.
+#[tactic(auto, using(storage::proofs::WellFormed::formed, storage::proofs::WellFormed::end_small, crate::proofs::Whole::unknown_lent))]
 pub fn unknown_at(history: &[u8], n: usize) -> Option<LogIndex>
     requires { well_formed history.now ≡ true }
     ensures { result ≡ unknown_answer history.now n }

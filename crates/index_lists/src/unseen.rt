@@ -4,8 +4,9 @@ ghost use Rattle.storage.specs.Rules.{well_formed};
 ghost use Rattle.index_lists.specs.Unseen.{mark_in, unseen_answer};
 
 use crate::pick::nth_held;
+use storage::rows::StoredRow;
 use storage_bytes::layout::NODES;
-use table_rows::nodes::node_at;
+use table_rows::nodes::Node;
 use units::{LogIndex, NodeId};
 
 #[derive(Clone, Copy)]
@@ -20,7 +21,7 @@ fn mark_in(nodes: &[u8], n: usize) -> Option<Unseen>
     ensures { result ≡ mark_in nodes.now n }
 {
     nth_held(64, n, |k| {
-        let index = node_at(nodes, k).unseen;
+        let index = Node::at(nodes, k).unseen;
         if index == LogIndex::ZERO {
             return None;
         }
@@ -30,6 +31,7 @@ fn mark_in(nodes: &[u8], n: usize) -> Option<Unseen>
 }
 
 // The n-th printed mark, counted from 0.
+#[tactic(auto, using(storage::proofs::WellFormed::formed, crate::proofs::Whole::unseen_lent))]
 pub fn unseen_at(history: &[u8], n: usize) -> Option<Unseen>
     requires { well_formed history.now ≡ true }
     ensures { result ≡ unseen_answer history.now n }

@@ -7,8 +7,9 @@ ghost use Rattle.table_rows.specs.Values.{finding_value};
 ghost use Rattle.lists.specs.Leaders.{pair, lesser_of, better_of, least_in, next_of, leader_in, leader_answer};
 
 use storage::head::finding_count;
+use storage::rows::StoredRow;
 use storage_bytes::layout::FINDINGS;
-use table_rows::findings::{Found, LG_05, finding_at as row_at};
+use table_rows::findings::{Found, LG_05};
 use units::{NodeId, Term};
 
 // An elected leader without a committed entry. The order is the printed one: by term, then node.
@@ -62,7 +63,7 @@ fn least_from(findings: &[u8], m: usize, bound: Bound) -> Option<Leader>
 {
     let mut best = None;
     for k in (0..m).rev() {
-        best = better(row_at(findings, k), bound, best);
+        best = better(Found::at(findings, k), bound, best);
     }
     best
 }

@@ -8,19 +8,20 @@ ghost use Rattle.std.specs.Io.KnownBytes.{Appends};
 
 use input_blocks::fill;
 use sheet_lists::closing::put_lists;
+use sheet_numbers::decimal::Sheet;
 use sheet_pieces::split::move_down;
 use sheet_text::taking::{SOME, put_cut, take_some};
 use std::io;
 use std::io::{Read, Write};
-use storage_bytes::layout::part;
+use storage_bytes::layout::{HISTORY_LENGTH, part};
 
 // No recording has so many records, and none takes so many blocks.
 const LAST: u64 = 18446744073709551000;
 
-// The bytes of input held: more than the longest piece, of 65,537 bytes.
+// The bytes of input held: more than the longest piece, of 65,537 bytes. Memory is fixed: an array, and no Vec.
 const INPUT: usize = 131072;
 
-// The bytes of output held: the lines of the records taken at a time, or all the lists.
+// The bytes of output held, fixed as well: the lines of the records taken at a time, or all the lists.
 const OUTPUT: usize = 65536;
 
 // How far the sheet is: the number of the next record, and where it begins in the block.
@@ -30,12 +31,12 @@ struct Place {
     from: usize,
 }
 
-// The output up to its end is written.
-fn flush<W: Write>(writer: &mut W, out: &[u8], end: usize) -> io::Result<()>
-    requires { end ≤ length out.now }
-    ensures { OnOk result (Appends (W.contents writer.old) (W.contents writer.new) (take end out.now)) }
+// What a sheet has is written.
+fn flush<W: Write>(writer: &mut W, sheet: &Sheet<'_>) -> io::Result<()>
+    requires { sheet.now.end ≤ length sheet.now.out.now }
+    ensures { OnOk result (Appends (W.contents writer.old) (W.contents writer.new) (take sheet.now.end sheet.now.out.now)) }
 {
-    writer.write_all(part(out, 0, end))
+    writer.write_all(&sheet.out[..sheet.end])
 }
 
 // The whole pieces of a block in turn, their lines written some at a time: how far it came.
@@ -43,18 +44,21 @@ fn take_block<W: Write>(
     writer: &mut W,
     history: &mut [u8],
     block: &[u8],
-    out: &mut [u8],
+    out: &mut [u8; OUTPUT],
     first: u64,
 ) -> io::Result<Place>
-    requires { length out.old ≡ 65536 }
     ensures { IfOk result (λ place. place.from ≤ length block.now) }
 {
     let mut number = first;
     let mut from = 0;
     // the number goes on by as many as were taken, and is told in the sheet: no index is counted
     while number < LAST {
-        let p = take_some(&mut history[..], block, &mut out[..], number, from);
-        flush(writer, &out[..], p.at)?;
+        let mut sheet = Sheet {
+            out: &mut out[..],
+            end: 0,
+        };
+        let p = take_some(&mut history[..], block, &mut sheet, number, from);
+        flush(writer, &sheet)?;
         number = p.number;
         from = p.from;
         if p.count < SOME {
@@ -67,17 +71,16 @@ fn take_block<W: Write>(
 // What is left where the input ends is a cut piece.
 fn end_of_input<W: Write>(
     writer: &mut W,
-    out: &mut [u8],
+    out: &mut [u8; OUTPUT],
     number: u64,
     rest: usize,
-) -> io::Result<()>
-    requires { length out.old ≡ 65536 }
-{
+) -> io::Result<()> {
     if rest == 0 {
         return Ok(());
     }
-    let end = put_cut(&mut out[..], 0, number);
-    flush(writer, &out[..], end)
+    let mut sheet = Sheet { out, end: 0 };
+    put_cut(&mut sheet, number);
+    flush(writer, &sheet)
 }
 
 // The input block by block, to its end. The rest of a block, a piece that goes on in the next one, is moved to the front first.
@@ -85,22 +88,19 @@ fn take_input<R: Read, W: Write>(
     reader: &mut R,
     writer: &mut W,
     history: &mut [u8],
-    input: &mut [u8],
-    out: &mut [u8],
-) -> io::Result<()>
-    requires input_len { length input.old ≡ 131072 }
-    requires out_len { length out.old ≡ 65536 }
-{
+    input: &mut [u8; INPUT],
+    out: &mut [u8; OUTPUT],
+) -> io::Result<()> {
     let mut number: u64 = 1;
     let mut rest = 0;
     for _ in 0..LAST {
         let got = fill(reader, &mut input[rest..])?;
         if got == 0 {
-            return end_of_input(writer, &mut out[..], number, rest);
+            return end_of_input(writer, out, number, rest);
         }
         let to = rest + got;
         let block = part(&input[..], 0, to);
-        let p = take_block(writer, &mut history[..], block, &mut out[..], number)?;
+        let p = take_block(writer, &mut history[..], block, out, number)?;
         rest = move_down(&mut input[..], p.from, to);
         number = p.number;
     }
@@ -110,10 +110,14 @@ fn take_input<R: Read, W: Write>(
 fn main(rt: HostRuntime) -> io::Result<()> {
     let mut input = [0u8; INPUT];
     let mut out = [0u8; OUTPUT];
-    let mut history = [0u8; 24137];
+    let mut history = [0u8; HISTORY_LENGTH];
     let mut reader = rt.stdin();
     let mut writer = rt.stdout();
     take_input(&mut reader, &mut writer, &mut history, &mut input, &mut out)?;
-    let end = put_lists(&history, &mut out);
-    flush(&mut writer, &out, end)
+    let mut sheet = Sheet {
+        out: &mut out,
+        end: 0,
+    };
+    put_lists(&history, &mut sheet);
+    flush(&mut writer, &sheet)
 }

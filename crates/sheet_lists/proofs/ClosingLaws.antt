@@ -14,7 +14,6 @@ use Rattle.std.specs.Prelude.{Option, Some, None, slice_get}
 use Rattle.std.specs.Option.{option_map}
 use Rattle.std.proofs.lemmas.Option.{none-some, same_Some}
 use Rattle.model.specs.Sizes.{Bytes}
-use Rattle.storage_bytes.specs.Words.{put_bytes}
 use Rattle.model.specs.Lists.{finding_list, leader_list, unseen_list, unknown_list}
 use Rattle.model.proofs.Tests.{cond_true, cond_false}
 use Rattle.storage.specs.Rules.{well_formed}
@@ -32,11 +31,12 @@ use Rattle.index_lists.specs.declared.unseen.Unseen.{Unseen as Mark}
 use Rattle.index_lists.specs.Unseen.{unseen_answer}
 use Rattle.units.specs.declared.LogIndex.{LogIndex}
 use Rattle.index_lists.specs.Unknown.{unknown_answer}
-use Rattle.sheet_numbers.specs.Decimal.{Put}
+use Rattle.sheet_numbers.specs.Filled.{Filled}
+use Rattle.sheet_numbers.specs.declared.decimal.Sheet.{Sheet}
 use Rattle.sheet_lines.specs.Lines.{finding_line, leader_line, unseen_line, unknown_line, committed_line}
 use Rattle.sheet_lists.specs.Closing.{lines_of, joined, of_finding, of_leader, of_unseen, closing, closing_of}
 use Rattle.sheet_lists.proofs.ListBounds.{findings_bound, leaders_bound, unseen_bound, unknown_bound}
-use Rattle.sheet_numbers.proofs.PutLaws.{put_then, put_as, put_kept}
+use Rattle.sheet_numbers.proofs.PutLaws.{filled_none, filled_then, filled_as}
 
 -- ---- the lists
 
@@ -46,34 +46,31 @@ joined_map line [] = refl
 joined_map line (x ∷ xs) = ap (λ (l : Bytes). line x ++ l) (joined_map line xs)
 
 -- the five parts of the closing, put one after another
-pub closed_right : (h t : Bytes) (a b c d r : ℕ) (ta tb tc td t' : Bytes) → well_formed h ≡ true
-    → Put 22528 t 0 (joined (map of_finding (finding_list (decode h)))) a ta
-    → Put 12544 ta a (joined (map of_leader (leader_list (decode h)))) b tb
-    → Put 12544 tb b (joined (map of_unseen (unseen_list (decode h)))) c tc
-    → Put 7424 tc c (joined (map unknown_line (unknown_list (decode h)))) d td
-    → (n o : ℕ) → n ≡ committed_end h → o ≡ owner_in h → Put 52 td d (committed_line n o) r t' → Put 55092 t 0 (closing_of h) r t'
+pub closed_right : (h : Bytes) (s a b c d s' : Sheet) → well_formed h ≡ true
+    → Filled 22528 s (joined (map of_finding (finding_list (decode h)))) a
+    → Filled 12544 a (joined (map of_leader (leader_list (decode h)))) b
+    → Filled 12544 b (joined (map of_unseen (unseen_list (decode h)))) c
+    → Filled 7424 c (joined (map unknown_line (unknown_list (decode h)))) d
+    → (n o : ℕ) → n ≡ committed_end h → o ≡ owner_in h → Filled 52 d (committed_line n o) s' → Filled 55092 s (closing_of h) s'
 unfolding closing
-closed_right h t a b c d r ta tb tc td t' w p q s u n o en eo v =
+closed_right h s a b c d s' w p q r u n o en eo v =
     let x = decode h in
     let st = stand h w in
-    put_as (put_then (put_then (put_then (put_then p q) s) u) v) _
+    filled_as (filled_then (filled_then (filled_then (filled_then p q) r) u) v) _
     ((λ i.
     joined_map of_finding (finding_list x) i ++ joined_map of_leader (leader_list x) i ++ joined_map of_unseen (unseen_list x) i
     ++ joined_map unknown_line (unknown_list x) i ++ committed_line ((en ∙ end_is h x st) i) ((eo ∙ owner_told h x st) i))
     ∙ sym (cond_true (well_formed h) _ [] w))
     (omega arith)
 
-pub closed_broken : (h t : Bytes) → well_formed h ≡ false → Put 55092 t 0 (closing_of h) 0 t
-unfolding put_bytes
-closed_broken h t w =
-    let none : Put 0 t 0 [] 0 t = record { next = refl; bytes = refl; within = omega arith } in
-    put_as none _ (sym (cond_false (well_formed h) (closing (decode h)) [] w)) (omega arith)
+pub closed_broken : (h : Bytes) (s : Sheet) → well_formed h ≡ false → Filled 55092 s (closing_of h) s
+closed_broken h s w = filled_as (filled_none s) _ (sym (cond_false (well_formed h) (closing (decode h)) [] w)) (omega arith)
 
 -- ---- the lines of a list
 
 -- the first k lines are put
-abbrev pub Put_to : ℕ → List Bytes → Bytes → ℕ → ℕ → ℕ → Bytes → Type 0
-Put_to w ls t o k r t' = Put (k * w) t o (joined (take k ls)) r t'
+abbrev pub Filled_to : ℕ → List Bytes → Sheet → ℕ → Sheet → Type 0
+Filled_to w ls s k s' = Filled (k * w) s (joined (take k ls)) s'
 
 lines_more : (ls : List Bytes) (k : ℕ) (v : Bytes) → Some v ≡ slice_get ls k → joined (take (suc k) ls) ≡ joined (take k ls) ++ v
 unfolding lines_of
@@ -86,25 +83,26 @@ past_last [] k e = omega arith
 past_last (x ∷ ls) zero e = absurd (none-some x e)
 past_last (x ∷ ls) (suc k) e = let l = past_last ls k e in omega arith
 
-module _ (w : ℕ) (ls : List Bytes) (t : Bytes) (o : ℕ) where
-  pub put_none : Put_to w ls t o 0 o t
-  unfolding put_bytes lines_of
-  put_none = record { next = omega arith; bytes = refl; within = omega arith }
+module _ (w : ℕ) (ls : List Bytes) (s : Sheet) where
+  pub put_none : Filled_to w ls s 0 s
+  unfolding lines_of
+  put_none = filled_as (filled_none s) _ refl (omega arith)
 
-  pub put_next : (k r e : ℕ) (t' t'' : Bytes) (v : Bytes) → Put_to w ls t o k r t' → Some v ≡ slice_get ls k
-      → Put w t' r v e t'' → Put_to w ls t o (k + 1) e t''
-  put_next k r e t' t'' v p q n =
-      put_as (put_then p n) _ (sym (lines_more ls k v q) ∙ ap (λ (j : ℕ). joined (take j ls)) (sym (add-one k))) (omega arith)
+  pub put_next : (k : ℕ) (a b : Sheet) (v : Bytes) → Filled_to w ls s k a → Some v ≡ slice_get ls k → Filled w a v b → Filled_to w ls s (k + 1) b
+  put_next k a b v p q n =
+      filled_as (filled_then p n) _ (sym (lines_more ls k v q) ∙ ap (λ (j : ℕ). joined (take j ls)) (sym (add-one k))) (omega arith)
 
   -- a line more has room
-  pub put_room : (k r : ℕ) (t' : Bytes) → Put_to w ls t o k r t' → k < 256 → o + 256 * w ≤ length t → r + w ≤ length t'
-  put_room k r t' p l h = let m : (k + 1) * w ≤ 256 * w = mul-le-mul_right w (let q : k + 1 ≤ 256 = omega arith in q) in omega (arith, p.next, p.within, put_kept p, m)
+  pub put_room : (k : ℕ) (a : Sheet) → Filled_to w ls s k a → k < 256 → s.end + 256 * w ≤ length s.out.now → a.end + w ≤ length a.out.now
+  put_room k a p l h =
+      let m : (k + 1) * w ≤ 256 * w = mul-le-mul_right w (let q : k + 1 ≤ 256 = omega arith in q) in
+      omega (arith, p.put.next, p.put.within, p.kept, m)
 
-  pub put_all : (k r : ℕ) (t' : Bytes) → Put_to w ls t o k r t' → k ≤ 256 → length ls ≤ k → Put (256 * w) t o (joined ls) r t'
-  put_all k r t' p l h = put_as p _ (ap joined (take_all k ls h)) (mul-le-mul_right w l)
+  pub put_all : (k : ℕ) (a : Sheet) → Filled_to w ls s k a → k ≤ 256 → length ls ≤ k → Filled (256 * w) s (joined ls) a
+  put_all k a p l h = filled_as p _ (ap joined (take_all k ls h)) (mul-le-mul_right w l)
 
-  pub put_end : (k r : ℕ) (t' : Bytes) → Put_to w ls t o k r t' → k ≤ 256 → None ≡ slice_get ls k → Put (256 * w) t o (joined ls) r t'
-  put_end k r t' p l e = put_all k r t' p l (past_last ls k e)
+  pub put_end : (k : ℕ) (a : Sheet) → Filled_to w ls s k a → k ≤ 256 → None ≡ slice_get ls k → Filled (256 * w) s (joined ls) a
+  put_end k a p l e = put_all k a p l (past_last ls k e)
 
 -- the line of the n-th element is the n-th line
 nth_line : {A B : Type 0} (of : A → B) (line : B → Bytes) (xs : List A) (n : ℕ)

@@ -1,11 +1,11 @@
-// The lists of a history, put into lent bytes: findings, leaders, unseen, unknown, committed.
+// The lists of a history, put into a sheet: findings, leaders, unseen, unknown, committed.
 ghost use Rattle.std.specs.Prelude.{◌≡◌, ℕ, true, ◌+◌, ◌*◌, ◌≤◌, List, map, length, slice_get};
 ghost use Rattle.std.specs.Option.{option_map};
 ghost use Rattle.model.specs.Lists.{finding_list, leader_list, unseen_list, unknown_list};
 ghost use Rattle.model.specs.Sizes.{Bytes};
 ghost use Rattle.storage.specs.Rules.{well_formed};
 ghost use Rattle.storage.specs.Decode.{decode};
-ghost use Rattle.sheet_numbers.specs.Decimal.{Put};
+ghost use Rattle.sheet_numbers.specs.Filled.{Filled};
 ghost use Rattle.sheet_lines.specs.Lines.{finding_line, leader_line, unseen_line, unknown_line};
 ghost use Rattle.sheet_lists.specs.Closing.{joined, of_finding, of_leader, of_unseen, closing_of};
 
@@ -16,6 +16,7 @@ use index_lists::unseen::{Unseen, unseen_at};
 use lists::leaders::{Leader, leader_at};
 use rules::whole::well_formed;
 use sheet_lines::lines::{put_committed, put_finding, put_leader, put_unknown, put_unseen};
+use sheet_numbers::decimal::Sheet;
 use table_rows::findings::Found;
 use units::LogIndex;
 
@@ -37,9 +38,9 @@ trait Listed: Copy {
         requires { well_formed history.now ≡ true }
         ensures { option_map line result ≡ slice_get (lines history.now) n };
 
-    fn put(self, out: &mut [u8], at: usize) -> usize
-        requires { at + width ≤ length out.old }
-        ensures { Put width out.old at (line self) result out.new };
+    fn put(self, sheet: &mut Sheet<'_>)
+        requires { sheet.old.end + width ≤ length sheet.old.out.now }
+        ensures { Filled width sheet.old (line self) sheet.new };
 }
 
 impl Listed for Found {
@@ -53,8 +54,8 @@ impl Listed for Found {
         finding_at(history, n)
     }
 
-    fn put(self, out: &mut [u8], at: usize) -> usize {
-        put_finding(&mut out[..], at, self)
+    fn put(self, sheet: &mut Sheet<'_>) {
+        put_finding(sheet, self);
     }
 }
 
@@ -69,8 +70,8 @@ impl Listed for Leader {
         leader_at(history, n)
     }
 
-    fn put(self, out: &mut [u8], at: usize) -> usize {
-        put_leader(&mut out[..], at, self.term, self.leader)
+    fn put(self, sheet: &mut Sheet<'_>) {
+        put_leader(sheet, self.term, self.leader);
     }
 }
 
@@ -85,8 +86,8 @@ impl Listed for Unseen {
         unseen_at(history, n)
     }
 
-    fn put(self, out: &mut [u8], at: usize) -> usize {
-        put_unseen(&mut out[..], at, self.node, self.index)
+    fn put(self, sheet: &mut Sheet<'_>) {
+        put_unseen(sheet, self.node, self.index);
     }
 }
 
@@ -102,44 +103,38 @@ impl Listed for LogIndex {
         unknown_at(history, n)
     }
 
-    fn put(self, out: &mut [u8], at: usize) -> usize {
-        put_unknown(&mut out[..], at, self)
+    fn put(self, sheet: &mut Sheet<'_>) {
+        put_unknown(sheet, self);
     }
 }
 
-// The lines of a list, one after another: where they end.
-fn put_list<T: Listed>(history: &[u8], out: &mut [u8], start: usize) -> usize
+// The lines of a list, one after another.
+fn put_list<T: Listed>(history: &[u8], sheet: &mut Sheet<'_>)
     requires history_value { well_formed history.now ≡ true }
-    requires start_in_bounds { start + 256 * T.width ≤ length out.old }
+    requires start_in_bounds { sheet.old.end + 256 * T.width ≤ length sheet.old.out.now }
     requires short { length (T.lines history.now) ≤ 256 }
-    ensures { Put (256 * T.width) out.old start (joined (T.lines history.now)) result out.new }
+    ensures { Filled (256 * T.width) sheet.old (joined (T.lines history.now)) sheet.new }
 {
-    let mut at = start;
     for n in 0..MOST {
         let Some(x) = T::nth(history, n) else {
-            return at;
+            return;
         };
-        at = x.put(&mut out[..], at);
+        x.put(sheet);
     }
-    at
 }
 
-// The lists of a history that keeps the storage rules, at the start of the output: where they end.
-pub fn put_lists(history: &[u8], out: &mut [u8]) -> usize
-    requires { 65536 ≤ length out.old }
-    ensures { Put 55092 out.old 0 (closing_of history.now) result out.new }
+// The lists of a history that keeps the storage rules, behind what the sheet has.
+#[tactic(auto, using(crate::proofs::ClosingLaws::closed_broken, crate::proofs::ClosingLaws::findings_short, crate::proofs::ClosingLaws::leaders_short, crate::proofs::ClosingLaws::unseen_short, crate::proofs::ClosingLaws::unknown_short))]
+pub fn put_lists(history: &[u8], sheet: &mut Sheet<'_>)
+    requires { sheet.old.end + 55092 ≤ length sheet.old.out.now }
+    ensures { Filled 55092 sheet.old (closing_of history.now) sheet.new }
 {
     if !well_formed(history) {
-        return 0;
+        return;
     }
-    let a = put_list::<Found>(history, &mut out[..], 0);
-    let b = put_list::<Leader>(history, &mut out[..], a);
-    let c = put_list::<Unseen>(history, &mut out[..], b);
-    let d = put_list::<LogIndex>(history, &mut out[..], c);
-    put_committed(
-        &mut out[..],
-        d,
-        committed_length(history),
-        committed_owner(history),
-    )
+    put_list::<Found>(history, sheet);
+    put_list::<Leader>(history, sheet);
+    put_list::<Unseen>(history, sheet);
+    put_list::<LogIndex>(history, sheet);
+    put_committed(sheet, committed_length(history), committed_owner(history));
 }

@@ -1,17 +1,34 @@
-// A number in decimal digits, put into lent bytes.
-ghost use Rattle.std.specs.Prelude.{◌+◌, ◌≤◌, length};
-ghost use Rattle.sheet_numbers.specs.Decimal.{decimal, Put};
+// Lent bytes that are filled from the front, and numbers in decimal digits put into them.
+ghost use Rattle.std.specs.Prelude.{◌≡◌, ◌+◌, ◌≤◌, length};
+ghost use Rattle.sheet_numbers.specs.Decimal.{decimal};
+ghost use Rattle.sheet_numbers.specs.Filled.{Filled};
 
 use itoa::Buffer;
 use storage_bytes::words::put_bytes;
 
-// The digits of v from `at` on, where there is room for any number: where they end.
-pub fn put_decimal(out: &mut [u8], at: usize, v: u64) -> usize
-    requires { at + 20 ≤ length out.old }
-    ensures { Put 20 out.old at (decimal v) result out.new }
-{
-    let mut buffer = Buffer::new();
-    let digits = buffer.format(v).as_bytes();
-    put_bytes(&mut out[..], at, digits);
-    at + digits.len()
+// Lent bytes, and where the next ones go.
+#[derive(Drop)]
+pub struct Sheet<'a> {
+    pub out: &'a mut [u8],
+    pub end: usize,
+}
+
+impl<'a> Sheet<'a> {
+    pub fn put_text(&mut self, text: &[u8])
+        requires { self.old.end + length text.now ≤ length self.old.out.now }
+        ensures { Filled (length text.now) self.old text.now self.new }
+    {
+        put_bytes(&mut self.out[..], self.end, text);
+        self.end += text.len();
+    }
+
+    // The digits of v, where there is room for any number.
+    pub fn put_decimal(&mut self, v: u64)
+        requires { self.old.end + 20 ≤ length self.old.out.now }
+        ensures { Filled 20 self.old (decimal v) self.new }
+    {
+        let mut buffer = Buffer::new();
+        let digits = buffer.format(v).as_bytes();
+        self.put_text(digits);
+    }
 }

@@ -1,4 +1,4 @@
-// Numbers in decimal, put into lent bytes. Stands on storage_bytes.
+// Lent bytes that are filled from the front, and numbers in decimal put into them. Stands on storage_bytes.
 #![tactic(auto)]
 
 pub mod decimal;

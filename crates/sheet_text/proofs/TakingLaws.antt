@@ -7,13 +7,13 @@ use mathlib.Core.Path.{◌≡◌, refl, ap, sym, ◌∙◌}
 use mathlib.Core.List.{List, [], ◌∷◌, ◌++◌, append_assoc, append-nil}
 use lib.ListN.{length, take, drop}
 use Rattle.model.specs.Sizes.{Bytes}
-use Rattle.storage_bytes.specs.Words.{put_bytes}
 use Rattle.storage_bytes.specs.Layout.{part}
 use Rattle.sheet_pieces.specs.declared.split.Piece as code
-use Rattle.sheet_numbers.specs.Decimal.{Put}
+use Rattle.sheet_numbers.specs.declared.decimal.Sheet.{Sheet}
+use Rattle.sheet_numbers.specs.Filled.{Filled}
 use Rattle.sheet_pieces.specs.Pieces.{Piece, whole, cut, pieces, piece_at, pieces_by, Split}
 use Rattle.sheet_text.specs.Sheet.{cut_line, line_for, bytes_after, record_lines, bytes_through, HandedOver, Taken}
-use Rattle.sheet_numbers.proofs.PutLaws.{put_then, put_as}
+use Rattle.sheet_numbers.proofs.PutLaws.{filled_none, filled_then, filled_as}
 use Rattle.sheet_pieces.proofs.SplitLaws.{whole_within, piece_joined}
 
 -- ---- one more piece at the end
@@ -61,8 +61,8 @@ next_at_lem (p ∷ ps) (suc k) x rest e =
 -- ---- the loop
 
 -- k of the pieces from `start` on are taken
-pub record Taking (h block t : Bytes) (first start k number from at : ℕ) (h' t' : Bytes) : Type 0 where
-  pub lines : Put (k * 105) t 0 (record_lines first h (take k (pieces (drop start block)))) at t'
+pub record Taking (h block : Bytes) (t : Sheet) (first start k number from : ℕ) (h' : Bytes) (t' : Sheet) : Type 0 where
+  pub lines : Filled (k * 105) t (record_lines first h (take k (pieces (drop start block)))) t'
   pub history : h' ≡ bytes_through h (take k (pieces (drop start block)))
   pub rest : pieces (drop from block) ≡ drop k (pieces (drop start block))
   pub joined : (more : Bytes) → pieces (drop start block ++ more) ≡ take k (pieces (drop start block)) ++ pieces (drop from block ++ more)
@@ -70,12 +70,12 @@ pub record Taking (h block t : Bytes) (first start k number from at : ℕ) (h' t
   pub within : from ≤ length block
   pub on : start + k ≤ from
 
-module _ (h block t : Bytes) (first start : ℕ) where
-  pub taking_none : start ≤ length block → Taking h block t first start 0 first start 0 h t
-  unfolding put_bytes record_lines bytes_through
+module _ (h block : Bytes) (t : Sheet) (first start : ℕ) where
+  pub taking_none : start ≤ length block → Taking h block t first start 0 first start h t
+  unfolding record_lines bytes_through
   taking_none l =
       record {
-        lines = record { next = refl; bytes = refl; within = omega arith };
+        lines = filled_as (filled_none t) _ refl (omega arith);
         history = refl;
         rest = refl;
         joined = λ more. refl;
@@ -84,10 +84,10 @@ module _ (h block t : Bytes) (first start : ℕ) where
         on = omega arith;
       }
 
-  pub taking_next : (k number from at body size e : ℕ) (h' t' h'' t'' s : Bytes) (p : code.Piece)
-      → Taking h block t first start k number from at h' t' → Split block from p → p ≡ code.Piece.Whole body size → s ≡ part block body size
-      → HandedOver h' s t' at number e h'' t'' → Taking h block t first start (k + 1) (number + 1) (body + size) e h'' t''
-  taking_next k number from at body size e h' t' h'' t'' s p g split is sp o =
+  pub taking_next : (k number from body size : ℕ) (h' h'' s : Bytes) (t' t'' : Sheet) (p : code.Piece)
+      → Taking h block t first start k number from h' t' → Split block from p → p ≡ code.Piece.Whole body size → s ≡ part block body size
+      → HandedOver h' s t' number h'' t'' → Taking h block t first start (k + 1) (number + 1) (body + size) h'' t''
+  taking_next k number from body size h' h'' s t' t'' p g split is sp o =
       let ps = pieces (drop start block) in
       let w = whole_within block from body size p split is in
       let d : drop k ps ≡ whole (part block body size) ∷ pieces (drop (body + size) block)
@@ -98,7 +98,7 @@ module _ (h block t : Bytes) (first start : ℕ) where
       let count : first + length (take k ps) ≡ number = ap (λ (j : ℕ). first + j) n.long ∙ sym g.numbered in
       record {
         lines =
-            put_as (put_then g.lines o.line) _
+            filled_as (filled_then g.lines o.line) _
             (sym
             (ap (record_lines first h) more
             ∙ lines_snoc first h (take k ps) s
@@ -116,12 +116,12 @@ module _ (h block t : Bytes) (first start : ℕ) where
         on = omega (arith, g.on, w.begins);
       }
 
-  pub taking_ends : (k number from at : ℕ) (h' t' : Bytes) → Taking h block t first start k number from at h' t' → k ≤ 600
+  pub taking_ends : (k number from : ℕ) (h' : Bytes) (t' : Sheet) → Taking h block t first start k number from h' t' → k ≤ 600
       → (k < 600 → (body size : ℕ) → piece_at block from ≡ code.Piece.Whole body size → ⊥)
-      → Taken h block t first start (record { count = k; number = number; from = from; at = at }) h' t'
-  taking_ends k number from at h' t' g l stop =
+      → Taken h block t first start (record { count = k; number = number; from = from }) h' t'
+  taking_ends k number from h' t' g l stop =
       record {
-        lines = put_as g.lines _ refl (omega arith);
+        lines = filled_as g.lines _ refl (omega arith);
         history = g.history;
         rest = g.rest;
         joined = g.joined;

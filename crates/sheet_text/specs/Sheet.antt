@@ -7,7 +7,8 @@ use Rattle.submission.specs.Replies.{submit_answer, submit_bytes}
 use Rattle.sheet_text.specs.declared.taking.Progress.{Progress}
 use Rattle.sheet_pieces.specs.declared.split.Piece as code
 use Rattle.sheet_pieces.specs.Pieces.{Piece, whole, cut, pieces, piece_at}
-use Rattle.sheet_numbers.specs.Decimal.{Put}
+use Rattle.sheet_numbers.specs.Filled.{Filled}
+use Rattle.sheet_numbers.specs.declared.decimal.Sheet.{Sheet}
 use Rattle.sheet_lines.specs.Lines.{record_line}
 
 -- "kind (its first four bits)", 0 where there is none
@@ -26,9 +27,9 @@ line_for number h s = cond (eqb (length s) 0) (cut_line number) (record_line num
 unfoldable pub bytes_after : Bytes → Bytes → Bytes
 bytes_after h s = cond (eqb (length s) 0) h (submit_bytes h s)
 
--- the record s was handed to the bytes h and its line put into t from `from` on, up to r: h' and t' are the bytes after it
-pub record HandedOver (h s t : Bytes) (from number r : ℕ) (h' t' : Bytes) : Type 0 where
-  pub line : Put 105 t from (line_for number h s) r t'
+-- the record s was handed to the bytes h and its line put into the sheet t: h' and t' are the bytes and the sheet after it
+pub record HandedOver (h s : Bytes) (t : Sheet) (number : ℕ) (h' : Bytes) (t' : Sheet) : Type 0 where
+  pub line : Filled 105 t (line_for number h s) t'
   pub history : h' ≡ bytes_after h s
 
 -- the lines of pieces in turn, numbered from n on, of which the first is handed to the bytes h
@@ -46,8 +47,8 @@ bytes_through h (whole s ∷ ps) = bytes_through (bytes_after h s) ps
 bytes_through h (cut ∷ ps) = bytes_through h ps
 
 -- of the pieces from `start` on the first p .count were taken, as the numbers from `first` on, the first one handed to h
-pub record Taken (h block t : Bytes) (first start : ℕ) (p : Progress) (h' t' : Bytes) : Type 0 where
-  pub lines : Put 63000 t 0 (record_lines first h (take p.count (pieces (drop start block)))) p.at t'
+pub record Taken (h block : Bytes) (t : Sheet) (first start : ℕ) (p : Progress) (h' : Bytes) (t' : Sheet) : Type 0 where
+  pub lines : Filled 63000 t (record_lines first h (take p.count (pieces (drop start block)))) t'
   pub history : h' ≡ bytes_through h (take p.count (pieces (drop start block)))
   pub rest : pieces (drop p.from block) ≡ drop p.count (pieces (drop start block))
   -- whatever bytes follow the block, these pieces come first, and then those of its rest and of what follows

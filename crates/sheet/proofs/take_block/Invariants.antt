@@ -4,7 +4,7 @@ use Rattle.std.proofs.Common.{length, ◌-◌, ◌≡◌, ◌≤◌}
 use Rattle.sheet.proofs.take_block.Given as goal
 
 abbrev pub invariant-loop-number : goal.invariant-loop-number
-invariant-loop-number g l = (length l.history ≡ length l.initial.history) × (length l.out ≡ 65536) × (l.from ≤ length l.block)
+invariant-loop-number g l = (length l.history ≡ length l.initial.history) × (l.from ≤ length l.block)
 
 abbrev pub decreases-loop-number : goal.decreases-loop-number
 decreases-loop-number g l = length l.block - l.from

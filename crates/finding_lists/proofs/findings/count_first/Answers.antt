@@ -18,7 +18,7 @@ loop-j-init c = (omega arith, sym (zero-add _))
 pub loop-j-preserved : goal.loop-j-preserved
 loop-j-preserved c =
     let s = c.args in
-    let told = c.comes_before.ensures ∙ ap (comes_before (finding_value s.f)) c.finding_at.ensures in (
+    let told = c.comes_before.ensures ∙ ap (comes_before (finding_value s.f)) c.at.ensures in (
       elim c.if-not-comes_before.branch [ then-not-comes_before w ↦ omega (arith, w.count-is) | else-not-comes_before w ↦ omega (arith, w.count-is) ],
       count_next (finding_value s.f) (finding_row s.findings.now) c.loop-j.count c.loop-j.j s.m c.loop-j.invariant.1 c.loop-j-test.true
           (elim c.if-not-comes_before.branch [

@@ -21,15 +21,15 @@ loop-k-init c =
 pub returns-then-left-p : goal.returns-then-left-p
 returns-then-left-p c =
     let s = c.args in
-    ap finding_of c.finding_at-f.ensures
+    ap finding_of c.at-f.ensures
     ∙ sym (order_here (finding_row s.findings.now) c.loop-k.k s.m c.loop-k.left _ c.loop-k.invariant.1 c.loop-k-test.true
-    (c.count_first-p.ensures ∙ ap (λ (x : Finding). count_first x (tabulate (finding_row s.findings.now) (c.loop-k.k + 1) (s.m - (c.loop-k.k + 1)))) c.finding_at-f.ensures) c.if-left-p.true)
+    (c.count_first-p.ensures ∙ ap (λ (x : Finding). count_first x (tabulate (finding_row s.findings.now) (c.loop-k.k + 1) (s.m - (c.loop-k.k + 1)))) c.at-f.ensures) c.if-left-p.true)
 
 pub loop-k-preserved : goal.loop-k-preserved
 loop-k-preserved c =
     let s = c.args in
     let t = c.loop-k-test.true in
-    let e = (c.count_first-p.ensures ∙ ap (λ (x : Finding). count_first x (tabulate (finding_row s.findings.now) (c.loop-k.k + 1) (s.m - (c.loop-k.k + 1)))) c.finding_at-f.ensures) in (
+    let e = (c.count_first-p.ensures ∙ ap (λ (x : Finding). count_first x (tabulate (finding_row s.findings.now) (c.loop-k.k + 1) (s.m - (c.loop-k.k + 1)))) c.at-f.ensures) in (
       omega arith,
       elim c.if-p-left.branch [
         | then-p-left w ↦ order_behind (finding_row s.findings.now) c.loop-k.k s.m c.loop-k.left _ c.loop-k.invariant.1 t e c.if-left-p.false w.if-p-left.true w.left-is

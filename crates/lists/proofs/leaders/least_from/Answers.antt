@@ -16,5 +16,5 @@ loop-k-preserved c =
     let s = c.args in (
       omega arith,
       least_next (pair s.bound.term.0 s.bound.node) (finding_row s.findings.now) s.m c.loop-k.k c.loop-k.invariant.1 c.loop-k-test.true c.loop-k.invariant.0
-          c.finding_at.ensures c.better-best.ensures,
+          c.at.ensures c.better-best.ensures,
     )

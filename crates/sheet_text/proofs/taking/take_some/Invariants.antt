@@ -1,6 +1,6 @@
 -- `sheet_text::taking::take_some` meets its contract.
 -- Assumes nothing.
-use Prim.Native.Nat.{◌-◌, ◌≤◌}
+use Prim.Native.Nat.{◌≤◌}
 use mathlib.Core.Path.{◌≡◌}
 use lib.ListN.{length}
 use Rattle.sheet_text.proofs.TakingLaws.{Taking}
@@ -8,4 +8,4 @@ use Rattle.sheet_text.proofs.taking.take_some.Given as goal
 
 abbrev pub invariant-loop-count : goal.invariant-loop-count
 invariant-loop-count l =
-    Taking l.initial.history l.block l.initial.out l.first l.start l.count l.number l.from l.at l.history l.out × (l.count ≤ 600) × (length l.history ≡ length l.initial.history)
+    Taking l.initial.history l.block l.initial.sheet l.first l.start l.count l.number l.from l.history l.sheet × (l.count ≤ 600) × (length l.history ≡ length l.initial.history)
