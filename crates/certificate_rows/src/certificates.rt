@@ -10,12 +10,11 @@ ghost use Rattle.storage.specs.Writes.{certificate_bytes, certificate_inserted, 
 
 use storage::head::{certificate_count, set_certificate_count};
 use storage::rows::{Row, StoredRow};
-use storage_bytes::layout::{CERTIFICATE_MARK, CERTIFICATE_WIDTH, CERTIFICATES, Region};
+use storage_bytes::layout::{
+    CERTIFICATE_MARK, CERTIFICATE_WIDTH, CERTIFICATES, Certificates, History, Region,
+};
 use storage_bytes::words::{Field, move_up, put8};
 use units::{LogIndex, LogPrefixWitness, NodeId, Term};
-
-// The table's bytes.
-pub type Certificates = [u8; 704];
 
 // A certificate without a log.
 pub const LOG_ABSENT: usize = 0;
@@ -86,7 +85,8 @@ impl StoredRow for Certificate {
     }
 }
 
-// The term of row k alone. Fields that are read alone have a function each, in the model's words.
+// The term of row k alone. Fields that are read alone have a function each: one generic function would take a field's place and type
+// at each call, where its name stands now.
 pub fn term_at(certificates: &Certificates, k: usize) -> Term
     requires { k < 64 }
     ensures { result.0 ≡ (certificate_row certificates.now k).term }
@@ -129,10 +129,11 @@ pub fn insert_certificate(certificates: &mut [u8], n: usize, k: usize, c: Certif
     c.put(certificates, k);
 }
 
-// One more certificate in the whole history, at place k.
+// One more certificate in the whole history, at place k. A function that lends a region to be written was tried, and its `Lends` did
+// not prove for a range.
 #[tactic(auto, using(storage::proofs::WriteLaws::certificate_added_lem))]
-pub fn add_certificate(history: &mut [u8], k: usize, c: Certificate)
-    requires { (k ≤ word_at history.old 6 1) × (word_at history.old 6 1 < 64) × (length history.old ≡ 24137) }
+pub fn add_certificate(history: &mut History, k: usize, c: Certificate)
+    requires { (k ≤ word_at history.old 6 1) × (word_at history.old 6 1 < 64) }
     ensures { history.new ≡ certificate_added history.old k (certificate_value c) }
 {
     let n = certificate_count(history);

@@ -1,22 +1,26 @@
 // The table of prefixes, in the order stored. Row k holds the prefix of number k + 1: the prefix of a smaller number, 0 for the
 // empty one, with one entry more.
-ghost use Rattle.std.specs.Prelude.{◌≡◌, ◌+◌, ◌*◌, ◌≤◌, ◌<◌, true, length, refl};
+ghost use Rattle.std.specs.Prelude.{◌≡◌, ◌+◌, ◌*◌, ◌≤◌, ◌<◌, length, refl};
 ghost use Rattle.std.proofs.Common.{lit≤};
 ghost use Rattle.storage_bytes.specs.declared.layout.TheConstants.{PREFIXES};
 ghost use Rattle.storage_bytes.specs.Words.{Word, word_at};
 ghost use Rattle.storage.specs.Writes.{prefix_appended};
-ghost use Rattle.storage.specs.Rules.{well_formed};
+ghost use Rattle.storage.specs.Tables.{prefix_row};
 ghost use Rattle.storage.specs.Values.{Index, committed_end};
 ghost use Rattle.storage.proofs.RowLaws.{prefix_length};
 ghost use Rattle.prefix_rows.specs.Values.{row_bytes, row_appended};
 
 use storage::head::{committed, prefix_count, set_prefix_count};
 use storage::rows::{Row, set};
-use storage_bytes::layout::{PREFIX_CONTENT, PREFIX_WIDTH, PREFIXES, Region};
+use storage::stored::Stored;
+use storage_bytes::layout::{
+    History, PREFIX_CONTENT, PREFIX_WIDTH, PREFIXES, PrefixTable, Region, part,
+};
 use storage_bytes::words::{Field, put_bytes, put8};
-use units::{LogIndex, LogPrefixWitness, Term};
+use units::{CONTENT_LIMIT, LogIndex, LogPrefixWitness, Term};
 
-// A prefix to be stored: the one that it extends, and its last entry, whose content is the first `size` of the 32 bytes.
+// A prefix to be stored: the one that it extends, and its last entry, whose content is the first `size` of the 32 bytes. Memory is
+// fixed, and a row is copied whole, as the entry is that it is made of.
 #[derive(Clone, Copy)]
 pub struct PrefixRow {
     pub parent: LogPrefixWitness,
@@ -45,6 +49,7 @@ impl Row for PrefixRow {
 
     const TABLE: Region = PREFIXES;
 
+    #[tactic(auto, using(storage_bytes::proofs::WordLaws::put_join, storage_bytes::proofs::WordLaws::word_bytes_length), unfolding(storage::specs::Writes::prefix_bytes))]
     fn put(self, prefixes: &mut [u8], k: usize) {
         let o = k * PREFIX_WIDTH;
         self.parent.write(prefixes, o);
@@ -55,39 +60,50 @@ impl Row for PrefixRow {
     }
 }
 
-// Fields alone, each by its name: a search reads two of them of every row, and a row has 41 bytes.
-pub fn parent_at(prefixes: &[u8], k: usize) -> LogPrefixWitness
-    requires { (k < 512) × (length prefixes.now ≡ 20992) }
+// Fields alone, each by its name: a search reads two of them of every row, and a row has 41 bytes. One generic function would take a
+// field's place and type at each call, where its name stands now.
+pub fn parent_at(prefixes: &PrefixTable, k: usize) -> LogPrefixWitness
+    requires { k < 512 }
     ensures { Word prefixes.now (k * 41) 2 result.0 }
 {
     LogPrefixWitness::read(prefixes, k * PREFIX_WIDTH)
 }
 
-pub fn index_at(prefixes: &[u8], k: usize) -> LogIndex
-    requires { (k < 512) × (length prefixes.now ≡ 20992) }
+pub fn index_at(prefixes: &PrefixTable, k: usize) -> LogIndex
+    requires { k < 512 }
     ensures { Word prefixes.now (k * 41 + 2) 2 result.0 }
 {
     LogIndex::read(prefixes, k * PREFIX_WIDTH + 2)
 }
 
-pub fn term_at(prefixes: &[u8], k: usize) -> Term
-    requires { (k < 512) × (length prefixes.now ≡ 20992) }
+pub fn term_at(prefixes: &PrefixTable, k: usize) -> Term
+    requires { k < 512 }
     ensures { result.0 ≡ word_at prefixes.now (k * 41 + 4) 4 }
 {
     Term::read(prefixes, k * PREFIX_WIDTH + 4)
 }
 
-pub fn size_at(prefixes: &[u8], k: usize) -> usize
-    requires { (k < 512) × (length prefixes.now ≡ 20992) }
+pub fn size_at(prefixes: &PrefixTable, k: usize) -> usize
+    requires { k < 512 }
     ensures { Word prefixes.now (k * 41 + 8) 1 result }
 {
     usize::from(u8::read(prefixes, k * PREFIX_WIDTH + 8))
 }
 
+// The content of its last entry. A row that breaks the storage rules may say more than its 32 bytes.
+#[tactic(auto, using(storage_bytes::proofs::ByteTurns::part_bytes))]
+pub fn content_at(prefixes: &PrefixTable, k: usize) -> &[u8]
+    requires { k < 512 }
+    ensures { result.now ≡ (prefix_row prefixes.now k).content }
+{
+    let n = size_at(prefixes, k).min(CONTENT_LIMIT);
+    part(prefixes, k * PREFIX_WIDTH + PREFIX_CONTENT, n)
+}
+
 // The index of a prefix's last entry; the empty one has zero.
 #[tactic(auto, unfolding(storage::specs::Values::number_index))]
-pub fn through(prefixes: &[u8], p: LogPrefixWitness) -> LogIndex
-    requires { (p.0 ≤ 512) × (length prefixes.now ≡ 20992) }
+pub fn through(prefixes: &PrefixTable, p: LogPrefixWitness) -> LogIndex
+    requires { p.0 ≤ 512 }
     ensures { Index prefixes.now p.0 result.0 }
 {
     if p == LogPrefixWitness::EMPTY {
@@ -98,17 +114,17 @@ pub fn through(prefixes: &[u8], p: LogPrefixWitness) -> LogIndex
 
 // The end of the committed prefix.
 #[tactic(auto, using(storage::proofs::WellFormed::formed), unfolding(storage::specs::Values::committed_end))]
-pub fn committed_end(history: &[u8]) -> LogIndex
-    requires { well_formed history.now ≡ true }
-    ensures { result.0 ≡ committed_end history.now }
+pub fn committed_end(history: Stored<'_>) -> LogIndex
+    ensures { result.0 ≡ committed_end history.entry.bytes.now }
 {
-    through(PREFIXES.of(history), committed(history))
+    let bytes = history.bytes;
+    through(PREFIXES.array(bytes), committed(bytes))
 }
 
 // One more prefix.
 #[tactic(auto, unfolding(storage::specs::Writes::prefix_appended))]
-pub fn append(history: &mut [u8], row: PrefixRow)
-    requires { (word_at history.old 0 2 < 512) × (length history.old ≡ 24137) }
+pub fn append(history: &mut History, row: PrefixRow)
+    requires { word_at history.old 0 2 < 512 }
     ensures { history.new ≡ row_appended history.old row }
 {
     let n = prefix_count(history);

@@ -142,3 +142,16 @@ formed_index h f p l =
 pub end_small : (h : Bytes) → well_formed h ≡ true → committed_end h ≤ 256
 unfolding committed_end
 end_small h right = let f = formed h right in formed_index h f (word_at h 4 2) f.committed
+
+-- the counts alone, for functions that name them in their attribute: `grind` applies them where it would not read the record
+pub prefixes_fit : (h : Bytes) → well_formed h ≡ true → word_at h 0 2 ≤ 512
+prefixes_fit h right = (formed h right).prefixes
+
+pub certificates_fit : (h : Bytes) → well_formed h ≡ true → word_at h 6 1 ≤ 64
+certificates_fit h right = (formed h right).certificates
+
+pub findings_fit : (h : Bytes) → well_formed h ≡ true → word_at h 7 1 ≤ 128
+findings_fit h right = (formed h right).findings
+
+pub committed_fits : (h : Bytes) → well_formed h ≡ true → word_at h 4 2 ≤ word_at h 0 2
+committed_fits h right = (formed h right).committed

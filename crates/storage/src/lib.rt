@@ -5,3 +5,4 @@
 pub mod fresh;
 pub mod head;
 pub mod rows;
+pub mod stored;

@@ -4,9 +4,10 @@ ghost use Rattle.storage_bytes.specs.declared.layout.Region.{Region as Place};
 ghost use Rattle.storage_bytes.specs.Words.{put_bytes};
 ghost use Rattle.storage_bytes.specs.Lists.{tabulate, every};
 
-use storage_bytes::layout::Region;
+use storage_bytes::layout::{History, Region};
 
-// A row, with where its table lies, and how it is written there.
+// A row, with where its table lies, and how it is written there. A table is lent as a slice: Rattle refuses an array whose length is a
+// trait's constant. A row's place is asked to be below the table's count: loops over places would make a type of places at each step.
 pub trait Row: Copy {
     ghost TABLE: { Place };
 
@@ -48,10 +49,11 @@ pub trait StoredRow: Row {
         ensures { value result ≡ stored table.now k };
 }
 
-// A row written in the whole history, of which only its table is lent.
-pub fn set<R: Row>(history: &mut [u8], k: usize, row: R)
+// A row written in the whole history, of which only its table is lent, on the spot: a function that lends a region to be written was
+// tried, and its `Lends` did not prove for a range.
+pub fn set<R: Row>(history: &mut History, k: usize, row: R)
     requires whole { R.whole row }
-    requires within { (k < R.count) × (length history.old ≡ 24137) }
+    requires within { k < R.count }
     ensures { history.new ≡ put_bytes history.old (R.TABLE.start + k * R.width) (R.bytes row) }
 {
     let a = R::TABLE.start;

@@ -1,63 +1,19 @@
--- Bytes compared one by one or at once, written from a list, and moved up.
+-- Bytes compared at once, written from a list, and moved up.
 -- Assumes nothing.
-use Prim.Native.Nat.{ℕ, suc, ◌+◌, ◌-◌, ◌/◌, ◌%◌, ◌≤◌, ◌<◌}
+use Prim.Native.Nat.{ℕ, ◌+◌, ◌-◌, ◌/◌, ◌%◌, ◌≤◌, ◌<◌}
 use native.Mathlib.Omega.{arith}
 use mathlib.Core.Path.{◌≡◌, ap, ◌∙◌, refl, sym}
-use mathlib.Core.Bool.{Bool, true, false, ◌&&◌}
+use mathlib.Core.Bool.{Bool, ◌&&◌}
 use mathlib.Core.List.{◌∷◌, [], ◌++◌}
 use lib.Dec.{eqb}
 use lib.ListN.{get_or, length, take, drop}
 use lib.Seq.{ext_get_or}
-use borrow.Author.Tests.{eq-eqb, ne_eqb}
 use Rattle.model.specs.Sizes.{Bytes}
-use Rattle.storage_bytes.specs.Lists.{tabulate}
 use Rattle.storage_bytes.specs.Words.{bytes_at, same_bytes, put_bytes, word_bytes}
 use Rattle.storage_bytes.specs.Layout.{part}
 use Rattle.storage_bytes.proofs.ListLaws.{tabulate_length, tabulate_at}
 use Rattle.std.specs.Cmp.Lexicographic.{pointwise}
 use Rattle.storage_bytes.proofs.PartLaws.{part_length, part_at, part_lent, part_back, region_back}
-
--- ---- bytes compared one by one
-
-cons_at : (t : Bytes) (n i o : ℕ) → i < n → bytes_at t (o + i) (n - i) ≡ get_or t (o + i) 0 ∷ bytes_at t (o + (i + 1)) (n - (i + 1))
-unfolding bytes_at tabulate
-cons_at t n i o h =
-    let e : n - i ≡ suc (n - (i + 1)) = omega arith in
-    let q : o + i + 1 ≡ o + (i + 1) = omega arith in
-    ap (λ (k : ℕ). bytes_at t (o + i) k) e ∙ ap (λ (k : ℕ). get_or t (o + i) 0 ∷ bytes_at t k (n - (i + 1))) q
-
-pub same_start : (t u : Bytes) (a b n : ℕ)
-    → same_bytes (bytes_at t a n) (bytes_at u b n) ≡ same_bytes (bytes_at t (a + 0) (n - 0)) (bytes_at u (b + 0) (n - 0))
-same_start t u a b n =
-    let p : a ≡ a + 0 = omega arith in
-    let q : b ≡ b + 0 = omega arith in
-    let e : n ≡ n - 0 = omega arith in
-    λ i. same_bytes (bytes_at t (p i) (e i)) (bytes_at u (q i) (e i))
-
-module _ (t u : Bytes) (a b n i : ℕ) {r : Bool} where
-  step_bytes : r ≡ same_bytes (bytes_at t (a + i) (n - i)) (bytes_at u (b + i) (n - i)) → i < n
-      → r ≡ (eqb (get_or t (a + i) 0) (get_or u (b + i) 0) && same_bytes (bytes_at t (a + (i + 1)) (n - (i + 1))) (bytes_at u (b + (i + 1)) (n - (i + 1))))
-  unfolding same_bytes
-  step_bytes inv h = inv ∙ (λ j. same_bytes (cons_at t n i a h j) (cons_at u n i b h j))
-
-  pub same_next : r ≡ same_bytes (bytes_at t (a + i) (n - i)) (bytes_at u (b + i) (n - i)) → i < n
-      → get_or t (a + i) 0 ≡ get_or u (b + i) 0
-      → r ≡ same_bytes (bytes_at t (a + (i + 1)) (n - (i + 1))) (bytes_at u (b + (i + 1)) (n - (i + 1)))
-  same_next inv h e =
-      step_bytes inv h
-      ∙ ap (λ (v : Bool). v && same_bytes (bytes_at t (a + (i + 1)) (n - (i + 1))) (bytes_at u (b + (i + 1)) (n - (i + 1)))) (eq-eqb _ _ e)
-
-  pub same_stop : r ≡ same_bytes (bytes_at t (a + i) (n - i)) (bytes_at u (b + i) (n - i)) → i < n
-      → (get_or t (a + i) 0 ≡ get_or u (b + i) 0 → ⊥) → r ≡ false
-  same_stop inv h e =
-      step_bytes inv h
-      ∙ ap (λ (v : Bool). v && same_bytes (bytes_at t (a + (i + 1)) (n - (i + 1))) (bytes_at u (b + (i + 1)) (n - (i + 1)))) (ne_eqb _ _ e)
-
-  pub same_none : r ≡ same_bytes (bytes_at t (a + i) (n - i)) (bytes_at u (b + i) (n - i)) → n ≤ i → r ≡ true
-  unfolding same_bytes bytes_at tabulate
-  same_none inv h =
-      let e : n - i ≡ 0 = omega arith in
-      inv ∙ ap (λ (k : ℕ). same_bytes (bytes_at t (a + i) k) (bytes_at u (b + i) k)) e
 
 -- ---- slices compared, written and moved
 
@@ -69,17 +25,17 @@ slice_bytes t a n r =
     ∙ ext_get_or 0 _ _ (part_length t a n r ∙ sym (tabulate_length _ a n))
     (λ i l. let h : i < n = omega (arith, part_length t a n r) in part_at t a n i h ∙ sym (tabulate_at (λ k. get_or t k 0) a n i 0 h))
 
-pointwise_bytes : (xs ys : Bytes) → pointwise eqb xs ys ≡ same_bytes xs ys
+-- a part is the bytes at its place
+pub part_bytes : (t : Bytes) (a n : ℕ) → a + n ≤ length t → part t a n ≡ bytes_at t a n
+part_bytes t a n r = sym (part_lent t a n r).is ∙ slice_bytes t a n r
+
+-- the equality of slices
+pub pointwise_bytes : (xs ys : Bytes) → pointwise eqb xs ys ≡ same_bytes xs ys
 unfolding same_bytes
 pointwise_bytes [] [] = refl
 pointwise_bytes [] (y ∷ ys) = refl
 pointwise_bytes (x ∷ xs) [] = refl
 pointwise_bytes (x ∷ xs) (y ∷ ys) = ap (λ (v : Bool). eqb x y && v) (pointwise_bytes xs ys)
-
-pub slices_same : (t u : Bytes) (a b n : ℕ) → a + n ≤ length t → b + n ≤ length u
-    → pointwise eqb (take (a + n - a) (drop a t)) (take (b + n - b) (drop b u)) ≡ same_bytes (bytes_at t a n) (bytes_at u b n)
-slices_same t u a b n f g =
-    (λ i. pointwise eqb (slice_bytes t a n f i) (slice_bytes u b n g i)) ∙ pointwise_bytes (bytes_at t a n) (bytes_at u b n)
 
 -- the slice of k bytes from a on, given back as vs
 pub slice_written : {ys : Bytes} (h : Bytes) (a k : ℕ) (vs : Bytes) → ys ≡ vs → length vs ≡ k → a + k ≤ length h

@@ -118,10 +118,6 @@ module _ {A : Type 0} where
     unfolding every
     every_none inv h = inv ∙ ap (every test) (tabulate_none f i n h)
 
-  -- the rows from 0 to n, as a loop that starts at 0 has them
-  pub from_zero : {B : Type 0} (g : List A → B) (f : ℕ → A) (n : ℕ) → g (tabulate f 0 n) ≡ g (tabulate f 0 (n - 0))
-  from_zero g f n = let e : n ≡ n - 0 = omega arith in ap (λ (k : ℕ). g (tabulate f 0 k)) e
-
   -- a weaker test passes too
   pub every_weaker : (test other : A → Bool) (xs : List A) → ((x : A) → test x ≡ true → other x ≡ true) → every test xs ≡ true → every other xs ≡ true
   unfolding every

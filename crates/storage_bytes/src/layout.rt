@@ -3,8 +3,27 @@
 ghost use Rattle.std.specs.Prelude.{◌≡◌, ◌+◌, ◌≤◌, length};
 ghost use Rattle.storage_bytes.specs.Layout.{Part};
 
-// A table's place in a history: where it starts, and its length. That it lies inside is no ghost field: specs could not name its
-// constants then.
+// The length of a history.
+pub const HISTORY_LENGTH: usize = 24137;
+
+// Its bytes, with their count in the type, so that whoever is lent them need not ask for it. The library's callers lend slices: those
+// are tested once, where they come in.
+pub type History = [u8; HISTORY_LENGTH];
+
+// The tables' bytes. Prefixes lie in theirs by number, each with that of the one it extends, and no Box: a history is lent bytes, without a
+// heap.
+pub type Nodes = [u8; 384];
+
+pub type Terms = [u8; 1024];
+
+pub type Certificates = [u8; 704];
+
+pub type Findings = [u8; 1024];
+
+pub type PrefixTable = [u8; 20992];
+
+// A table's place in a history: where it starts, and its length. A ghost field that it lies inside was tried, and specs could not name
+// its constants then.
 #[derive(Clone, Copy)]
 pub struct Region {
     pub start: usize,
@@ -20,7 +39,7 @@ impl Region {
         part(history, self.start, self.length)
     }
 
-    // The same with their count in the type, so that whoever reads a row need not ask for it.
+    // The same with their count in the type.
     pub fn array<const N: usize>(self, history: &[u8]) -> &[u8; N]
         requires { (self.length ≡ N) × (self.start + self.length ≤ length history.now) }
         ensures { Part history.now self.start self.length result.now }
@@ -28,9 +47,6 @@ impl Region {
         self.of(history).try_into().unwrap()
     }
 }
-
-// The length of the whole.
-pub const HISTORY_LENGTH: usize = 24137;
 
 pub const HEAD: Region = Region {
     start: 0,
@@ -74,11 +90,6 @@ const _: () = prove!(FINDINGS.start == CERTIFICATES.start + CERTIFICATES.length)
 const _: () = prove!(PREFIXES.start == FINDINGS.start + FINDINGS.length);
 
 const _: () = prove!(HISTORY_LENGTH == PREFIXES.start + PREFIXES.length);
-
-// The length of the table of findings, for an array of it.
-pub const FINDINGS_LENGTH: usize = 1024;
-
-const _: () = prove!(FINDINGS_LENGTH == FINDINGS.length);
 
 pub const NODE_WIDTH: usize = 6;
 

@@ -1,10 +1,11 @@
-// Fields: numbers in bytes, high byte first, at an offset, read and written; runs of bytes written, moved and compared.
+// Fields: numbers in bytes, high byte first, at an offset, read and written; runs of bytes written and moved.
 ghost use Rattle.std.specs.Prelude.{◌≡◌, ◌+◌, ◌≤◌, ◌<◌, ◌^◌, ℕ, length};
-ghost use Rattle.storage_bytes.specs.Words.{same_bytes, Word, word_bytes, bytes_at, put_bytes};
+ghost use Rattle.storage_bytes.specs.Words.{Word, word_bytes, bytes_at, put_bytes};
 
 use units::{LogIndex, LogPrefixWitness, NodeId, Term};
 
-// What a field of a row holds: a number, in a fixed count of bytes.
+// What a field of a row holds: a number, in a fixed count of bytes. That it lies within its table is asked: no type has both its offset and
+// the table's length.
 pub trait Field: Copy {
     ghost width: { ℕ };
 
@@ -36,6 +37,7 @@ impl Field for u8 {
     }
 }
 
+// Those of two and four bytes differ by their size alone, but std has no trait of `to_be_bytes`.
 impl Field for u16 {
     ghost width = { 2 };
 
@@ -68,6 +70,8 @@ impl Field for u32 {
     }
 }
 
+// A number with a type of its own is a field as its number is. One impl for the four would want a trait of conversions, and each of
+// them an impl of that with two functions, as it has now.
 impl Field for NodeId {
     ghost width = { 1 };
 
@@ -124,8 +128,8 @@ impl Field for LogPrefixWitness {
     }
 }
 
-// A plain number, as a count, has no type of its own width. One generic function for its two widths would take a trait with as many
-// methods as there are functions here.
+// A plain number, as a count, has no type of its own width. One function for its two widths would take the width at each call, where its
+// name stands now.
 pub fn get16(t: &[u8], o: usize) -> usize
     requires { o + 2 ≤ length t.now }
     ensures { Word t.now o 2 result }
@@ -165,13 +169,4 @@ pub fn move_up(t: &mut [u8], a: usize, n: usize, w: usize)
     ensures { t.new ≡ put_bytes t.old (a + w) (bytes_at t.old a n) }
 {
     t.copy_within(a..a + n, a + w);
-}
-
-// The n bytes of t at a are those of u at b.
-#[tactic(auto, using(crate::proofs::ByteTurns::slices_same))]
-pub fn same_bytes(t: &[u8], a: usize, u: &[u8], b: usize, n: usize) -> bool
-    requires { (a + n ≤ length t.now) × (b + n ≤ length u.now) }
-    ensures { result ≡ same_bytes (bytes_at t.now a n) (bytes_at u.now b n) }
-{
-    t[a..a + n] == u[b..b + n]
 }

@@ -8,6 +8,7 @@ use borrow.Author.Tests.{eq-eqb, ne_eqb, eqb-true, eqb-false}
 use Rattle.model.proofs.Tests.{tf, either, cond_true, cond_false}
 use Rattle.units.specs.declared.LogIndex.{LogIndex}
 use Rattle.table_rows.specs.TermSearch.{found_index}
+use Rattle.table_rows.specs.Values.{mark_value}
 use Rattle.std.specs.Prelude.{Option, Some, None, is_some, unwrap_or}
 
 of_some : (k : ℕ) → (k ≡ 0 → ⊥) → found_index k ≡ Some (record { 0 = k })
@@ -23,6 +24,10 @@ index_found i k e z = sym (of_some i.0 z) ∙ ap found_index e
 
 pub index_none : (k : ℕ) → 0 ≡ k → None ≡ found_index k
 index_none k e = sym (of_none k (sym e))
+
+pub index_back : (k : ℕ) → mark_value (found_index k) ≡ k
+index_back k =
+    ⊎_elim (λ t. ap mark_value (of_none k (eqb-true k 0 t)) ∙ sym (eqb-true k 0 t)) (λ f. ap mark_value (of_some k (eqb-false k 0 f))) (either (eqb k 0))
 
 module _ (k : ℕ) (r : Option LogIndex) (e : r ≡ found_index k) where
   pub index_told : (i : LogIndex) → r ≡ Some i → (i.0 ≡ k) × (k ≡ 0 → ⊥)

@@ -52,6 +52,7 @@ impl Row for Found {
 
     const TABLE: Region = FINDINGS;
 
+    #[tactic(auto, using(storage_bytes::proofs::WordLaws::put_join, storage_bytes::proofs::WordLaws::word_bytes_length), unfolding(storage::specs::Writes::finding_bytes))]
     fn put(self, findings: &mut [u8], k: usize) {
         let o = k * FINDING_WIDTH;
         put8(findings, o, self.name);

@@ -1,24 +1,24 @@
-// The table of nodes: of each of the 64 its front, the last index of its view and its unseen mark.
-ghost use Rattle.std.specs.Prelude.{◌≡◌, ◌+◌, ◌*◌, ◌<◌, refl};
+// The table of nodes: of each of the 64 its front, the last index of its view and its unseen mark, stored as 0 where there is none.
+ghost use Rattle.std.specs.Prelude.{◌≡◌, ◌+◌, ◌*◌, ◌<◌, length, refl};
 ghost use Rattle.std.proofs.Common.{lit≤};
-ghost use Rattle.storage.specs.Tables.{NodeRow, row_of_node};
+ghost use Rattle.storage.specs.Tables.{NodeRow, nodes_part, row_of_node};
 ghost use Rattle.table_rows.specs.Values.{node_value};
+ghost use Rattle.table_rows.specs.TermSearch.{found_index};
 ghost use Rattle.storage_bytes.specs.declared.layout.TheConstants.{NODES};
 ghost use Rattle.storage.proofs.RowLaws.{node_length};
 ghost use Rattle.storage_bytes.specs.Words.{put_bytes};
 ghost use Rattle.storage.specs.Writes.{node_bytes};
 
-use storage::rows::{Row, StoredRow, set};
-use storage_bytes::layout::{NODE_WIDTH, NODES, Region};
+use storage::rows::{Row, StoredRow};
+use storage_bytes::layout::{History, NODE_WIDTH, NODES, Region};
 use storage_bytes::words::Field;
-use units::{LogIndex, LogPrefixWitness};
+use units::{LogIndex, LogPrefixWitness, NodeId};
 
 #[derive(Clone, Copy, PartialEq, Eq)]
 pub struct Node {
     pub front: LogPrefixWitness,
     pub last: LogIndex,
-    // 0 where there is no mark.
-    pub unseen: LogIndex,
+    pub unseen: Option<LogIndex>,
 }
 
 impl Row for Node {
@@ -40,11 +40,12 @@ impl Row for Node {
 
     const TABLE: Region = NODES;
 
+    #[tactic(auto, using(storage_bytes::proofs::WordLaws::put_join, storage_bytes::proofs::WordLaws::word_bytes_length), unfolding(storage::specs::Writes::node_bytes))]
     fn put(self, nodes: &mut [u8], k: usize) {
         let o = k * NODE_WIDTH;
         self.front.write(nodes, o);
         self.last.write(nodes, o + 2);
-        self.unseen.write(nodes, o + 4);
+        self.unseen.unwrap_or(LogIndex::ZERO).write(nodes, o + 4);
     }
 }
 
@@ -55,12 +56,34 @@ impl StoredRow for Node {
 
     ghost stored = { row_of_node };
 
+    #[tactic(auto, using(crate::proofs::TermSearchLaws::index_back))]
     fn at(nodes: &[u8], k: usize) -> Node {
         let o = k * NODE_WIDTH;
         Node {
             front: LogPrefixWitness::read(nodes, o),
             last: LogIndex::read(nodes, o + 2),
-            unseen: LogIndex::read(nodes, o + 4),
+            unseen: mark_at(nodes, k),
         }
     }
+}
+
+// A node's row in the whole history.
+pub fn node_of(history: &History, node: NodeId) -> Node
+    requires { node.0 < 64 }
+    ensures { node_value result ≡ row_of_node (nodes_part history.now) node.0 }
+{
+    Node::at(NODES.of(history), usize::from(node.0))
+}
+
+// The unseen mark of node k alone.
+#[tactic(auto, using(crate::proofs::TermSearchLaws::index_none))]
+pub fn mark_at(nodes: &[u8], k: usize) -> Option<LogIndex>
+    requires { (k < 64) × (length nodes.now ≡ 384) }
+    ensures { result ≡ found_index (row_of_node nodes.now k).unseen }
+{
+    let mark = LogIndex::read(nodes, k * NODE_WIDTH + 4);
+    if mark == LogIndex::ZERO {
+        return None;
+    }
+    Some(mark)
 }

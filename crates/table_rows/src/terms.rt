@@ -1,13 +1,13 @@
 // The table of commit terms, those of indexes 1, 2, ... Every number of 32 bits is one, so it has no storage rule but its count.
-ghost use Rattle.std.specs.Prelude.{◌≡◌, ◌+◌, ◌-◌, ◌*◌, ◌≤◌, ◌<◌, length, refl};
+ghost use Rattle.std.specs.Prelude.{◌≡◌, ◌+◌, ◌-◌, ◌*◌, ◌≤◌, ◌<◌, refl};
 ghost use Rattle.std.proofs.Common.{lit≤};
 ghost use Rattle.storage.specs.Tables.{term_row};
 ghost use Rattle.storage_bytes.proofs.WordLaws.{word_bytes_length};
 ghost use Rattle.storage_bytes.specs.declared.layout.TheConstants.{TERMS};
 ghost use Rattle.storage_bytes.specs.Words.{word_bytes, put_bytes};
 
-use storage::rows::{Row, set};
-use storage_bytes::layout::{Region, TERM_WIDTH, TERMS};
+use storage::rows::Row;
+use storage_bytes::layout::{Region, TERM_WIDTH, TERMS, Terms};
 use storage_bytes::words::Field;
 use units::{LogIndex, Term};
 
@@ -40,16 +40,16 @@ impl Row for CommitTerm {
 }
 
 // The term of index k + 1.
-pub fn term_at(terms: &[u8], k: usize) -> Term
-    requires { (k < 256) × (length terms.now ≡ 1024) }
+pub fn term_at(terms: &Terms, k: usize) -> Term
+    requires { k < 256 }
     ensures { result.0 ≡ term_row terms.now k }
 {
     Term::read(terms, k * TERM_WIDTH)
 }
 
 // The term of an index.
-pub fn term_of(terms: &[u8], index: LogIndex) -> Term
-    requires { (1 ≤ index.0) × (index.0 ≤ 256) × (length terms.now ≡ 1024) }
+pub fn term_of(terms: &Terms, index: LogIndex) -> Term
+    requires { (1 ≤ index.0) × (index.0 ≤ 256) }
     ensures { result.0 ≡ term_row terms.now (index.0 - 1) }
 {
     term_at(terms, index.0 - 1)

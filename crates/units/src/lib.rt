@@ -23,11 +23,13 @@ pub const CERTIFICATE_LIMIT: usize = 64;
 // How many distinct findings a history holds.
 pub const FINDING_LIMIT: usize = 128;
 
-// A server of the cluster, 0 to 63.
+// A server of the cluster, 0 to 63. The limit is no invariant of the type: a stored row holds any byte there until the storage rules are
+// tested. So a function that finds a row by its node asks for it.
 #[derive(Clone, Copy, PartialEq, Eq, PartialOrd, Ord)]
 pub struct NodeId(pub u8);
 
-// A place in a log, 1 to 256; zero stands before the first entry.
+// A place in a log, 1 to 256; zero stands before the first entry. A type for those from 1 on would be a second one with the same
+// functions, so those that find an entry's row by it ask for it. Nor is 256 the type's limit: a stored row holds any two bytes.
 #[derive(Clone, Copy, PartialEq, Eq, PartialOrd, Ord)]
 pub struct LogIndex(pub usize);
 
@@ -35,11 +37,13 @@ pub struct LogIndex(pub usize);
 #[derive(Clone, Copy, PartialEq, Eq, PartialOrd, Ord)]
 pub struct Term(pub u32);
 
-// A prefix of a log, by the number under which it is stored, 1 to 512 (the Rust's witness, a chain of shared nodes).
+// A prefix of a log, by the number under which it is stored, 1 to 512, or 0 for the empty one (the Rust's witness, a chain of shared
+// nodes). Row k holds number k + 1. It is compared with counts of rows, and made of a row's place, as a number: a conversion would
+// only hide the one that the bound is about.
 #[derive(Clone, Copy, PartialEq, Eq, PartialOrd, Ord)]
 pub struct LogPrefixWitness(pub usize);
 
-// The number is above its unit's limit.
+// The number is above its unit's limit. For callers who have a number of their own: a record's are read within their limits.
 #[derive(Clone, Copy, PartialEq, Eq)]
 pub struct OutOfLimit;
 

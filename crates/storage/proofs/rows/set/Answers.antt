@@ -14,6 +14,6 @@ returns g c =
     let start = ap (λ (b : Region). b.start) c.TABLE-a.ensures in
     let long = ap (λ (b : Region). b.length) c.TABLE.ensures in
     let h = s.history.now in
-    row_written h _ _ row.width s.k row.count (row.bytes s.row) c.put.ensures (omega (arith, start, long, law.inside)) (long ∙ law.filled) c.requires.within.0
+    row_written h _ _ row.width s.k row.count (row.bytes s.row) c.put.ensures (omega (arith, start, long, law.inside)) (long ∙ law.filled) c.requires.within
     (law.wide s.row c.requires.whole)
     ∙ ap (λ (a : ℕ). put_bytes h (a + s.k * row.width) (row.bytes s.row)) start

@@ -1,5 +1,6 @@
 -- `put` of `certificate_rows::certificates::Certificate` meets its contract: its fields side by side are the row.
 -- Assumes nothing.
+-- Search finds the rows of three and of four fields by `put_join` alone; for these six it was tried, and gave up.
 use Rattle.storage.proofs.WriteLaws.{field_next}
 use Rattle.storage.specs.Writes.{certificate_bytes}
 use Rattle.storage_bytes.specs.Words.{word_bytes}
