@@ -21,7 +21,7 @@ pub enum Rule {
     LogBounds,
 }
 
-// Document 01's number of a rule.
+// Document 01's number of a rule. Written out, so that the order of the variants means nothing.
 impl From<Rule> for u8 {
     ghost from_gives = { λ r result. result ≡ number r };
 

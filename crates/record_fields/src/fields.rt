@@ -73,7 +73,7 @@ pub fn entry_index(s: &[u8], at: usize, least: u64) -> Result<u64, Fault>
     }
 }
 
-// A row's node: at least `least`, one more than the node before it.
+// A row's node: at least `least`, one more than the node before it. The same test as an index has, in two lines.
 #[tactic(auto, unfolding(model::specs::Reading::row_node))]
 pub fn row_node(s: &[u8], at: usize, least: u64) -> Result<u64, Fault>
     ensures reads { reading.row_node least s.now at ≡ part_of result (at + 6) }

@@ -26,7 +26,7 @@ pub trait Item {
 
     ghost size: { ℕ };
 
-    // An item whose key is at least `least`.
+    // An item whose key is at least `least`. Its bit is asked to be small, so that no sum wraps: no integer type ends there.
     fn pass(s: &[u8], at: usize, least: u64) -> Result<Passed, Fault>
         requires { at ≤ 2 ^ 32 }
         ensures reads { keyed key (read least s.now at) ≡ scan_part result }

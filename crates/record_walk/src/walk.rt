@@ -1,6 +1,6 @@
 // The entries and rows of a readable record, by value, each with the bit after it, and the last index of a view. A walk
 // starts at FIRST_ENTRY or FIRST_ROW with the count that `records::head::read` gave.
-ghost use Rattle.std.specs.Prelude.{◌≡◌, ◌+◌, ◌*◌, ◌^◌, ◌≤◌, length};
+ghost use Rattle.std.specs.Prelude.{◌≡◌, ◌+◌, ◌*◌, ◌^◌, ◌≤◌, length, take};
 ghost use Rattle.model.specs.Reading as reading;
 ghost use Rattle.model.specs.Record as model;
 ghost use Rattle.record_scan.specs.Places as places;
@@ -17,7 +17,8 @@ pub const FIRST_ENTRY: usize = 20;
 pub const FIRST_ROW: usize = 14;
 
 // An entry of a view, with the index it was shown under. Of the content's 32 bytes the first `length` count; the others
-// are zero: memory is fixed, and an entry is copied whole.
+// are zero: memory is fixed, and an entry is copied whole, which the kit's ArrayVec cannot be. That they are at most 32 is asked and no
+// fact of the type: the definitions make an entry of any bits.
 #[derive(Clone, Copy)]
 pub struct ShownEntry {
     pub index: LogIndex,
@@ -27,8 +28,18 @@ pub struct ShownEntry {
     pub next: usize,
 }
 
-// A row's configuration; where it is absent, its index and identity are zero. They stand beside a flag, and in no Option:
-// `row_at` promises the numbers that the bits have, of any row, and absent ones too.
+impl ShownEntry {
+    // The bytes that count.
+    pub fn content(&self) -> &[u8]
+        requires { self.now.length ≤ 32 }
+        ensures { result.now ≡ take self.now.length self.now.content }
+    {
+        &self.content[..self.length]
+    }
+}
+
+// A row's configuration. An Option would lose the index and the identity that the bits of an absent one hold: a readable record has
+// zeros there, but `row_at` asks only that the bits are there, and promises them.
 #[derive(Clone, Copy)]
 pub struct Configuration {
     pub present: bool,
@@ -50,6 +61,7 @@ pub struct Row {
 
 // The n bytes from bit `at` on, each through a window of two bytes, and zeros after them. Where `at` begins a byte, both
 // bytes of the window are that one.
+#[tactic(auto, unfolding(model::specs::Reading::bytes_at))]
 fn content_at(s: &[u8], at: usize, n: usize) -> [u8; 32]
     requires { (n ≤ 32) × (at ≤ 2 ^ 33) × (at + 8 * n ≤ 8 * length s.now) }
     ensures { result ≡ padded (reading.bytes_at s.now at n) n }
@@ -65,7 +77,8 @@ fn content_at(s: &[u8], at: usize, n: usize) -> [u8; 32]
     out
 }
 
-// The index of the entry at bit `at`.
+// The index of the entry at bit `at`. Readers of one entry ask that its bits are there: a type of such places would be made at each step
+// of a walk.
 pub fn index_at(s: &[u8], at: usize) -> LogIndex
     requires { Here s.now at }
     ensures { result.0 ≡ places.index_at s.now at }
@@ -116,6 +129,7 @@ impl<'a> Iterator for Entries<'a> {
 
     ghost remaining = { λ w. at_most w.left };
 
+    #[tactic(auto, using(crate::proofs::Walks::here))]
     fn next(&mut self) -> Option<ShownEntry> {
         if self.left == 0 {
             return None;

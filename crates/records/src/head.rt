@@ -54,7 +54,7 @@ fn finish(s: &[u8], at: usize, head: Head) -> Result<Head, Fault>
     }
 }
 
-// The next index, count or length.
+// The next index, count or length, by the reader that moves; `index` takes the bit, and asks nothing of it.
 #[tactic(auto, unfolding(model::specs::Reading::limited))]
 fn take_index(fields: &mut RecordReader) -> Result<u64, Fault>
     requires { fields.old.next + 10 < 2 ^ 64 }
@@ -155,7 +155,7 @@ fn read_rows(s: &[u8]) -> Result<Head, Fault>
     finish(s, end, Head::Rows { count })
 }
 
-// Any bytes: every record starts with a kind of 4 bits.
+// Any bytes: every record starts with a kind of 4 bits. Only here is a kind a number, document 01's.
 #[tactic(auto, using(crate::proofs::Readable::told, crate::proofs::Heads::finish_head), unfolding(model::specs::Reading::read, model::specs::Reading::record_fields, model::specs::Reading::fields_of))]
 pub fn read(s: &[u8]) -> Result<Head, Fault>
     ensures { Told s.now result }

@@ -1,21 +1,21 @@
 // What bench/ times: a view's record is read, and its entries are walked, with every content byte used. `records_bench_c` exports it.
 #![tactic(auto)]
 
-ghost use Rattle.std.specs.Prelude.{◌≡◌, ◌≤◌, length, take};
+ghost use Rattle.std.specs.Prelude.{◌≡◌, ◌≤◌, take};
 ghost use Rattle.model.specs.Reading as reading;
 ghost use Rattle.record_scan.specs.Places as places;
 ghost use Rattle.records_bench.specs.Used.{sum_of, contents_of, used_of, count_of};
 
-use record_walk::walk::{Entries, FIRST_ENTRY};
+use record_walk::walk::{Entries, FIRST_ENTRY, ShownEntry};
 use records::head::{Head, read};
 
-// The sum of the first n bytes of a content.
-fn content_sum(content: &[u8; 32], n: usize) -> u64
-    requires { (n ≤ 32) × (length content.now ≡ 32) }
-    ensures { (result ≡ sum_of (take n content.now)) × (result ≤ 8160) }
+// The sum of the bytes of an entry's content.
+fn content_sum(e: &ShownEntry) -> u64
+    requires { e.now.length ≤ 32 }
+    ensures { (result ≡ sum_of (take e.now.length e.now.content)) × (result ≤ 8160) }
 {
     let mut sum: u64 = 0;
-    for x in &content[..n] {
+    for x in e.content() {
         sum += u64::from(*x);
     }
     sum
@@ -33,7 +33,7 @@ fn walk(s: &[u8], count: usize) -> u64
     };
     let mut sum: u64 = 0;
     for e in entries {
-        sum += content_sum(&e.content, e.length);
+        sum += content_sum(&e);
     }
     sum
 }

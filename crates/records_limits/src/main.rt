@@ -10,10 +10,10 @@ use records::head::read;
 use std::io;
 use std::io::Write;
 
-// The bytes of input that are read.
+// The bytes of input that are read. Memory is fixed: arrays, and no Vec.
 const INPUT: usize = 65536;
 
-// What a hexadecimal digit stands for.
+// What a hexadecimal digit stands for, 0 for any other byte: the kit's `hex` refuses those.
 fn digit(b: u8) -> u8
     ensures { result ≤ 15 }
 {
@@ -61,6 +61,7 @@ fn find(s: &[u8], b: u8) -> Option<usize>
 // All cases.
 fn run<W: Write>(writer: &mut W, s: &[u8]) -> io::Result<()> {
     let mut rest = s;
+    // a line begins where the one before it ends: no index is counted
     while let Some(space) = find(rest, b' ') {
         let (name, record) = (&rest[..space], &rest[space + 1..]);
         let Some(end) = find(record, b'\n') else {

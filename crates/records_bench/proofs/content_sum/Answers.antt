@@ -1,9 +1,12 @@
 -- `records_bench::content_sum` meets its contract: the sum is what was added, and the sum of what is left.
 -- Assumes nothing.
 use Prim.Native.Nat.{ℕ}
+use mathlib.Core.Path.{◌∙◌, ap}
 use native.Mathlib.Omega.{arith}
+use lib.ListN.{length}
 use Rattle.std.proofs.lemmas.List.{length-take}
 use Rattle.records_bench.proofs.Sums.{sum_next, sum_end}
+use Rattle.records_bench.specs.Used.{sum_of}
 use Rattle.records_bench.proofs.content_sum.Goals as goal
 
 pub loop-x-preserved : goal.loop-x-preserved
@@ -13,4 +16,8 @@ loop-x-preserved c =
 pub returns : goal.returns
 returns c =
     let h = c.requires in
-    (sum_end _ c.loop-x.sum c.loop-x.x-index c.loop-x.invariant.1 c.loop-x-test.false, omega (arith, length-take {A = ℕ}))
+    let e = c.content-x-items.ensures in
+    let l = ap length e in (
+      sum_end _ c.loop-x.sum c.loop-x.x-index c.loop-x.invariant.1 c.loop-x-test.false ∙ ap sum_of e,
+      omega (arith, l, length-take {A = ℕ}),
+    )

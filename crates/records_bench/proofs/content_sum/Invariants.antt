@@ -2,10 +2,10 @@
 -- Assumes nothing.
 use Prim.Native.Nat.{◌+◌, ◌*◌, ◌≤◌}
 use mathlib.Core.Path.{◌≡◌}
-use lib.ListN.{take, drop}
+use lib.ListN.{drop}
 use Rattle.records_bench.specs.Used.{sum_of}
 use Rattle.records_bench.proofs.content_sum.Given as goal
 
 abbrev pub invariant-loop-x : goal.invariant-loop-x
 invariant-loop-x l =
-    (l.sum ≤ 255 * l.x-index) × (sum_of (take l.n l.content) ≡ l.sum + sum_of (drop l.x-index (take l.n l.content)))
+    (l.sum ≤ 255 * l.x-index) × (sum_of l.x-items ≡ l.sum + sum_of (drop l.x-index l.x-items))

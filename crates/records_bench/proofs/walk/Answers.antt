@@ -6,7 +6,7 @@ use native.Mathlib.Omega.{arith}
 use lib.ListN.{take}
 use Rattle.record_scan.specs.Places.{content_at}
 use Rattle.record_walk.specs.declared.walk.ShownEntry.{ShownEntry}
-use Rattle.record_walk.proofs.Walks.{here, entry_content, entry_length}
+use Rattle.record_walk.proofs.Walks.{here, entry_content}
 use Rattle.records_bench.proofs.Sums.{contents_next, contents_end}
 use Rattle.records_bench.specs.Used.{sum_of}
 use Rattle.records_bench.proofs.walk.Goals as goal
@@ -15,7 +15,7 @@ pub content_sum-sum-requires : goal.content_sum-sum-requires
 content_sum-sum-requires c =
     let e = c.in-Some.ensures.steps in
     let h = here _ _ _ c.loop-e.iterator.0 (omega (arith, e)) in
-    rw e.0 (h.short, entry_length _ _ h.short)
+    rw e.0 h.short
 
 pub loop-e-preserved : goal.loop-e-preserved
 loop-e-preserved c =

@@ -1,15 +1,9 @@
 -- `record_walk::walk::content_at` meets its contract: the first i bytes are the model's, and zeros follow.
 -- Assumes nothing.
 use Prim.Native.Nat.{◌+◌, ◌/◌}
-use mathlib.Core.Path.{refl}
 use native.Mathlib.Omega.{arith}
-use Rattle.model.specs.Reading.{bytes_at}
 use Rattle.bit_fields.proofs.Widths.{window_at, padded_more}
 use Rattle.record_walk.proofs.walk.content_at.Goals as goal
-
-pub loop-i-init : goal.loop-i-init
-unfolding bytes_at
-loop-i-init c = refl
 
 pub loop-i-preserved : goal.loop-i-preserved
 loop-i-preserved c =

@@ -3,11 +3,8 @@
 use Prim.Native.Nat.{◌-◌}
 use native.Mathlib.Omega.{arith}
 use Rattle.record_scan.specs.Places.{Walk}
-use Rattle.record_walk.proofs.Walks.{here, next_walk}
+use Rattle.record_walk.proofs.Walks.{next_walk}
 use Rattle.record_walk.proofs.walk.EntriesIterator.next.Goals as goal
-
-pub entry_at-e-requires : goal.entry_at-e-requires
-entry_at-e-requires c = here _ _ _ c.requires (omega arith)
 
 pub returns-clause-goes : goal.returns-clause-goes
 returns-clause-goes c =
