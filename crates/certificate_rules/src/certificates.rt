@@ -5,8 +5,9 @@ ghost use Rattle.storage.specs.Tables.{rows_of_certificates};
 ghost use Rattle.storage.specs.Rules.{certificate_right, follows as followsRow, numbered as numberedRows};
 ghost use Rattle.certificate_rows.specs.Values.{certificate_value};
 
-use certificate_rows::certificates::{Certificate, Certificates};
+use certificate_rows::certificates::Certificate;
 use storage::rows::{StoredRow, all_rows};
+use storage_bytes::layout::Certificates;
 use units::{LogIndex, NodeId};
 
 // The storage rules of one row by itself, where n prefixes are stored.

@@ -1,18 +1,18 @@
 // The printed findings, by name, node, term, index. They are stored in the order found, so the n-th printed one is looked
 // for: of each stored one it is counted how many later ones are printed before it.
-ghost use Rattle.std.specs.Prelude.{◌≡◌, true, ◌-◌, ◌≤◌, length};
+ghost use Rattle.std.specs.Prelude.{◌≡◌, ◌-◌, ◌≤◌};
 ghost use Rattle.storage_bytes.specs.Lists.{tabulate};
-ghost use Rattle.storage.specs.Rules.{well_formed};
 ghost use Rattle.storage.specs.Tables.{finding_row, finding_rows};
 ghost use Rattle.table_rows.specs.Values.{finding_value};
 ghost use Rattle.finding_lists.specs.Findings.{comes_before, count_first, pick_ordered, finding_answer};
 
 use storage::head::finding_count;
 use storage::rows::StoredRow;
-use storage_bytes::layout::FINDINGS;
+use storage::stored::Stored;
+use storage_bytes::layout::{FINDINGS, Findings};
 use table_rows::findings::Found;
 
-// f is printed before g.
+// f is printed before g: the order in the model's words.
 #[tactic(auto, unfolding(crate::specs::Findings::comes_before))]
 fn comes_before(f: Found, g: Found) -> bool
     ensures { result ≡ comes_before (finding_value f) (finding_value g) }
@@ -21,8 +21,8 @@ fn comes_before(f: Found, g: Found) -> bool
 }
 
 // How many of the rows from k on, before m, f does not come before.
-fn count_first(findings: &[u8], k: usize, m: usize, f: Found) -> usize
-    requires { (m ≤ 128) × (length findings.now ≡ 1024) }
+fn count_first(findings: &Findings, k: usize, m: usize, f: Found) -> usize
+    requires { m ≤ 128 }
     ensures { result ≡ count_first (finding_value f) (tabulate (finding_row findings.now) k (m - k)) }
 {
     let mut count = 0;
@@ -35,8 +35,9 @@ fn count_first(findings: &[u8], k: usize, m: usize, f: Found) -> usize
 }
 
 // The n-th of the first m rows in printed order, counted from 0.
-fn finding_in(findings: &[u8], m: usize, n: usize) -> Option<Found>
-    requires { (m ≤ 128) × (length findings.now ≡ 1024) }
+#[tactic(auto, using(crate::proofs::OrderLaws::order_here, crate::proofs::OrderLaws::order_behind, crate::proofs::OrderLaws::order_front, crate::proofs::OrderLaws::order_none))]
+fn finding_in(findings: &Findings, m: usize, n: usize) -> Option<Found>
+    requires { m ≤ 128 }
     ensures { result ≡ pick_ordered (finding_rows findings.now m) n }
 {
     let mut left = n;
@@ -54,11 +55,10 @@ fn finding_in(findings: &[u8], m: usize, n: usize) -> Option<Found>
 }
 
 // The n-th printed finding, counted from 0.
-pub fn finding_at(history: &[u8], n: usize) -> Option<Found>
-    requires { well_formed history.now ≡ true }
-    ensures { result ≡ finding_answer history.now n }
+#[tactic(auto, using(storage::proofs::WellFormed::formed, crate::proofs::Whole::findings_lent))]
+pub fn finding_at(history: Stored<'_>, n: usize) -> Option<Found>
+    ensures { result ≡ finding_answer history.entry.bytes.now n }
 {
-    let m = finding_count(history);
-    let findings = FINDINGS.of(history);
-    finding_in(findings, m, n)
+    let bytes = history.bytes;
+    finding_in(FINDINGS.array(bytes), finding_count(bytes), n)
 }

@@ -1,11 +1,11 @@
 // The committed prefix's length and its owner, and the two as they are printed: 0 and 0 where there is none.
-ghost use Rattle.std.specs.Prelude.{◌≡◌, true};
-ghost use Rattle.storage.specs.Rules.{well_formed};
+ghost use Rattle.std.specs.Prelude.{◌≡◌};
 ghost use Rattle.storage.specs.Values.{committed_end};
 ghost use Rattle.index_lists.specs.Committed.{owner_in, committed_answer};
 
 use prefix_rows::prefixes::committed_end;
 use storage::head::owner;
+use storage::stored::Stored;
 use units::{LogIndex, NodeId};
 
 // A committed prefix that is not empty.
@@ -16,29 +16,28 @@ pub struct Committed {
 }
 
 #[tactic(auto, using(storage::proofs::WellFormed::formed), unfolding(crate::specs::Committed::committed_answer))]
-pub fn committed_prefix(history: &[u8]) -> Option<Committed>
-    requires { well_formed history.now ≡ true }
-    ensures { result ≡ committed_answer history.now }
+pub fn committed_prefix(history: Stored<'_>) -> Option<Committed>
+    ensures { result ≡ committed_answer history.entry.bytes.now }
 {
     let length = committed_end(history);
     if length == LogIndex::ZERO {
         return None;
     }
-    let owner = owner(history);
+    let bytes = history.bytes;
+    let owner = owner(bytes);
     Some(Committed { length, owner })
 }
 
-pub fn committed_length(history: &[u8]) -> usize
-    requires { well_formed history.now ≡ true }
-    ensures { result ≡ committed_end history.now }
+// As it is printed and as callers in C read it.
+pub fn committed_length(history: Stored<'_>) -> usize
+    ensures { result ≡ committed_end history.entry.bytes.now }
 {
     committed_end(history).0
 }
 
 #[tactic(auto, unfolding(crate::specs::Committed::committed_answer, crate::specs::Committed::owner_in))]
-pub fn committed_owner(history: &[u8]) -> usize
-    requires { well_formed history.now ≡ true }
-    ensures { result ≡ owner_in history.now }
+pub fn committed_owner(history: Stored<'_>) -> usize
+    ensures { result ≡ owner_in history.entry.bytes.now }
 {
     match committed_prefix(history) {
         None => 0,

@@ -1,12 +1,11 @@
 // The printed unseen marks: each node that has one, ascending, with the mark's index.
-ghost use Rattle.std.specs.Prelude.{◌≡◌, true, length};
-ghost use Rattle.storage.specs.Rules.{well_formed};
+ghost use Rattle.std.specs.Prelude.{◌≡◌};
 ghost use Rattle.index_lists.specs.Unseen.{mark_in, unseen_answer};
 
 use crate::pick::nth_held;
-use storage::rows::StoredRow;
-use storage_bytes::layout::NODES;
-use table_rows::nodes::Node;
+use storage::stored::Stored;
+use storage_bytes::layout::{NODES, Nodes};
+use table_rows::nodes::mark_at;
 use units::{LogIndex, NodeId};
 
 #[derive(Clone, Copy)]
@@ -16,15 +15,11 @@ pub struct Unseen {
 }
 
 // The n-th mark of the table of nodes, counted from 0.
-fn mark_in(nodes: &[u8], n: usize) -> Option<Unseen>
-    requires { length nodes.now ≡ 384 }
+fn mark_in(nodes: &Nodes, n: usize) -> Option<Unseen>
     ensures { result ≡ mark_in nodes.now n }
 {
     nth_held(64, n, |k| {
-        let index = Node::at(nodes, k).unseen;
-        if index == LogIndex::ZERO {
-            return None;
-        }
+        let index = mark_at(nodes, k)?;
         let node = NodeId(k as u8);
         Some(Unseen { node, index })
     })
@@ -32,10 +27,9 @@ fn mark_in(nodes: &[u8], n: usize) -> Option<Unseen>
 
 // The n-th printed mark, counted from 0.
 #[tactic(auto, using(storage::proofs::WellFormed::formed, crate::proofs::Whole::unseen_lent))]
-pub fn unseen_at(history: &[u8], n: usize) -> Option<Unseen>
-    requires { well_formed history.now ≡ true }
-    ensures { result ≡ unseen_answer history.now n }
+pub fn unseen_at(history: Stored<'_>, n: usize) -> Option<Unseen>
+    ensures { result ≡ unseen_answer history.entry.bytes.now n }
 {
-    let nodes = NODES.of(history);
-    mark_in(nodes, n)
+    let bytes = history.bytes;
+    mark_in(NODES.array(bytes), n)
 }

@@ -39,6 +39,11 @@ unfolding better_of
 least_in bound [] = None
 least_in bound (f ∷ fs) = better_of bound f (least_in bound fs)
 
+-- the bound right after the last leader; the first search has none
+abbrev pub after : Option Leader → Ranked
+after (Some a) = pair a.term.0 (a.leader.0 + 1)
+after None = pair 0 0
+
 -- the least above one
 unfoldable pub next_of : List Finding → Option Leader → Option Leader
 unfolding least_in

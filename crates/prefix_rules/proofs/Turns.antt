@@ -19,20 +19,25 @@ use Rattle.storage.proofs.RuleLaws.{index_among_lem}
 
 -- ---- one row of prefixes
 
--- a row whose parent is not before it is wrong
-pub right_parent : (t : Bytes) (k p : ℕ) → p ≡ word_at t (k * 41) 2 → k < p → prefix_right (rows_of_prefixes t k) (prefix_row t k) ≡ false
-unfolding prefix_right
-right_parent t k p e h = rw (tabulate_length (prefix_row t) 0 k, ← e, lt-leb p k h)
+module _ (t : Bytes) (k : ℕ) where
+  -- a row whose parent is not before it is wrong
+  pub right_parent : k < word_at t (k * 41) 2 → prefix_right (rows_of_prefixes t k) (prefix_row t k) ≡ false
+  unfolding prefix_right
+  right_parent h = rw (tabulate_length (prefix_row t) 0 k, lt-leb (word_at t (k * 41) 2) k h)
 
--- the other tests of a row, by what was read
-pub right_rest : (t : Bytes) (k p i x : ℕ) → p ≡ word_at t (k * 41) 2 → p ≤ k → i ≡ word_at t (k * 41 + 2) 2 → x ≡ number_index t p
-    → prefix_right (rows_of_prefixes t k) (prefix_row t k)
-    ≡ (eqb i (x + 1) && (leb i 256 && (leb (word_at t (k * 41 + 8) 1) 32 && not (is_among (prefix_row t k) (tabulate (prefix_row t) p (k - p))))))
-unfolding prefix_right
-right_rest t k p i x e h ei ex =
-    let d : drop p (rows_of_prefixes t k) ≡ tabulate (prefix_row t) p (k - p)
-    = tabulate_drop (prefix_row t) 0 k p h ∙ ap (λ (q : ℕ). tabulate (prefix_row t) q (k - p)) (zero-add p) in
-    rw (tabulate_length (prefix_row t) 0 k, ← e, ← ei, le-leb p k h, index_among_lem t k p h, ← ex, d)
+  -- the other tests of a row
+  pub right_rest : word_at t (k * 41) 2 ≤ k
+      → prefix_right (rows_of_prefixes t k) (prefix_row t k)
+      ≡ (eqb (word_at t (k * 41 + 2) 2) (number_index t (word_at t (k * 41) 2) + 1)
+      && (leb (word_at t (k * 41 + 2) 2) 256
+      && (leb (word_at t (k * 41 + 8) 1) 32
+      && not (is_among (prefix_row t k) (tabulate (prefix_row t) (word_at t (k * 41) 2) (k - word_at t (k * 41) 2))))))
+  unfolding prefix_right
+  right_rest h =
+      let p = word_at t (k * 41) 2 in
+      let d : drop p (rows_of_prefixes t k) ≡ tabulate (prefix_row t) p (k - p)
+      = tabulate_drop (prefix_row t) 0 k p h ∙ ap (λ (q : ℕ). tabulate (prefix_row t) q (k - p)) (zero-add p) in
+      rw (tabulate_length (prefix_row t) 0 k, le-leb p k h, index_among_lem t k p h, d)
 
 -- ---- all rows of prefixes
 

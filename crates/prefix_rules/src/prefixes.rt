@@ -1,15 +1,17 @@
 // The storage rules of the table of prefixes: a row is right by the rows before it.
-ghost use Rattle.std.specs.Prelude.{◌≡◌, [], ◌+◌, ◌≤◌, ◌<◌, length};
+ghost use Rattle.std.specs.Prelude.{◌≡◌, [], ◌≤◌, ◌<◌};
 ghost use Rattle.storage.specs.Tables.{prefix_row, rows_of_prefixes};
 ghost use Rattle.storage.specs.Rules.{prefix_right, prefixes_right_after};
 
 use prefix_rows::prefixes::{index_at, parent_at, size_at, through};
+use storage_bytes::layout::PrefixTable;
 use stored_once::once::is_among;
 use units::{CONTENT_LIMIT, LogIndex};
 
 // The storage rules of row k, by the rows before it.
-fn prefix_right(prefixes: &[u8], k: usize) -> bool
-    requires { (k < 512) × (length prefixes.now ≡ 20992) }
+#[tactic(auto, using(crate::proofs::Turns::right_parent, crate::proofs::Turns::right_rest))]
+fn prefix_right(prefixes: &PrefixTable, k: usize) -> bool
+    requires { k < 512 }
     ensures { result ≡ prefix_right (rows_of_prefixes prefixes.now k) (prefix_row prefixes.now k) }
 {
     let p = parent_at(prefixes, k);
@@ -30,9 +32,9 @@ fn prefix_right(prefixes: &[u8], k: usize) -> bool
 }
 
 // The storage rules of every one of n rows.
-#[tactic(auto, using(crate::proofs::Turns::rows_next, crate::proofs::Turns::rows_stop, crate::proofs::Turns::rows_none))]
-pub fn prefixes_right(prefixes: &[u8], n: usize) -> bool
-    requires { (n ≤ 512) × (length prefixes.now ≡ 20992) }
+#[tactic(auto, using(crate::proofs::Turns::rows_next, crate::proofs::Turns::rows_stop, crate::proofs::Turns::rows_none), unfolding(storage_bytes::specs::Lists::tabulate))]
+pub fn prefixes_right(prefixes: &PrefixTable, n: usize) -> bool
+    requires { n ≤ 512 }
     ensures { result ≡ prefixes_right_after [] (rows_of_prefixes prefixes.now n) }
 {
     for k in 0..n {

@@ -1,11 +1,12 @@
 // The storage rules of the table of findings.
-ghost use Rattle.std.specs.Prelude.{◌≡◌, ◌≤◌, length};
+ghost use Rattle.std.specs.Prelude.{◌≡◌, ◌≤◌};
 ghost use Rattle.storage_bytes.specs.Lists.{every};
 ghost use Rattle.storage.specs.Tables.{finding_rows};
 ghost use Rattle.storage.specs.Rules.{finding_right};
 ghost use Rattle.table_rows.specs.Values.{finding_value};
 
 use storage::rows::all_rows;
+use storage_bytes::layout::Findings;
 use table_rows::findings::{Found, LG_03, LG_05};
 use units::{LogIndex, NodeId};
 
@@ -27,8 +28,8 @@ fn finding_right(f: Found) -> bool
 }
 
 // The storage rules of every one of m rows.
-pub fn findings_right(findings: &[u8], m: usize) -> bool
-    requires { (m ≤ 128) × (length findings.now ≡ 1024) }
+pub fn findings_right(findings: &Findings, m: usize) -> bool
+    requires { m ≤ 128 }
     ensures { result ≡ every finding_right (finding_rows findings.now m) }
 {
     all_rows(findings, m, finding_right)

@@ -1,11 +1,12 @@
 // The storage rules of the table of nodes.
-ghost use Rattle.std.specs.Prelude.{◌≡◌, length};
+ghost use Rattle.std.specs.Prelude.{◌≡◌};
 ghost use Rattle.storage_bytes.specs.Lists.{every};
 ghost use Rattle.storage.specs.Tables.{node_rows};
 ghost use Rattle.storage.specs.Rules.{node_right};
 ghost use Rattle.table_rows.specs.Values.{node_value};
 
 use storage::rows::all_rows;
+use storage_bytes::layout::Nodes;
 use table_rows::nodes::Node;
 use units::LogIndex;
 
@@ -20,12 +21,12 @@ fn node_right(n: usize, x: Node) -> bool
     if LogIndex::LAST < x.last {
         return false;
     }
-    x.unseen <= LogIndex::LAST
+    // None is less than any mark.
+    x.unseen <= Some(LogIndex::LAST)
 }
 
 // The storage rules of every row.
-pub fn nodes_right(nodes: &[u8], n: usize) -> bool
-    requires { length nodes.now ≡ 384 }
+pub fn nodes_right(nodes: &Nodes, n: usize) -> bool
     ensures { result ≡ every (node_right n) (node_rows nodes.now) }
 {
     all_rows(nodes, 64, |x: Node| node_right(n, x))

@@ -1,5 +1,5 @@
 // The storage rules of a whole history, whose breach is answered 12. What it costs to test them follows what is held.
-ghost use Rattle.std.specs.Prelude.{◌≡◌};
+ghost use Rattle.std.specs.Prelude.{◌≡◌, false, MatchOption};
 ghost use Rattle.storage.specs.Rules.{well_formed};
 
 use certificate_rules::certificates::{certificates_right, numbered};
@@ -8,16 +8,16 @@ use prefix_rules::prefixes::prefixes_right;
 use row_rules::findings::findings_right;
 use row_rules::nodes::nodes_right;
 use storage::head::{certificate_count, finding_count, prefix_count};
-use storage_bytes::layout::{CERTIFICATES, FINDINGS, HEAD, HISTORY_LENGTH, NODES, PREFIXES};
+use storage::stored::Stored;
+use storage_bytes::layout::{
+    CERTIFICATES, FINDINGS, HEAD, HISTORY_LENGTH, History, NODES, PREFIXES,
+};
 
 // The bytes keep the storage rules.
-#[tactic(auto, using(crate::proofs::Turns::wrong_length, crate::proofs::Turns::rules_in_turn, storage::proofs::RuleLaws::within))]
-pub fn well_formed(history: &[u8]) -> bool
+#[tactic(auto, using(crate::proofs::Turns::rules_in_turn, storage::proofs::RuleLaws::within))]
+fn rules_kept(history: &History) -> bool
     ensures { result ≡ well_formed history.now }
 {
-    if history.len() != HISTORY_LENGTH {
-        return false;
-    }
     let head = HEAD.of(history);
     if !within_limits(head) {
         return false;
@@ -26,7 +26,7 @@ pub fn well_formed(history: &[u8]) -> bool
         return false;
     }
     let n = prefix_count(head);
-    if !nodes_right(NODES.of(history), n) {
+    if !nodes_right(NODES.array(history), n) {
         return false;
     }
     let certificates = CERTIFICATES.array(history);
@@ -37,8 +37,27 @@ pub fn well_formed(history: &[u8]) -> bool
     if !numbered(certificates, m) {
         return false;
     }
-    if !findings_right(FINDINGS.of(history), finding_count(head)) {
+    if !findings_right(FINDINGS.array(history), finding_count(head)) {
         return false;
     }
-    prefixes_right(PREFIXES.of(history), n)
+    prefixes_right(PREFIXES.array(history), n)
+}
+
+// The history lent, where it keeps them.
+#[tactic(auto, using(crate::proofs::Turns::wrong_length))]
+pub fn stored(history: &[u8]) -> Option<Stored<'_>>
+    ensures { MatchOption result (well_formed history.now ≡ false) (λ s. s.bytes.now ≡ history.now) }
+{
+    let bytes = history.as_array::<HISTORY_LENGTH>()?;
+    if !rules_kept(bytes) {
+        return None;
+    }
+    Some(Stored { bytes })
+}
+
+// The same as a test alone.
+pub fn well_formed(history: &[u8]) -> bool
+    ensures { result ≡ well_formed history.now }
+{
+    stored(history).is_some()
 }

@@ -2,11 +2,12 @@
 -- Assumes nothing.
 use Rattle.std.proofs.Common.{rules}
 use Rattle.storage.specs.Tables.{row_of_node}
+use Rattle.table_rows.specs.TermSearch.{found_index}
 use Rattle.index_lists.specs.Unseen.{unmarked, mark_in}
 use Rattle.index_lists.proofs.unseen.mark_in.Goals as goal
 
 pub returns : goal.returns
-unfolding mark_in
+unfolding mark_in found_index
 returns c =
     let t = c.args.nodes.now in
     c.nth_held.ensures (unmarked t) (λ k. record { node = record { 0 = k }; index = record { 0 = (row_of_node t k).unseen } }) (λ k r below p. search rules)
