@@ -4,13 +4,18 @@
 use Prim.Native.Nat.{ℕ, zero, suc, ◌+◌, ◌-◌, ◌*◌, ◌<◌, ◌≤◌, min}
 use native.Mathlib.Omega.{arith}
 use mathlib.Core.Path.{◌≡◌, refl, sym, ◌∙◌, ap}
-use mathlib.Core.Bool.{Bool, true, false, cond, ◌||◌}
+use mathlib.Core.Bool.{Bool, true, false, cond, ◌&&◌, ◌||◌}
 use lib.Dec.{eqb}
+use lib.ListN.{length, get_or}
 use borrow.Author.Tests.{eq-eqb, ne_eqb}
 use Rattle.model.specs.Sizes.{Bytes}
 use Rattle.model.proofs.Tests.{cond_true, cond_false}
 use Rattle.storage_bytes.specs.Words.{word_at, bytes_at, same_bytes}
 use Rattle.storage.specs.Tables.{PrefixRow, prefix_row}
+use Rattle.std.specs.Cmp.Lexicographic.{pointwise}
+use Rattle.storage_bytes.proofs.ListLaws.{tabulate_length}
+use Rattle.storage_bytes.proofs.ByteTurns.{pointwise_bytes}
+use Rattle.storage.proofs.PrefixLaws.{same_bytes_eq}
 use Rattle.log_comparison.specs.Comparison.{same_entry, same_from}
 
 -- ---- the comparison of two prefixes
@@ -83,22 +88,35 @@ module _ (row : ℕ → PrefixRow) {r : Bool} (p q : ℕ) where
       eb' : (row (q - 1)).parent ≡ b
       eb' = sym eb
 
--- ---- the last entries of two rows, from what was read of them
+-- ---- the last entries of two rows
 
-module _ (t : Bytes) (i j a b m n : ℕ) (ta : a ≡ word_at t (i * 41 + 4) 4) (tb : b ≡ word_at t (j * 41 + 4) 4) where
+content_length : (t : Bytes) (k : ℕ) → length (prefix_row t k).content ≡ min (word_at t (k * 41 + 8) 1) 32
+unfolding bytes_at
+content_length t k = tabulate_length (λ i. get_or t i 0) (k * 41 + 9) (min (word_at t (k * 41 + 8) 1) 32)
+
+none : (x : Bool) → (x && false) ≡ false
+none true = refl
+none false = refl
+
+-- of equal bytes there are equally many, so that their counts need no test
+same_sized : (xs ys : Bytes) {m n : ℕ} → length xs ≡ m → length ys ≡ n → (eqb m n && same_bytes xs ys) ≡ same_bytes xs ys
+same_sized xs ys {m} {n} a b = go (same_bytes xs ys) refl
+  where
+    go : (r : Bool) → same_bytes xs ys ≡ r → (eqb m n && r) ≡ r
+    go true t = ap (λ (x : Bool). x && true) (eq-eqb m n (sym a ∙ ap length (same_bytes_eq xs ys t) ∙ b))
+    go false f = none (eqb m n)
+
+module _ (t : Bytes) (i j a b : ℕ) (ta : a ≡ word_at t (i * 41 + 4) 4) (tb : b ≡ word_at t (j * 41 + 4) 4) where
   pub entry_term : (a ≡ b → ⊥) → same_entry (prefix_row t i) (prefix_row t j) ≡ false
   unfolding same_entry
   entry_term d = rw (← ta, ← tb, ne_eqb a b d)
 
-  module _ (e : a ≡ b) (tm : m ≡ word_at t (i * 41 + 8) 1) (tn : n ≡ word_at t (j * 41 + 8) 1) where
-    pub entry_size : (m ≡ n → ⊥) → same_entry (prefix_row t i) (prefix_row t j) ≡ false
-    unfolding same_entry
-    entry_size d = rw (← ta, ← tb, eq-eqb a b e, ← tm, ← tn, ne_eqb m n d)
-
-    pub entry_content : m ≡ n → m ≤ 32
-        → same_entry (prefix_row t i) (prefix_row t j) ≡ same_bytes (bytes_at t (i * 41 + 9) m) (bytes_at t (j * 41 + 9) m)
-    unfolding same_entry
-    entry_content d h =
-        let mi : min (word_at t (i * 41 + 8) 1) 32 ≡ m = (let x = tm in omega arith) in
-        let mj : min (word_at t (j * 41 + 8) 1) 32 ≡ m = (let x = tn in omega arith) in
-        rw (mi, mj, ← ta, ← tb, eq-eqb a b e, ← tm, ← tn, eq-eqb m n d) refl
+  pub entry_content : a ≡ b → word_at t (i * 41 + 8) 1 ≤ 32 → word_at t (j * 41 + 8) 1 ≤ 32
+      → pointwise eqb (prefix_row t i).content (prefix_row t j).content ≡ same_entry (prefix_row t i) (prefix_row t j)
+  unfolding same_entry
+  entry_content e m n =
+      pointwise_bytes (prefix_row t i).content (prefix_row t j).content
+      ∙ sym (rw (← ta, ← tb, eq-eqb a b e) (same_sized (prefix_row t i).content (prefix_row t j).content (sized i m) (sized j n)))
+    where
+      sized : (k : ℕ) → word_at t (k * 41 + 8) 1 ≤ 32 → length (prefix_row t k).content ≡ word_at t (k * 41 + 8) 1
+      sized k l = content_length t k ∙ (let z : min (word_at t (k * 41 + 8) 1) 32 ≡ word_at t (k * 41 + 8) 1 = omega arith in z)

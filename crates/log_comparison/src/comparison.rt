@@ -5,31 +5,26 @@ ghost use Rattle.storage.specs.Tables.{prefix_row};
 ghost use Rattle.prefix_lookup.specs.Table.{Table};
 ghost use Rattle.log_comparison.specs.Comparison.{same_entry, same_from};
 
-use prefix_rows::prefixes::{parent_at, size_at, term_at};
-use storage_bytes::layout::{PREFIX_CONTENT, PREFIX_WIDTH};
-use storage_bytes::words::same_bytes;
+use prefix_rows::prefixes::{content_at, parent_at, term_at};
+use storage_bytes::layout::PrefixTable;
 use units::LogPrefixWitness;
 
 // The entries of rows i and j are the same, in term and content.
-fn same_entry(prefixes: &[u8], i: usize, j: usize) -> bool
+fn same_entry(prefixes: &PrefixTable, i: usize, j: usize) -> bool
     requires { (n : ℕ) × Table prefixes.now n × (i < n) × (j < n) }
     ensures { result ≡ same_entry (prefix_row prefixes.now i) (prefix_row prefixes.now j) }
 {
     if term_at(prefixes, i) != term_at(prefixes, j) {
         return false;
     }
-    let n = size_at(prefixes, i);
-    if n != size_at(prefixes, j) {
-        return false;
-    }
-    let x = i * PREFIX_WIDTH + PREFIX_CONTENT;
-    let y = j * PREFIX_WIDTH + PREFIX_CONTENT;
-    same_bytes(prefixes, x, prefixes, y, n)
+    let x = content_at(prefixes, i);
+    let y = content_at(prefixes, j);
+    x == y
 }
 
 // Whether two stored prefixes are the same. From the last entries back, left at the first that differs; they are the same
 // where that comes to one prefix that both extend.
-pub fn same_prefix(prefixes: &[u8], a: LogPrefixWitness, b: LogPrefixWitness) -> bool
+pub fn same_prefix(prefixes: &PrefixTable, a: LogPrefixWitness, b: LogPrefixWitness) -> bool
     requires { (n : ℕ) × Table prefixes.now n × (a.0 ≤ n) × (b.0 ≤ n) }
     ensures { result ≡ same_from (prefix_row prefixes.now) a.0 a.0 b.0 }
 {

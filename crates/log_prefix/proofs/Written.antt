@@ -1,6 +1,6 @@
 -- An extension found or made: its number, how many prefixes are stored, and the bytes; and what `extend` answers.
 -- Assumes nothing.
-use Prim.Native.Nat.{ℕ, ◌+◌, ◌*◌, ◌≤◌}
+use Prim.Native.Nat.{ℕ, ◌+◌, ◌≤◌}
 use native.Mathlib.Omega.{arith}
 use mathlib.Core.Path.{◌≡◌, refl, sym, ◌∙◌, ap}
 use mathlib.Core.Bool.{true, false}
@@ -13,17 +13,16 @@ use Rattle.model.specs.Sizes.{Bytes}
 use Rattle.model.specs.Entry.{Entry}
 use Rattle.model.proofs.Tests.{tf, either, cond_cases, cond_true, cond_false}
 use Rattle.record_walk.specs.declared.walk.ShownEntry.{ShownEntry}
-use Rattle.storage_bytes.specs.Words.{bytes_at, word_at, put_bytes, word_bytes}
+use Rattle.storage_bytes.specs.Words.{bytes_at}
 use Rattle.storage.specs.Tables.{prefix_row, prefixes_part}
 use Rattle.storage.specs.Values.{number_index}
-use Rattle.storage.specs.Writes.{prefix_bytes, prefix_appended}
+use Rattle.storage.specs.Writes.{prefix_appended}
 use Rattle.storage_bytes.proofs.ListLaws.{tabulate_length}
-use Rattle.storage_bytes.proofs.WordLaws.{put_length}
 use Rattle.prefix_lookup.specs.Table.{entry_value}
 use Rattle.prefix_lookup.specs.Prefix.{witness, stored_of, row_of, find}
 use Rattle.prefix_lookup.proofs.StoredLaws.{stored_number, stored_nothing}
 use Rattle.units.specs.declared.LogPrefixWitness.{LogPrefixWitness}
-use Rattle.log_prefix.specs.Extension.{extension_in, stored_content, appended, made, extended_bytes, extended_count, extended_number, extended, next_index, extension, extension_bytes, Making, Extending, written_bytes, written_count, written_number}
+use Rattle.log_prefix.specs.Extension.{extension_in, appended, made, extended_bytes, extended_count, extended_number, extended, next_index, extension, extension_bytes, Making, Extending, written_bytes, written_count, written_number}
 use Rattle.log_prefix.specs.declared.prefix.Extended.{Extended}
 use Rattle.std.specs.Prelude.{Option, Some, None, is_some, unwrap_or}
 
@@ -58,13 +57,6 @@ pub bytes_made : (h : Bytes) (n p i : ℕ) (e : Entry) → eqb (extension_in h n
 unfolding extended_bytes
 bytes_made h n p i e t = cond_true (eqb (extension_in h n p e) 0) (appended h p i e) h t
 
--- the length stays
-appended_length : (h : Bytes) (p i t m : ℕ) (c : Bytes) → length (prefix_appended h p i t m c) ≡ length h
-unfolding prefix_appended
-appended_length h p i t m c =
-    put_length (put_bytes h (3145 + word_at h 0 2 * 41) (prefix_bytes p i t m c)) 0 (word_bytes 2 (word_at h 0 2 + 1))
-    ∙ put_length h (3145 + word_at h 0 2 * 41) (prefix_bytes p i t m c)
-
 -- the row that is written is the entry's
 pub row_made : (h h' : Bytes) (n p : ℕ) (e : ShownEntry) → Making h n e → h' ≡ prefix_appended h p e.index.0 e.term.0 e.length e.content
     → h' ≡ appended h p e.index.0 (entry_value e)
@@ -98,7 +90,7 @@ module _ (h : Bytes) (n p : ℕ) (e : ShownEntry) (q : Bytes) (eq : q ≡ prefix
     extend_making g i =
         let m = g.room i in
         let c = count_made h n p (entry_value e) nowhere in
-        record { long = g.long; count = g.count; room = omega arith; padded = g.padded }
+        record { count = g.count; room = omega arith; padded = g.padded }
 
     pub extend_made : (y : Extended) (h' : Bytes) → (y ≡ made n) × (h' ≡ appended h p e.index.0 (entry_value e)) → Made h n p e y h'
     extend_made y h' w =
@@ -169,18 +161,6 @@ count_grows (e ∷ es) h n p i =
     let a = count_grows_one h n p e in
     let b = count_grows es (extended_bytes h n p i e) (extended_count h n p e) (extended_number h n p e) (i + 1) in
     omega arith
-
-bytes_length_one : (h : Bytes) (n p i : ℕ) (e : Entry) → length (extended_bytes h n p i e) ≡ length h
-unfolding extended_bytes
-bytes_length_one h n p i e =
-    cond_cases (λ (u : Bytes). length u ≡ length h) (eqb (extension_in h n p e) 0) (appended h p i e) h
-    (λ _. appended_length h p i e.term (length e.content) (stored_content e)) (λ _. refl)
-
-pub written_same : (es : List Entry) (h : Bytes) (n p i : ℕ) → length (written_bytes h n p i es) ≡ length h
-unfolding written_bytes
-written_same [] h n p i = refl
-written_same (e ∷ es) h n p i =
-    written_same es (extended_bytes h n p i e) (extended_count h n p e) (extended_number h n p e) (i + 1) ∙ bytes_length_one h n p i e
 
 pub written_cons : (h : Bytes) (n p i : ℕ) (e : Entry) (es : List Entry)
     → (written_bytes h n p i (e ∷ es) ≡ written_bytes (extended_bytes h n p i e) (extended_count h n p e) (extended_number h n p e) (i + 1) es)

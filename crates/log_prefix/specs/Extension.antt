@@ -81,14 +81,12 @@ written_number h n p i (e ∷ es) = written_number (extended_bytes h n p i e) (e
 
 -- what making the next row asks: a history that holds n prefixes, with room for one more, and an entry as it is read
 pub record Making (h : Bytes) (n : ℕ) (e : ShownEntry) : Type 0 where
-  pub long : length h ≡ 24137
   pub count : n ≡ word_at h 0 2
   pub room : n < 512
   pub padded : e.content ≡ stored_content (entry_value e)
 
--- what `extend` asks: a history of the right length that holds n prefixes, with room for the extension, and an entry as it is read
+-- what `extend` asks: a history that holds n prefixes, with room for the extension, and an entry as it is read
 pub record Extending (h : Bytes) (n p : ℕ) (e : ShownEntry) : Type 0 where
-  pub long : length h ≡ 24137
   pub count : n ≡ word_at h 0 2
   pub number : p ≤ n
   pub fits : n ≤ 512

@@ -1,15 +1,15 @@
 // Prefixes extended (types/prefix.rs): a prefix is a stored row, which extends the prefix of a smaller number by one entry.
-ghost use Rattle.std.specs.Prelude.{◌≡◌, length};
+ghost use Rattle.std.specs.Prelude.{◌≡◌};
 ghost use Rattle.prefix_lookup.specs.Table.{entry_value};
 ghost use Rattle.log_prefix.specs.Extension.{Making, made, appended, Extending, extension, extension_bytes};
 
 use prefix_lookup::table::Prefixes;
 use prefix_rows::prefixes::{PrefixRow, append, through};
 use record_walk::walk::ShownEntry;
-use storage_bytes::layout::PREFIXES;
+use storage_bytes::layout::{History, PREFIXES};
 use units::LogPrefixWitness;
 
-// An extension, and how many prefixes are stored with it.
+// An extension, and how many prefixes are stored with it: the count goes along, so that the head is not read again at each entry.
 #[derive(Clone, Copy)]
 pub struct Extended {
     pub prefix: LogPrefixWitness,
@@ -17,7 +17,8 @@ pub struct Extended {
 }
 
 // The extension of the prefix by the entry is made: the next row.
-fn make(history: &mut [u8], count: usize, p: LogPrefixWitness, e: ShownEntry) -> Extended
+#[tactic(auto, using(crate::proofs::Written::row_made))]
+fn make(history: &mut History, count: usize, p: LogPrefixWitness, e: ShownEntry) -> Extended
     requires { Making history.old count e }
     ensures { (result ≡ made count) × (history.new ≡ appended history.old p.0 e.index.0 (entry_value e)) }
 {
@@ -29,7 +30,7 @@ fn make(history: &mut [u8], count: usize, p: LogPrefixWitness, e: ShownEntry) ->
         size: e.length,
         content,
     };
-    append(&mut history[..], row);
+    append(history, row);
     Extended {
         prefix: LogPrefixWitness(count + 1),
         count: count + 1,
@@ -39,7 +40,7 @@ fn make(history: &mut [u8], count: usize, p: LogPrefixWitness, e: ShownEntry) ->
 // The one step that lengthens a prefix: it takes the entry of the index after its last, and no other. The extension is found, or
 // made.
 pub fn extend(
-    history: &mut [u8],
+    history: &mut History,
     count: usize,
     p: LogPrefixWitness,
     e: ShownEntry,
@@ -47,13 +48,13 @@ pub fn extend(
     requires { Extending history.old count p.0 e }
     ensures { (result ≡ extension history.old count p.0 e) × (history.new ≡ extension_bytes history.old count p.0 e) }
 {
-    let rows = PREFIXES.of(&history[..]);
+    let rows = PREFIXES.array(history);
     if e.index.0 != through(rows, p).0 + 1 {
         return None;
     }
     let prefixes = Prefixes { rows, count };
     let Some(prefix) = prefixes.find_extension(p, e) else {
-        return Some(make(&mut history[..], count, p, e));
+        return Some(make(history, count, p, e));
     };
     Some(Extended { prefix, count })
 }

@@ -4,7 +4,7 @@
 use Prim.Native.Nat.{ℕ, zero, suc, ◌+◌, ◌-◌, ◌*◌, ◌<◌, ◌≤◌}
 use native.Mathlib.Omega.{arith}
 use mathlib.Core.Path.{◌≡◌, refl, sym, ◌∙◌, ap, subst}
-use mathlib.Core.Bool.{Bool, true, false, ◌&&◌, ◌||◌, true≢false, false≢true}
+use mathlib.Core.Bool.{Bool, true, false, ◌||◌}
 use mathlib.Core.Logic.{◌⊎◌, inl, inr, ⊎_elim}
 use mathlib.Core.List.Memᴰ
 use mathlib.Core.List.{List, [], ◌∷◌, ◌++◌, Memᴰ}
@@ -251,19 +251,13 @@ module _ (b : Bool) (f : Finding) (t : Bytes) (n : ℕ) where
   unfolding held_all bytes_all
   where_not e = let z : note_where b f ≡ [] = cond_false b (f ∷ []) [] e in (sym (ap (held_all t n) z), sym (ap (bytes_all t n) z))
 
-  pub where_noted : b ≡ true → (r : ℕ) (u : Bytes) → Noted t n f r u → NotedAll t n (note_where b f) r u
-  unfolding held_all bytes_all
-  where_noted e r u w =
-      let z : note_where b f ≡ f ∷ [] = cond_true b (f ∷ []) [] e in (w.0 ∙ sym (ap (held_all t n) z), w.1 ∙ sym (ap (bytes_all t n) z))
+  pub where_noted : b ≡ true → (r : ℕ) (u : Bytes) → NotedAll t n (f ∷ []) r u → NotedAll t n (note_where b f) r u
+  where_noted e r u w = subst (λ (fs : List Finding). NotedAll t n fs r u) (sym (cond_true b (f ∷ []) [] e)) w
 
 -- ---- the history's findings, copied and written
 
 pub findings_long : (h : Bytes) → well_formed h ≡ true → length (findings_part h) ≡ 1024
 findings_long h right = part_length h 2121 1024 (omega (arith, (formed h right).long))
-
--- a copy of the findings is the findings
-pub copied : (h t t' : Bytes) → length t ≡ 1024 → (q : Bytes) → q ≡ findings_part h → length q ≡ 1024 → t' ≡ put_bytes t 0 q → t' ≡ findings_part h
-copied h t t' l q eq lq e = e ∙ put_whole t q (lq ∙ sym l) ∙ eq
 
 pub written_length : (h : Bytes) (t : Bytes) (n : ℕ) → length (findings_written h t n) ≡ length h
 unfolding findings_written
@@ -319,7 +313,3 @@ module _ (h : Bytes) (f : Finding) (long : length h ≡ 24137) (held : ℕ) (eh 
 
       same : t ≡ take 1024 (drop 2121 h)
       same = en.1 ∙ cond_true (leb 128 held) _ _ (le-leb 128 held full)
-
-pub in_length : (h : Bytes) (f : Finding) → length (noted_in h f) ≡ length h
-unfolding noted_in
-in_length h f = cond_cases (λ (u : Bytes). length u ≡ length h) (room_for h f) _ h (λ _. written_length h _ _) (λ _. refl)

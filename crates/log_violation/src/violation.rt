@@ -1,16 +1,16 @@
 // Findings are noted once (types/violation.rs). A record that may bring many is judged on a copy of the history's table, so that
 // nothing is written before it is accepted; then the copy is written back. A single finding is noted in place (`note_in`).
-ghost use Rattle.std.specs.Prelude.{◌≡◌, ◌≤◌, ◌<◌, length};
+ghost use Rattle.std.specs.Prelude.{◌≡◌, ◌≤◌, ◌<◌, [], ◌∷◌, length};
 ghost use Rattle.storage_bytes.specs.Words.{word_at};
-ghost use Rattle.storage.specs.Tables.{finding_row, findings_part};
+ghost use Rattle.storage.specs.Tables.{findings_part};
 ghost use Rattle.table_rows.specs.Values.{finding_value};
-ghost use Rattle.log_violation.specs.Violation.{same_numbers, is_noted, note_held, note_bytes, NotedAll, note_where, findings_kept, fits_answer, room_answer, noted_in};
+ghost use Rattle.log_violation.specs.Violation.{same_numbers, is_noted, note_held, note_bytes, NotedAll, findings_kept, fits_answer, room_answer, noted_in};
 ghost use Rattle.answers.specs.declared.answer.Refusal.{Refusal};
 
 use answers::answer::Refusal;
 use storage::head::{finding_count, set_finding_count};
 use storage::rows::{Row, StoredRow};
-use storage_bytes::layout::{FINDINGS, FINDINGS_LENGTH};
+use storage_bytes::layout::{FINDINGS, Findings, History};
 use storage_bytes::words::put_bytes;
 use table_rows::findings::Found;
 use units::FINDING_LIMIT;
@@ -27,13 +27,12 @@ impl From<FindingsFull> for Refusal {
     }
 }
 
-// Row k is the finding.
+// Both are one finding: the comparison in the model's words.
 #[tactic(auto, unfolding(crate::specs::Violation::same_numbers))]
-fn is_finding(findings: &[u8], k: usize, f: Found) -> bool
-    requires { (k < 128) × (length findings.now ≡ 1024) }
-    ensures { result ≡ same_numbers (finding_row findings.now k) (finding_value f) }
+fn is_same(x: Found, f: Found) -> bool
+    ensures { result ≡ same_numbers (finding_value x) (finding_value f) }
 {
-    Found::at(findings, k) == f
+    x == f
 }
 
 // The finding is among the first n.
@@ -42,7 +41,7 @@ fn is_noted(findings: &[u8], n: usize, f: Found) -> bool
     ensures { result ≡ is_noted findings.now n (finding_value f) }
 {
     for k in 0..n {
-        if is_finding(findings, k, f) {
+        if is_same(Found::at(findings, k), f) {
             return true;
         }
     }
@@ -54,7 +53,7 @@ fn note(findings: &mut [u8], n: usize, f: Found) -> usize
     requires { length findings.old ≡ 1024 }
     ensures { (result ≡ note_held findings.old n (finding_value f)) × (findings.new ≡ note_bytes findings.old n (finding_value f)) }
 {
-    if FINDING_LIMIT < n || is_noted(&findings[..], n, f) {
+    if FINDING_LIMIT < n || is_noted(findings, n, f) {
         return n;
     }
     if n < FINDING_LIMIT {
@@ -63,51 +62,47 @@ fn note(findings: &mut [u8], n: usize, f: Found) -> usize
     n + 1
 }
 
-// The finding is noted among the history's own. Where there is no room for it, nothing is written.
-pub fn note_in(history: &mut [u8], f: Found) -> Result<(), FindingsFull>
-    requires { (word_at history.old 7 1 ≤ 128) × (length history.old ≡ 24137) }
+// The finding is noted among the history's own. Where there is no room for it, nothing is written. The table is lent on the spot: a
+// function that lends a region to be written was tried, and its `Lends` did not prove for a range.
+pub fn note_in(history: &mut History, f: Found) -> Result<(), FindingsFull>
+    requires { word_at history.old 7 1 ≤ 128 }
     ensures { (result ≡ room_answer history.old (finding_value f)) × (history.new ≡ noted_in history.old (finding_value f)) }
 {
-    let held = finding_count(&history[..]);
+    let held = finding_count(history);
     let a = FINDINGS.start;
     let e = a + FINDINGS.length;
     let n = note(&mut history[a..e], held, f);
     if FINDING_LIMIT < n {
         return Err(FindingsFull);
     }
-    set_finding_count(&mut history[..], n);
+    set_finding_count(history, n);
     Ok(())
 }
 
-// The findings while a record is judged: a copy of the history's table, and how many it holds. One more than the limit: there are
+// The findings while a record is judged: a copy of the history's table, in fixed memory, and how many it holds. One more than the limit: there are
 // too many. That is no error on the spot: a view's prefixes are counted to the end first, since 6 comes before 7.
 #[derive(Drop)]
 pub struct Notes {
-    pub rows: [u8; FINDINGS_LENGTH],
+    pub rows: Findings,
     pub held: usize,
 }
 
 impl Notes {
     // The history's own.
-    pub fn of(history: &[u8]) -> Notes
-        requires { length history.now ≡ 24137 }
+    pub fn of(history: &History) -> Notes
         ensures { (result.held ≡ word_at history.now 7 1) × (result.rows ≡ findings_part history.now) }
     {
-        let mut rows = [0u8; FINDINGS_LENGTH];
-        put_bytes(&mut rows, 0, FINDINGS.of(history));
         Notes {
-            rows,
+            rows: *FINDINGS.array(history),
             held: finding_count(history),
         }
     }
 
-    // The finding is noted, once, where it is told, and nothing is noted where not.
-    pub fn note_where(&mut self, told: bool, f: Found)
-        ensures { NotedAll self.old.rows self.old.held (note_where told (finding_value f)) self.new.held self.new.rows }
+    // The finding is noted, once.
+    #[tactic(auto, unfolding(crate::specs::Violation::held_all, crate::specs::Violation::bytes_all))]
+    pub fn note(&mut self, f: Found)
+        ensures { NotedAll self.old.rows self.old.held (finding_value f ∷ []) self.new.held self.new.rows }
     {
-        if !told {
-            return;
-        }
         self.held = note(&mut self.rows, self.held, f);
     }
 
@@ -123,14 +118,13 @@ impl Notes {
     }
 
     // They become the history's. As many as it holds are its own: then nothing is written.
-    pub fn keep(&self, history: &mut [u8])
-        requires { length history.old ≡ 24137 }
+    pub fn keep(&self, history: &mut History)
         ensures { history.new ≡ findings_kept history.old self.now.rows self.now.held }
     {
-        if self.held == finding_count(&history[..]) {
+        if self.held == finding_count(history) {
             return;
         }
-        put_bytes(&mut history[..], FINDINGS.start, &self.rows);
-        set_finding_count(&mut history[..], self.held);
+        put_bytes(history, FINDINGS.start, &self.rows);
+        set_finding_count(history, self.held);
     }
 }

@@ -23,17 +23,16 @@ use Rattle.prefix_lookup.specs.Prefix.{search_from, find}
 use Rattle.log_violation.specs.Violation.{findings_kept}
 use Rattle.view_writing.specs.Observation.{Storing, view_replaced, rest_written}
 use Rattle.logical_log.specs.Observation.{view_written, observed, observed_bytes}
-use Rattle.view_judging.specs.Judging.{next_number, front_at, last_at, Stand, place_in, missing_in, notes_in, held_in, table_in, Observing, ViewJudged}
-use Rattle.log_prefix.specs.Extension.{next_index, extension_in, extended_bytes, extended_count, extended_number, written_bytes, written_count, written_number}
+use Rattle.view_judging.specs.Judging.{next_number, front_at, Stand, place_in, missing_in, notes_in, held_in, table_in, ViewJudged}
+use Rattle.log_prefix.specs.Extension.{next_index, extension_in, extended_bytes, extended_count, extended_number, written_count}
+use Rattle.record_walk.proofs.Views.{walked}
 use Rattle.view_judging.proofs.Places.{Ended}
 use Rattle.view_judging.proofs.Rest.{Rest, rest_of}
 use Rattle.view_judging.proofs.Judged.{place_in_ended, place_in_stands, missing_most}
-use Rattle.log_prefix.proofs.Written.{number_made, count_made, written_same}
+use Rattle.log_prefix.proofs.Written.{number_made, count_made}
 use Rattle.log_violation.proofs.ViolationLaws.{all_length, findings_long}
-use Rattle.log_violation.proofs.Kept.{kept_length}
 use Rattle.logical_log.specs.declared.observation.ViewRefusal.{ViewRefusal}
 use Rattle.view_judging.specs.declared.judging.Place.{Place}
-use Rattle.view_writing.proofs.Whole.{replaced_length}
 
 -- ---- room: as many are made as are missing
 
@@ -97,22 +96,23 @@ rest_written_lem h s m node t held w = sym (λ i. findings_kept (view_replaced (
 
 -- ---- the answer
 
-module _ (limit : ℕ) (h s : Bytes) (m node missing held count : ℕ) (r : Place) (t : Bytes) (o : Observing h s m node) (j : ViewJudged h s m node missing held r t) (e : count ≡ word_at h 0 2) where
+module _ {h s : Bytes} {m node missing held count : ℕ} {r : Place} {t : Bytes} (right : well_formed h ≡ true) (walk : ∥ Walk s first_entry m ∥₁)
+    (j : ViewJudged h s m node missing held r t) (e : count ≡ word_at h 0 2) where
   total : count + missing ≡ word_at h 0 2 + missing_in h s m
   total = λ i. e i + j.lack i
 
   rest : Rest h s m (place_in h s m)
-  rest = rest_of h (formed h o.right) s m o.walk
+  rest = rest_of h (formed h right) s m (walked s first_entry m walk)
 
   pub total_small : count + missing ≤ 768
-  total_small = (let a = total in let b = (formed h o.right).prefixes in let c = missing_most h s m o.walk in omega arith)
+  total_small = (let a = total in let b = (formed h right).prefixes in let c = missing_most h s m (walked s first_entry m walk) in omega arith)
 
-  abbrev As : Result ⊤ ViewRefusal → Bytes → Type 0
-  As r u = (r ≡ observed limit h s m node) × (u ≡ observed_bytes limit h s m node)
+  abbrev As : ℕ → Result ⊤ ViewRefusal → Bytes → Type 0
+  As limit r u = (r ≡ observed limit h s m node) × (u ≡ observed_bytes limit h s m node)
 
   -- told the limit as it was read
-  module _ (most : ℕ) (em : most ≡ limit) where
-    pub observed_six : most < count + missing → As (Err ViewRefusal.PrefixesFull) h
+  module _ {most limit : ℕ} (em : most ≡ limit) where
+    pub observed_six : most < count + missing → As limit (Err ViewRefusal.PrefixesFull) h
     unfolding observed observed_bytes
     observed_six l =
         let b : ltb limit (word_at h 0 2 + missing_in h s m) ≡ true = lt-ltb limit _ (subst₂ (λ (x y : ℕ). x < y) em total l) in
@@ -122,7 +122,7 @@ module _ (limit : ℕ) (h s : Bytes) (m node missing held count : ℕ) (r : Plac
       no_six : ltb limit (word_at h 0 2 + missing_in h s m) ≡ false
       no_six = le-ltb limit _ (subst₂ (λ (x y : ℕ). x ≤ y) total em l)
 
-      pub observed_seven : 128 < held → As (Err ViewRefusal.FindingsFull) h
+      pub observed_seven : 128 < held → As limit (Err ViewRefusal.FindingsFull) h
       unfolding observed observed_bytes
       observed_seven g =
           let b : ltb 128 (held_in h s m node) ≡ true = lt-ltb 128 _ (subst (λ (x : ℕ). 128 < x) j.holds g) in (
@@ -130,7 +130,7 @@ module _ (limit : ℕ) (h s : Bytes) (m node missing held count : ℕ) (r : Plac
             sym (cond_false (ltb limit (word_at h 0 2 + missing_in h s m)) h _ no_six ∙ cond_true (ltb 128 (held_in h s m node)) h _ b),
           )
 
-      pub observed_ok : held ≤ 128 → (u : Bytes) → u ≡ rest_written h count s r node t held → As (Ok tt) u
+      pub observed_ok : held ≤ 128 → (u : Bytes) → u ≡ rest_written h count s r node t held → As limit (Ok tt) u
       unfolding observed observed_bytes
       observed_ok g u w =
           let b : ltb 128 (held_in h s m node) ≡ false = le-ltb 128 _ (subst (λ (x : ℕ). x ≤ 128) j.holds g) in (
@@ -143,25 +143,16 @@ module _ (limit : ℕ) (h s : Bytes) (m node missing held count : ℕ) (r : Plac
       pub observed_room : limit ≤ 512 → Storing h count s r
       observed_room g =
           record {
-            right = o.right;
+            right = right;
             count = e;
-            stands = subst₂ (Stand s) (sym e) (sym j.place) (place_in_stands h s m o.walk);
+            stands = subst₂ (Stand s) (sym e) (sym j.place) (place_in_stands h s m (walked s first_entry m walk));
             next = ap (λ (x : Place). x.index.0) j.place ∙ rest.next ∙ sym (ap (λ (x : Place). next_index h x.prefix.0) j.place);
             room = subst (λ (x : ℕ). x ≤ 512)
                 (sym ((λ i. written_count h (e i) (j.place i).prefix.0 (j.place i).index.0 (front_at s (j.place i))) ∙ missing_count h s m))
                 (let a = total in let b = em in omega arith);
           }
 
--- ---- lengths
-
+-- the table with its LG-03 is as long as the history's
 pub table_length : (h s : Bytes) (m node : ℕ) → well_formed h ≡ true → length (table_in h s m node) ≡ 1024
 unfolding table_in
 table_length h s m node right = all_length (notes_in h s m node) (findings_part h) (word_at h 7 1) ∙ findings_long h right
-
-pub written_length : (h : Bytes) (n : ℕ) (s : Bytes) (r : Place) (node : ℕ) (t : Bytes) (held : ℕ) → length (rest_written h n s r node t held) ≡ length h
-unfolding rest_written
-written_length h n s r node t held =
-    let a = written_bytes h n r.prefix.0 r.index.0 (front_at s r) in
-    let p = written_number h n r.prefix.0 r.index.0 (front_at s r) in
-    kept_length (view_replaced a node p (last_at s r)) t held ∙ replaced_length a node p (last_at s r)
-    ∙ written_same (front_at s r) h n r.prefix.0 r.index.0

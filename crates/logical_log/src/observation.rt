@@ -1,17 +1,20 @@
 // Observation of a view (observation.rs): judged, then written.
-ghost use Rattle.std.specs.Prelude.{◌≡◌, min};
-ghost use Rattle.view_judging.specs.Judging.{Observing};
+ghost use Rattle.std.specs.Prelude.{◌≡◌, true, min};
+ghost use Rattle.storage.specs.Rules.{well_formed};
 ghost use Rattle.logical_log.specs.Observation.{refusal_of, observed, observed_bytes};
 ghost use Rattle.logical_log.specs.declared.observation.ViewRefusal.{ViewRefusal};
 
 use answers::answer::Refusal;
 use log_violation::violation::FindingsFull;
+use record_walk::view::View;
 use storage::head::prefix_count;
-use units::{NodeId, PREFIX_LIMIT};
+use storage::stored::Stored;
+use storage_bytes::layout::History;
+use units::PREFIX_LIMIT;
 use view_judging::judging::judge_view;
 use view_writing::writing::write_view;
 
-// Why a view is refused.
+// Why a view is refused. An enum of its own, so that a contract rules every other refusal out.
 #[derive(Clone, Copy, PartialEq, Eq)]
 pub enum ViewRefusal {
     // 6: the stored prefixes would exceed their limit.
@@ -39,21 +42,18 @@ impl From<ViewRefusal> for Refusal {
     }
 }
 
-// A view of `entries` entries (kind 1): 6 when the stored prefixes would exceed `limit`, 7 when the findings would exceed 128; else
-// each prefix of its front is stored, its LG-03 noted, and the node's front and last index replaced. A refused one leaves every
-// byte.
+// A view (kind 1): 6 when the stored prefixes would exceed `limit`, 7 when the findings would exceed 128; else each prefix of its front
+// is stored, its LG-03 noted, and the node's front and last index replaced. A refused one leaves every byte.
 pub fn observe_prefixes(
-    history: &mut [u8],
-    view: &[u8],
-    entries: usize,
-    node: NodeId,
+    history: &mut History,
+    view: View<'_>,
     limit: usize,
 ) -> Result<(), ViewRefusal>
-    requires { Observing history.old view.now entries node.0 }
-    ensures { (result ≡ observed (min limit 512) history.old view.now entries node.0) × (history.new ≡ observed_bytes (min limit 512) history.old view.now entries node.0) }
+    requires { well_formed history.old ≡ true }
+    ensures { (result ≡ observed (min limit 512) history.old view.entry.bytes.now view.entry.entries view.entry.node.0) × (history.new ≡ observed_bytes (min limit 512) history.old view.entry.bytes.now view.entry.entries view.entry.node.0) }
 {
-    let judged = judge_view(&history[..], view, entries, node);
-    let count = prefix_count(&history[..]);
+    let judged = judge_view(Stored { bytes: &*history }, view);
+    let count = prefix_count(history);
     let total = count + judged.missing;
     let most = limit.min(PREFIX_LIMIT); // never more than the table holds
     if most < total {
@@ -61,6 +61,6 @@ pub fn observe_prefixes(
     }
     judged.notes.fits()?;
     let rest = judged.rest;
-    write_view(&mut history[..], count, view, rest, node, &judged.notes);
+    write_view(history, count, view.bytes, rest, view.node, &judged.notes);
     Ok(())
 }

@@ -11,17 +11,14 @@ use Rattle.units.specs.declared.LogPrefixWitness.{LogPrefixWitness}
 use Rattle.prefix_lookup.proofs.TableLaws.{whole_table, slice_within}
 use Rattle.std.specs.Prelude.{Option, Some}
 
-module _ (h : Bytes) (n : ℕ) (q : Bytes) (eq : q ≡ nodes_part h) (x : NodeRow) (ex : x ≡ row_of_node q n) where
-  pub node_read : x ≡ row_of_node (nodes_part h) n
-  node_read = ex ∙ ap (λ (r : Bytes). row_of_node r n) eq
-
+module _ (h : Bytes) (n : ℕ) (x : NodeRow) (ex : x ≡ row_of_node (nodes_part h) n) where
   pub front_within : Formed h → n < 64 → x.front ≤ word_at h 0 2
-  front_within f l = subst (λ (y : NodeRow). y.front ≤ word_at h 0 2) (sym node_read) (f.node n l).front
+  front_within f l = subst (λ (y : NodeRow). y.front ≤ word_at h 0 2) (sym ex) (f.node n l).front
 
   pub through_is : (u : Bytes) → u ≡ prefixes_part h → (i : ℕ) (r : Option LogPrefixWitness) → r ≡ slice_of (prefix_row u) x.front i → r ≡ front_through h n i
   unfolding front_through
   through_is u eu i r e =
-      e ∙ ap (λ (y : Bytes). slice_of (prefix_row y) x.front i) eu ∙ ap (λ (y : NodeRow). slice_of (prefix_row (prefixes_part h)) y.front i) node_read
+      e ∙ ap (λ (y : Bytes). slice_of (prefix_row y) x.front i) eu ∙ ap (λ (y : NodeRow). slice_of (prefix_row (prefixes_part h)) y.front i) ex
 
 -- a part of a front is stored
 pub through_stored : (h : Bytes) (n i : ℕ) (p : LogPrefixWitness) → Formed h → n < 64 → front_through h n i ≡ Some p → p.0 ≤ word_at h 0 2

@@ -1,20 +1,23 @@
 -- The turns of the loops over stored prefixes: what is left of a search and of a slice, each from what was left before. Each law
 -- takes the loop's invariant first.
 -- Assumes nothing.
-use Prim.Native.Nat.{ℕ, zero, suc, ◌+◌, ◌-◌, ◌*◌, ◌<◌, ◌≤◌, min}
+use Prim.Native.Nat.{ℕ, zero, suc, ◌+◌, ◌-◌, ◌*◌, ◌<◌, ◌≤◌}
 use native.Mathlib.Omega.{arith}
 use mathlib.Core.Path.{◌≡◌, refl, sym, ◌∙◌, ap, subst}
 use mathlib.Core.Bool.{Bool, true, false, cond, not}
 use lib.Dec.{leb, ltb, eqb}
-use lib.ListN.{length}
+use lib.ListN.{length, take}
 use Rattle.std.proofs.lemmas.Bool.{not-true, not-false}
 use borrow.Author.Tests.{eqb-true, eqb-false, eq-eqb, ne_eqb, le-leb, lt-leb, lt-ltb, le-ltb}
 use Rattle.model.specs.Sizes.{Bytes}
 use Rattle.model.proofs.Tests.{cond_true, cond_false}
-use Rattle.storage_bytes.specs.Words.{word_at, bytes_at, same_bytes}
+use Rattle.storage_bytes.specs.Words.{word_at, bytes_at}
 use Rattle.storage.specs.Tables.{PrefixRow, prefix_row}
 use Rattle.storage.specs.Rules.{same_row}
+use Rattle.storage_bytes.specs.Layout.{part}
 use Rattle.storage_bytes.proofs.ListLaws.{tabulate_length}
+use Rattle.storage_bytes.proofs.ByteTurns.{part_bytes, pointwise_bytes}
+use Rattle.std.specs.Cmp.Lexicographic.{pointwise}
 use Rattle.units.specs.declared.LogPrefixWitness.{LogPrefixWitness}
 use Rattle.prefix_lookup.specs.Prefix.{witness, row_of, search_from, slice_from, slice_of}
 use Rattle.storage.specs.Values.{index_of, number_index}
@@ -47,6 +50,11 @@ are_other {a} {b} e = eqb-false a b (not-true (eqb a b) (sym e))
 
 -- ---- a row held against an extension, from what was read of it
 
+-- the bytes that count, cut from the 32
+content_is : (bs : Bytes) (n : ℕ) → n ≤ length bs → take n bs ≡ bytes_at bs 0 n
+unfolding part
+content_is bs n h = part_bytes bs 0 n (omega arith)
+
 module _ (t c : Bytes) (k p term n a b m : ℕ) (ea : a ≡ word_at t (k * 41) 2) where
   abbrev Extension : PrefixRow
   Extension = row_of p 0 (record { term = term; content = bytes_at c 0 n })
@@ -69,11 +77,10 @@ module _ (t c : Bytes) (k p term n a b m : ℕ) (ea : a ≡ word_at t (k * 41) 2
       unfolding same_row
       match_size d = rw (size_is, ← ea, eq-eqb a p da, ← eb, eq-eqb b term db, ← em, ne_eqb m n d)
 
-      pub match_content : m ≡ n → n ≤ 32 → (r : Bool) → r ≡ same_bytes (bytes_at t (k * 41 + 9) n) (bytes_at c 0 n) → r ≡ same_row (prefix_row t k) Extension
+      pub match_content : m ≡ n → n ≤ length c → (r : Bool) → r ≡ pointwise eqb (prefix_row t k).content (take n c) → r ≡ same_row (prefix_row t k) Extension
       unfolding same_row
       match_content d h r e =
-          let mk : min (word_at t (k * 41 + 8) 1) 32 ≡ n = (let x = em in omega arith) in
-          rw (mk, size_is, ← ea, eq-eqb a p da, ← eb, eq-eqb b term db, ← em, eq-eqb m n d) e
+          rw (size_is, ← ea, eq-eqb a p da, ← eb, eq-eqb b term db, ← em, eq-eqb m n d) (rw (pointwise_bytes, content_is c n h, ← em) at e)
 
 -- ---- numbers and places: number p stands at place p - 1
 
@@ -85,10 +92,6 @@ parent_within w e l h = omega arith
 
 pub parent_below : {p a : ℕ} (w : ℕ) → a ≡ w → w ≤ p - 1 → (p ≡ 0 → ⊥) → a < p
 parent_below w e l z = omega arith
-
--- the content of row k lies within the table
-pub content_within : (t : Bytes) {k n m : ℕ} → length t ≡ 20992 → m ≤ 512 → k < m → n ≤ 32 → k * 41 + 9 + n ≤ length t
-content_within t a b c d = omega arith
 
 -- ---- the slice of a prefix
 

@@ -2,7 +2,8 @@
 -- Assumes nothing.
 use Prim.Native.Nat.{ℕ, suc, ◌+◌, ◌-◌, ◌*◌, ◌<◌, ◌≤◌}
 use native.Mathlib.Omega.{arith}
-use mathlib.Core.Path.{◌≡◌, sym, ◌∙◌, ap, subst, subst₂}
+use mathlib.Core.Path.{◌≡◌, refl, sym, ◌∙◌, ap, subst, subst₂}
+use mathlib.Core.Bool.{true}
 use mathlib.Core.Logic.{⊎_elim}
 use lib.ListN.{length}
 use Rattle.model.specs.Sizes.{Bytes}
@@ -11,7 +12,8 @@ use Rattle.storage.specs.Tables.{PrefixRow, prefix_row, rows_of_prefixes, prefix
 use Rattle.storage.specs.Values.{index_of}
 use Rattle.storage_bytes.proofs.ListLaws.{tabulate_length, tabulate_at}
 use Rattle.storage_bytes.proofs.PartLaws.{part_length}
-use Rattle.storage.proofs.WellFormed.{Formed}
+use Rattle.storage.specs.Rules.{well_formed}
+use Rattle.storage.proofs.WellFormed.{Formed, formed}
 use Rattle.storage.proofs.RowFacts.{Facts, empty_row, rows_sized, facts_of}
 use Rattle.prefix_lookup.specs.Table.{Table}
 use Rattle.units.specs.declared.LogPrefixWitness.{LogPrefixWitness}
@@ -38,6 +40,10 @@ whole_table h f = record { long = part_length h 3145 20992 (omega (arith, f.long
 
 pub table_lent : (h q : Bytes) (n : ℕ) → Formed h → q ≡ prefixes_part h → n ≡ word_at h 0 2 → Table q n
 table_lent h q n f e m = subst₂ Table (sym e) (sym m) (whole_table h f)
+
+-- of a stored history, a cut asks only that its prefix is stored
+pub lent_asks : (h : Bytes) → well_formed h ≡ true → (q : Bytes) → q ≡ prefixes_part h → (p : ℕ) → p ≤ word_at h 0 2 → (n : ℕ) × Table q n × (p ≤ n)
+lent_asks h w q e p l = (word_at h 0 2, table_lent h q _ (formed h w) e refl, l)
 
 -- a slice of a stored prefix is stored
 pub slice_within : (t : Bytes) (n p i : ℕ) (q : LogPrefixWitness) → Table t n → p ≤ n → slice_of (prefix_row t) p i ≡ Some q → q.0 ≤ n

@@ -1,23 +1,22 @@
 // Stored prefixes are found by what they extend or by index and term, and cut at an index (types/prefix.rs); so is a node's front.
-ghost use Rattle.std.specs.Prelude.{◌≡◌, true, ℕ, ◌≤◌, ◌<◌, length};
+ghost use Rattle.std.specs.Prelude.{◌≡◌, ℕ, ◌≤◌, ◌<◌};
 ghost use Rattle.storage.specs.Tables.{prefix_row};
-ghost use Rattle.storage.specs.Rules.{same_row, well_formed};
+ghost use Rattle.storage.specs.Rules.{same_row};
 ghost use Rattle.prefix_lookup.specs.Table.{Table, entry_value};
 ghost use Rattle.prefix_lookup.specs.Prefix.{row_of, find, is_of, first, stored_of, slice_of, front_through};
 
 use crate::table::Prefixes;
-use prefix_rows::prefixes::{index_at, parent_at, size_at, term_at, through};
+use prefix_rows::prefixes::{content_at, index_at, parent_at, size_at, term_at, through};
 use record_walk::walk::ShownEntry;
-use storage::rows::StoredRow;
-use storage_bytes::layout::{NODES, PREFIX_CONTENT, PREFIX_WIDTH, PREFIXES};
-use storage_bytes::words::same_bytes;
-use table_rows::nodes::Node;
+use storage::stored::Stored;
+use storage_bytes::layout::{PREFIXES, PrefixTable};
+use table_rows::nodes::node_of;
 use units::{LogIndex, LogPrefixWitness, NodeId, Term};
 
-// Row k extends the prefix by the entry (`matches_extension`).
-fn matches_extension(prefixes: &[u8], k: usize, p: LogPrefixWitness, e: ShownEntry) -> bool
-    requires { (k < 512) × (length prefixes.now ≡ 20992) × (e.length ≤ 32) }
-    ensures { result ≡ same_row (prefix_row prefixes.now k) (row_of p.0 0 (entry_value e)) }
+// Row k extends the prefix by the entry (`matches_extension`). Field by field, as rows are compared where the rules are tested.
+fn matches_extension(prefixes: &PrefixTable, k: usize, p: LogPrefixWitness, e: &ShownEntry) -> bool
+    requires { (k < 512) × (e.now.length ≤ 32) }
+    ensures { result ≡ same_row (prefix_row prefixes.now k) (row_of p.0 0 (entry_value e.now)) }
 {
     if parent_at(prefixes, k) != p {
         return false;
@@ -25,17 +24,15 @@ fn matches_extension(prefixes: &[u8], k: usize, p: LogPrefixWitness, e: ShownEnt
     if term_at(prefixes, k) != e.term {
         return false;
     }
-    let n = e.length;
-    if size_at(prefixes, k) != n {
+    if size_at(prefixes, k) != e.length {
         return false;
     }
-    let content = e.content;
-    same_bytes(prefixes, k * PREFIX_WIDTH + PREFIX_CONTENT, &content, 0, n)
+    content_at(prefixes, k) == e.content()
 }
 
 // Row k is of the index and term.
-fn is_of(prefixes: &[u8], k: usize, index: LogIndex, term: Term) -> bool
-    requires { (k < 512) × (length prefixes.now ≡ 20992) }
+fn is_of(prefixes: &PrefixTable, k: usize, index: LogIndex, term: Term) -> bool
+    requires { k < 512 }
     ensures { result ≡ is_of index.0 term.0 (prefix_row prefixes.now k) }
 {
     index_at(prefixes, k) == index && term_at(prefixes, k) == term
@@ -43,12 +40,13 @@ fn is_of(prefixes: &[u8], k: usize, index: LogIndex, term: Term) -> bool
 
 impl<'a> Prefixes<'a> {
     // The stored prefix that extends the given one by the entry. It comes after that one.
+    #[tactic(auto, unfolding(crate::specs::Prefix::find))]
     pub fn find_extension(self, p: LogPrefixWitness, e: ShownEntry) -> Option<LogPrefixWitness>
         requires { (p.0 ≤ self.count) × (e.length ≤ 32) }
         ensures { result ≡ stored_of (find (prefix_row self.entry.rows.now) self.entry.count (row_of p.0 0 (entry_value e))) }
     {
         for k in p.0..self.count {
-            if matches_extension(self.rows, k, p, e) {
+            if matches_extension(self.rows, k, p, &e) {
                 return Some(LogPrefixWitness(k + 1));
             }
         }
@@ -56,6 +54,7 @@ impl<'a> Prefixes<'a> {
     }
 
     // The first stored prefix of the index and term. A prefix's number is at least its index.
+    #[tactic(auto, unfolding(crate::specs::Prefix::first))]
     pub fn first_of(self, index: LogIndex, term: Term) -> Option<LogPrefixWitness>
         requires { 1 ≤ index.0 }
         ensures { result ≡ stored_of (first (prefix_row self.entry.rows.now) self.entry.count index.0 term.0) }
@@ -70,9 +69,9 @@ impl<'a> Prefixes<'a> {
 }
 
 // The prefix through the index: nothing beyond its end, the empty prefix at zero. Each prefix goes through one index more than the
-// one it extends, so its end is read once.
+// one it extends, so its end is read once. How many are stored only its proof uses: a struct would hold a number that no code reads.
 pub fn slice_through(
-    prefixes: &[u8],
+    prefixes: &PrefixTable,
     p: LogPrefixWitness,
     index: LogIndex,
 ) -> Option<LogPrefixWitness>
@@ -91,10 +90,11 @@ pub fn slice_through(
 }
 
 // The node's front through the index; a node without a view has the empty front.
-pub fn front_through(history: &[u8], node: NodeId, index: LogIndex) -> Option<LogPrefixWitness>
-    requires { (well_formed history.now ≡ true) × (node.0 < 64) }
-    ensures { result ≡ front_through history.now node.0 index.0 }
+pub fn front_through(history: Stored<'_>, node: NodeId, index: LogIndex) -> Option<LogPrefixWitness>
+    requires { node.0 < 64 }
+    ensures { result ≡ front_through history.entry.bytes.now node.0 index.0 }
 {
-    let x = Node::at(NODES.of(history), usize::from(node.0));
-    slice_through(PREFIXES.of(history), x.front, index)
+    let bytes = history.bytes;
+    let x = node_of(bytes, node);
+    slice_through(PREFIXES.array(bytes), x.front, index)
 }

@@ -20,11 +20,11 @@ use Rattle.record_walk.proofs.Walks.{next_walk, walk_entered, here, entry_conten
 use Rattle.storage.specs.Tables.{PrefixRow, prefix_row}
 use Rattle.storage.proofs.RowLaws.{bytes_take}
 use Rattle.prefix_lookup.specs.Table.{entry_value}
-use Rattle.log_violation.specs.Violation.{held_all, bytes_all, NotedAll, note_where}
+use Rattle.log_violation.specs.Violation.{held_all, bytes_all, NotedAll}
 use Rattle.prefix_lookup.specs.Prefix.{witness, stored_of, first}
 use Rattle.units.specs.declared.LogPrefixWitness.{LogPrefixWitness}
 use Rattle.log_comparison.specs.Comparison.{same_from}
-use Rattle.view_judging.specs.Judging.{differs, other, is_remembered, lg03, note_of, lack_notes, next_number, place_at, front_at, Stand, ends_at, place_from, stored_notes, ReachedAs, LackingAs}
+use Rattle.view_judging.specs.Judging.{differs, other, is_remembered, note_of, lack_notes, next_number, place_at, front_at, Stand, ends_at, place_from, stored_notes, ReachedAs, LackingAs}
 use Rattle.view_judging.specs.declared.judging.Place.{Place}
 use Rattle.prefix_lookup.proofs.StoredLaws.{stored_number, stored_nothing}
 use Rattle.log_violation.proofs.ViolationLaws.{held_then, bytes_then}
@@ -66,11 +66,6 @@ remembered_is row n i t = by (eqb (first row n i t) 0)
     by : (b : Bool) → is_some (cond b None (Some (witness (first row n i t)))) ≡ not b
     by true = refl
     by false = refl
-
--- the finding that is noted is LG-03 of the entry
-pub noted_lg03 : (t : Bytes) (n : ℕ) (b : Bool) (node i term : ℕ) (f : Finding) → f ≡ lg03 node i term
-    → (n' : ℕ) (t' : Bytes) → NotedAll t n (note_where b f) n' t' → NotedAll t n (note_of b node i term) n' t'
-noted_lg03 t n b node i term f e n' t' w = subst (λ (g : Finding). NotedAll t n (note_where b g) n' t') e w
 
 -- ---- an entry as it is read
 
@@ -247,17 +242,6 @@ pub record Lacking (ps : Bytes) (count : ℕ) (s : Bytes) (r : Place) (node : �
   pub below : missing < x.index.0
 
 module _ (ps : Bytes) (count : ℕ) (s : Bytes) (r : Place) (node : ℕ) (t₀ : Bytes) (held : ℕ) where
-  pub lacking_starts : Stand s count r → Lacking ps count s r node t₀ held t₀ r 0 held
-  lacking_starts w =
-      record {
-        lacks = omega arith;
-        holds = refl;
-        table = refl;
-        walk = w.walk;
-        small = w.small;
-        below = w.positive;
-      }
-
   module _ (t : Bytes) (x : Place) (missing n : ℕ) (j : Lacking ps count s r node t₀ held t x missing n) where
     pub lacking_ends : front_at s x ≡ [] → LackingAs ps count s r.at r.left r.index.0 node t₀ held missing n t
     unfolding lack_notes held_all bytes_all

@@ -1,6 +1,6 @@
 -- A view judged on the rows of the prefix table, in the order of the walks along its front: nothing is written.
 -- Assumes nothing.
-use Rattle.std.specs.Prelude.{ℕ, zero, suc, ◌+◌, ◌-◌, ◌≤◌, ◌<◌, ◌≡◌, Bool, true, cond, not, ◌&&◌, ◌||◌, List, [], ◌∷◌, ◌++◌, eqb, length}
+use Rattle.std.specs.Prelude.{ℕ, zero, suc, ◌+◌, ◌-◌, ◌≤◌, ◌≡◌, Bool, cond, not, ◌&&◌, ◌||◌, List, [], ◌∷◌, ◌++◌, eqb, length}
 use Rattle.model.specs.Entry.{Entry}
 use Rattle.model.specs.History.{Finding}
 use Rattle.model.specs.Sizes.{Bytes}
@@ -8,7 +8,6 @@ use Rattle.model.specs.Record.{front_from, last_from}
 use Rattle.record_scan.specs.Places.{Walk, first_entry, index_at, next_at, shown_at, entries_at}
 use Rattle.storage_bytes.specs.Words.{word_at}
 use Rattle.storage.specs.Tables.{PrefixRow, prefix_row, prefixes_part, findings_part}
-use Rattle.storage.specs.Rules.{well_formed}
 use Rattle.view_judging.specs.declared.judging.Place.{Place}
 use Rattle.prefix_lookup.specs.Prefix.{row_of, find, first}
 use Rattle.log_comparison.specs.Comparison.{same_from}
@@ -136,12 +135,6 @@ held_in h s m node = held_all (findings_part h) (word_at h 7 1) (notes_in h s m 
 unfoldable pub table_in : Bytes → Bytes → ℕ → ℕ → Bytes
 unfolding bytes_all notes_in
 table_in h s m node = bytes_all (findings_part h) (word_at h 7 1) (notes_in h s m node)
-
--- well-formed storage, and a readable view of m entries of a node
-pub record Observing (h s : Bytes) (m node : ℕ) : Type 0 where
-  pub right : well_formed h ≡ true
-  pub walk : Walk s first_entry m
-  pub is_node : node < 64
 
 -- what judging a view comes to
 pub record ViewJudged (h s : Bytes) (m node missing held : ℕ) (r : Place) (t : Bytes) : Type 0 where

@@ -1,16 +1,18 @@
 // A view judged along its front (`observe_entries` of observation.rs), with nothing written: first as far as its prefixes are
 // stored, then the rest, where none is.
 ghost use Rattle.std.specs.Prelude.{◌≡◌, ◌+◌, ◌-◌, ◌≤◌};
-ghost use Rattle.record_scan.specs.Places.{Walk, first_entry};
+ghost use Rattle.record_scan.specs.Places.{first_entry};
 ghost use Rattle.storage.specs.Tables.{prefix_row};
 ghost use Rattle.prefix_lookup.specs.Table.{Table};
-ghost use Rattle.table_rows.specs.Values.{finding_value};
-ghost use Rattle.view_judging.specs.Judging.{other, lg03, place_at, Stand, ReachedAs, LackingAs, Observing, ViewJudged};
+ghost use Rattle.log_violation.specs.Violation.{NotedAll};
+ghost use Rattle.view_judging.specs.Judging.{other, note_of, place_at, Stand, ReachedAs, LackingAs, ViewJudged};
 
 use log_comparison::comparison::same_prefix;
 use log_violation::violation::Notes;
 use prefix_lookup::table::Prefixes;
-use record_walk::walk::{FIRST_ENTRY, entry_at};
+use record_walk::view::View;
+use record_walk::walk::{Entries, FIRST_ENTRY, ShownEntry, entry_at};
+use storage::stored::Stored;
 use table_rows::findings::{Found, LG_03};
 use units::{LogIndex, LogPrefixWitness, NodeId, Term};
 
@@ -45,7 +47,7 @@ fn first_place(entries: usize) -> Place
 }
 
 // The place one entry further, where the next one begins at bit `at` and `prefix` is the last stored one before it.
-pub fn place_after(here: Place, at: usize, prefix: LogPrefixWitness) -> Place
+fn place_after(here: Place, at: usize, prefix: LogPrefixWitness) -> Place
     requires { (1 ≤ here.left) × (here.index.0 ≤ 257) }
     ensures { result ≡ place_at at (here.left - 1) (here.index.0 + 1) prefix.0 }
 {
@@ -68,34 +70,31 @@ fn is_other(prefixes: Prefixes<'_>, index: LogIndex, term: Term, p: LogPrefixWit
     !same_prefix(prefixes.rows, remembered, p)
 }
 
-// LG-03 of an entry.
-fn lg03(node: NodeId, index: LogIndex, term: Term) -> Found
-    ensures { finding_value result ≡ lg03 node.0 index.0 term.0 }
+// LG-03 of an entry is noted where another prefix is remembered for it.
+#[tactic(auto, unfolding(log_violation::specs::Violation::held_all, log_violation::specs::Violation::bytes_all))]
+fn note_lg03(notes: &mut Notes, differs: bool, node: NodeId, e: ShownEntry)
+    ensures { NotedAll notes.old.rows notes.old.held (note_of differs node.0 e.index.0 e.term.0) notes.new.held notes.new.rows }
 {
-    Found {
-        name: LG_03,
-        node,
-        index,
-        term,
+    if differs {
+        notes.note(Found {
+            name: LG_03,
+            node,
+            index: e.index,
+            term: e.term,
+        });
     }
 }
 
-// The walk along the front of a view of `entries` entries as far as its prefixes are stored: the place where it ends. LG-03 is noted
-// where another prefix is remembered for an entry (`reconcile_prefix`).
-fn judge_stored(
-    prefixes: Prefixes<'_>,
-    view: &[u8],
-    entries: usize,
-    node: NodeId,
-    notes: &mut Notes,
-) -> Place
-    requires { Table prefixes.rows.now prefixes.count × Walk view.now first_entry entries }
-    ensures { ReachedAs prefixes.entry.rows.now prefixes.entry.count view.now entries node.0 notes.old.rows notes.old.held notes.new.held result notes.new.rows }
+// The walk along the front of a view as far as its prefixes are stored: the place where it ends. LG-03 is noted where another prefix
+// is remembered for an entry (`reconcile_prefix`).
+fn judge_stored(prefixes: Prefixes<'_>, view: View<'_>, notes: &mut Notes) -> Place
+    requires { Table prefixes.rows.now prefixes.count }
+    ensures { ReachedAs prefixes.entry.rows.now prefixes.entry.count view.entry.bytes.now view.entry.entries view.entry.node.0 notes.old.rows notes.old.held notes.new.held result notes.new.rows }
 {
-    let mut here = first_place(entries);
-    // a place tells how many entries are left: a range would count them again
+    let mut here = first_place(view.entries);
+    // it stops before an entry that an iterator would have taken: the second walk begins there
     while 0 < here.left {
-        let e = entry_at(view, here.at);
+        let e = entry_at(view.bytes, here.at);
         if e.index != here.index {
             break;
         }
@@ -103,7 +102,7 @@ fn judge_stored(
             break;
         };
         let differs = is_other(prefixes, e.index, e.term, next);
-        notes.note_where(differs, lg03(node, e.index, e.term));
+        note_lg03(notes, differs, view.node, e);
         here = place_after(here, e.next, next);
     }
     here
@@ -111,41 +110,36 @@ fn judge_stored(
 
 // The walk along the rest of the front, whose prefixes are not stored: how many they are. LG-03 is noted where a prefix is
 // remembered for an entry: it is another one than any that is not stored.
-fn judge_missing(
-    prefixes: Prefixes<'_>,
-    view: &[u8],
-    rest: Place,
-    node: NodeId,
-    notes: &mut Notes,
-) -> usize
-    requires { Table prefixes.rows.now prefixes.count × Stand view.now prefixes.count rest }
-    ensures { LackingAs prefixes.entry.rows.now prefixes.entry.count view.now rest.at rest.left rest.index.0 node.0 notes.old.rows notes.old.held result notes.new.held notes.new.rows }
+fn judge_missing(prefixes: Prefixes<'_>, view: View<'_>, rest: Place, notes: &mut Notes) -> usize
+    requires { Table prefixes.rows.now prefixes.count × Stand view.bytes.now prefixes.count rest }
+    ensures { LackingAs prefixes.entry.rows.now prefixes.entry.count view.entry.bytes.now rest.at rest.left rest.index.0 view.entry.node.0 notes.old.rows notes.old.held result notes.new.held notes.new.rows }
 {
-    let mut here = rest;
+    let entries = Entries {
+        bytes: view.bytes,
+        next: rest.at,
+        left: rest.left,
+    };
     let mut missing = 0;
-    // a place tells how many entries are left: a range would count them again
-    while 0 < here.left {
-        let e = entry_at(view, here.at);
-        if e.index != here.index {
+    for e in entries {
+        if e.index.0 != rest.index.0 + missing {
             break;
         }
         let differs = prefixes.first_of(e.index, e.term).is_some();
-        notes.note_where(differs, lg03(node, e.index, e.term));
+        note_lg03(notes, differs, view.node, e);
         missing += 1;
-        here = place_after(here, e.next, here.prefix);
     }
     missing
 }
 
 // A view is judged against the history, on a copy of its findings, by both walks.
-pub fn judge_view(history: &[u8], view: &[u8], entries: usize, node: NodeId) -> JudgedView
-    requires { Observing history.now view.now entries node.0 }
-    ensures { ViewJudged history.now view.now entries node.0 result.missing result.notes.held result.rest result.notes.rows }
+pub fn judge_view(history: Stored<'_>, view: View<'_>) -> JudgedView
+    ensures { ViewJudged history.entry.bytes.now view.entry.bytes.now view.entry.entries view.entry.node.0 result.missing result.notes.held result.rest result.notes.rows }
 {
-    let prefixes = Prefixes::of(history);
-    let mut notes = Notes::of(history);
-    let rest = judge_stored(prefixes, view, entries, node, &mut notes);
-    let missing = judge_missing(prefixes, view, rest, node, &mut notes);
+    let bytes = history.bytes;
+    let prefixes = Prefixes::of(bytes);
+    let mut notes = Notes::of(bytes);
+    let rest = judge_stored(prefixes, view, &mut notes);
+    let missing = judge_missing(prefixes, view, rest, &mut notes);
     JudgedView {
         missing,
         rest,

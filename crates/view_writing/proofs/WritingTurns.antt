@@ -17,7 +17,6 @@ use Rattle.record_walk.proofs.Walks.{here}
 use Rattle.storage_bytes.specs.Words.{word_at}
 use Rattle.storage.specs.Decode.{prefix_at, decode}
 use Rattle.storage.specs.Rules.{well_formed}
-use Rattle.storage.proofs.WellFormed.{formed}
 use Rattle.storage.proofs.Meanings.{Stands, number_length}
 use Rattle.prefix_lookup.specs.Table.{entry_value}
 use Rattle.view_writing.specs.Observation.{Storing, StoredAs}
@@ -81,7 +80,6 @@ module _ (h : Bytes) (n : ℕ) (s : Bytes) (x : Place) (g : Storing h n s x) (l 
   pub writing_asks : Extending h n p e
   writing_asks =
       record {
-        long = (formed h g.right).long;
         count = g.count;
         number = g.stands.number;
         fits = (let a = g.room in let c = count_grows (front_at s x) h n p i in omega arith);

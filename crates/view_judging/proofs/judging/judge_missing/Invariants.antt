@@ -1,11 +1,15 @@
 -- `view_judging::judging::judge_missing` meets its contract.
 -- Assumes nothing.
+use Prim.Native.Nat.{◌+◌}
+use mathlib.Core.Path.{◌≡◌}
+use Rattle.view_judging.specs.Judging.{place_at}
 use Rattle.view_judging.proofs.Turns.{Lacking}
 use Rattle.view_judging.proofs.judging.judge_missing.Given as goal
 
-abbrev pub invariant-loop-here : goal.invariant-loop-here
-invariant-loop-here l =
-    Lacking l.prefixes.rows.now l.prefixes.count l.view l.initial.here l.node.0 l.initial.notes.rows l.initial.notes.held l.notes.rows l.here l.missing l.notes.held
-
-abbrev pub decreases-loop-here : goal.decreases-loop-here
-decreases-loop-here l = l.here.left
+abbrev pub invariant-loop-e : goal.invariant-loop-e
+invariant-loop-e l =
+    let w = l.e-iterator in
+    let s = l.view.bytes.now in
+    (w.bytes.now ≡ s)
+    × Lacking l.prefixes.rows.now l.prefixes.count s l.rest l.view.node.0 l.initial.notes.rows l.initial.notes.held l.notes.rows
+    (place_at w.next w.left (l.rest.index.0 + l.missing) l.rest.prefix.0) l.missing l.notes.held

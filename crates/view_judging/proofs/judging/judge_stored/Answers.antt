@@ -6,8 +6,13 @@ use Rattle.record_walk.proofs.Walks.{here}
 use Rattle.prefix_lookup.proofs.StoredLaws.{stored_number, stored_nothing}
 use Rattle.prefix_lookup.proofs.Loops.{are_same, are_other}
 use Rattle.view_judging.proofs.Places.{find_within}
-use Rattle.view_judging.proofs.Turns.{noted_lg03, entry_short, judging_none, judging_gap, judging_lost, judging_next}
+use Rattle.view_judging.proofs.Turns.{judging_starts, entry_short, judging_none, judging_gap, judging_lost, judging_next}
+use Rattle.record_walk.proofs.Views.{walked}
 use Rattle.view_judging.proofs.judging.judge_stored.Goals as goal
+
+pub loop-here-init : goal.loop-here-init
+loop-here-init c =
+    judging_starts _ _ _ _ _ _ _ (walked _ _ _ c.args.view.walk) _ c.first_place-here.ensures
 
 pub entry_at-e-requires : goal.entry_at-e-requires
 entry_at-e-requires c = here _ _ _ c.loop-here.invariant.stands.walk c.loop-here-test.true
@@ -15,13 +20,13 @@ entry_at-e-requires c = here _ _ _ c.loop-here.invariant.stands.walk c.loop-here
 pub find_extension-requires : goal.find_extension-requires
 find_extension-requires c = (
   c.loop-here.invariant.stands.number,
-  entry_short c.args.view.now c.loop-here.here.at c.loop-here.here.left c.loop-here.here.index.0 c.loop-here.invariant.stands.walk c.loop-here-test.true _ c.entry_at-e.ensures,
+  entry_short _ _ _ 0 c.loop-here.invariant.stands.walk c.loop-here-test.true _ c.entry_at-e.ensures,
 )
 
 pub is_other-differs-requires : goal.is_other-differs-requires
 is_other-differs-requires c =
     let x = stored_number _ _ c.find_extension.ensures _ c.in-Some.is in (
-      c.requires.0,
+      c.requires,
       subst (λ (y : ℕ). 1 ≤ y) (sym (are_same c.if-ne.ensures)) c.loop-here.invariant.stands.positive,
       subst (λ (y : ℕ). y ≤ c.args.prefixes.count) (sym x.0) (find_within _ _ _),
     )
@@ -29,18 +34,18 @@ is_other-differs-requires c =
 pub loop-here-preserved : goal.loop-here-preserved
 loop-here-preserved c =
     let x = stored_number _ _ c.find_extension.ensures _ c.in-Some.is in
-    judging_next c.args.prefixes.rows.now c.args.prefixes.count c.args.view.now c.args.entries c.args.node.0 c.args.notes.now.rows c.args.notes.now.held c.loop-here.notes.rows c.loop-here.here c.loop-here.notes.held c.loop-here.invariant
-    c.loop-here-test.true _ c.entry_at-e.ensures (are_same c.if-ne.ensures) _ x.0 x.1 _ c.is_other-differs.ensures _ _ (noted_lg03 _ _ _ _ _ _ _ c.lg03.ensures _ _ c.note_where.ensures) _ c.place_after-here.ensures
+    judging_next _ _ _ _ _ _ _ _ _ _ c.loop-here.invariant
+    c.loop-here-test.true _ c.entry_at-e.ensures (are_same c.if-ne.ensures) _ x.0 x.1 _ c.is_other-differs.ensures _ _ c.note_lg03.ensures _ c.place_after-here.ensures
 
 pub returns-after-loop-here : goal.returns-after-loop-here
 returns-after-loop-here c =
-    judging_none c.args.prefixes.rows.now c.args.prefixes.count c.args.view.now c.args.entries c.args.node.0 c.args.notes.now.rows c.args.notes.now.held c.loop-here.notes.rows c.loop-here.here c.loop-here.notes.held c.loop-here.invariant c.loop-here-test.false
+    judging_none _ _ _ _ _ _ _ _ _ _ c.loop-here.invariant c.loop-here-test.false
 
 pub returns-then-ne : goal.returns-then-ne
 returns-then-ne c =
-    judging_gap c.args.prefixes.rows.now c.args.prefixes.count c.args.view.now c.args.entries c.args.node.0 c.args.notes.now.rows c.args.notes.now.held c.loop-here.notes.rows c.loop-here.here c.loop-here.notes.held c.loop-here.invariant c.loop-here-test.true _ c.entry_at-e.ensures (are_other c.if-ne.ensures)
+    judging_gap _ _ _ _ _ _ _ _ _ _ c.loop-here.invariant c.loop-here-test.true _ c.entry_at-e.ensures (are_other c.if-ne.ensures)
 
 pub returns-in_default : goal.returns-in_default
 returns-in_default c =
-    judging_lost c.args.prefixes.rows.now c.args.prefixes.count c.args.view.now c.args.entries c.args.node.0 c.args.notes.now.rows c.args.notes.now.held c.loop-here.notes.rows c.loop-here.here c.loop-here.notes.held c.loop-here.invariant
+    judging_lost _ _ _ _ _ _ _ _ _ _ c.loop-here.invariant
     c.loop-here-test.true _ c.entry_at-e.ensures (are_same c.if-ne.ensures) (stored_nothing _ _ c.find_extension.ensures c.in_default.is)

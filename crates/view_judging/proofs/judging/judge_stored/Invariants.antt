@@ -5,7 +5,7 @@ use Rattle.view_judging.proofs.judging.judge_stored.Given as goal
 
 abbrev pub invariant-loop-here : goal.invariant-loop-here
 invariant-loop-here l =
-    Judging l.prefixes.rows.now l.prefixes.count l.view l.fn.entries l.node.0 l.initial.notes.rows l.initial.notes.held l.notes.rows l.here l.notes.held
+    Judging l.prefixes.rows.now l.prefixes.count l.view.bytes.now l.view.entries l.view.node.0 l.initial.notes.rows l.initial.notes.held l.notes.rows l.here l.notes.held
 
 abbrev pub decreases-loop-here : goal.decreases-loop-here
 decreases-loop-here l = l.here.left

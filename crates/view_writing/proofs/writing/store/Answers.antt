@@ -1,30 +1,45 @@
 -- `view_writing::writing::store` meets its contract.
 -- Assumes nothing.
-use mathlib.Core.Path.{◌∙◌}
+use Prim.Native.Nat.{◌+◌, ◌-◌}
+use mathlib.Core.Path.{◌≡◌, refl, sym, ap, ◌∙◌}
 use native.Mathlib.Omega.{arith}
-use Rattle.record_walk.proofs.Walks.{here}
+use Rattle.record_walk.specs.declared.walk.ShownEntry.{ShownEntry}
 use Rattle.log_prefix.proofs.Written.{answer_longer, answer_stays}
-use Rattle.view_writing.proofs.WritingTurns.{writing_ends, writing_gap, writing_asks, writing_next}
+use Rattle.view_judging.specs.Judging.{place_at}
+use Rattle.view_writing.proofs.WritingTurns.{writing_starts, writing_ends, writing_gap, writing_asks, writing_next}
 use Rattle.view_writing.proofs.writing.store.Goals as goal
-use Rattle.view_writing.proofs.writing.store.Goals.{else-loop-here-test, then-loop-here-test+in_default}
 
-pub entry_at-e-requires : goal.entry_at-e-requires
-entry_at-e-requires c = here _ _ _ c.loop-here.invariant.storing.stands.walk (omega arith)
+pub loop-e-init : goal.loop-e-init
+loop-e-init c = rw c.into_iter-e-iterator.ensures.into_iter_gives (c.args.rest.index.0, refl, writing_starts _ _ _ _ c.requires)
 
 pub extend-requires : goal.extend-requires
 extend-requires c =
-    writing_asks c.loop-here.history c.loop-here.n c.args.view.now c.loop-here.here c.loop-here.invariant.storing (omega arith) _ c.entry_at-e.ensures
+    let inv = c.loop-e.invariant in
+    let took = c.in-Some.ensures.steps in
+    writing_asks _ _ _ _ inv.2.storing (omega (arith, took.3)) _ (rw inv.1 at took.0)
 
-pub loop-here-preserved : goal.loop-here-preserved
-loop-here-preserved c =
-    let o = answer_longer c.loop-here.history c.loop-here.n c.loop-here.here.prefix.0 _ _ _ c.extend.ensures _ c.in-Some.is in
-    writing_next c.args.history.now c.args.count c.args.view.now c.args.rest c.loop-here.history c.loop-here.here c.loop-here.n c.loop-here.invariant (omega arith) _ c.entry_at-e.ensures _ _ o _ c.place_after-here.ensures
+pub loop-e-preserved : goal.loop-e-preserved
+loop-e-preserved c =
+    let l = c.loop-e in
+    let inv = l.invariant in
+    let w = l.e-iterator in
+    let t = c.next.new.self in
+    let took = c.in-Some.ensures.steps in
+    let next : t.next ≡ c.in-Some.e.next = took.2 ∙ sym (ap (λ (x : ShownEntry). x.next) took.0) in
+    let left : t.left ≡ w.left - 1 = omega (arith, took.3) in (
+      inv.0 + 1,
+      took.1 ∙ inv.1,
+      writing_next _ _ _ _ _ _ _ inv.2 (omega (arith, took.3)) _ (rw inv.1 at took.0) _ _
+          (answer_longer l.history l.n l.front.0 _ _ _ c.extend.ensures _ c.in-Some-extend.is) _ (λ i. place_at (next i) (left i) (inv.0 + 1) c.in-Some-extend.x.prefix.0),
+    )
 
-pub returns : goal.returns
-returns c =
-    elim c.loop-here-test.branch [
-      | else-loop-here-test w ↦ writing_ends c.args.history.now c.args.count c.args.view.now c.args.rest c.loop-here.history c.loop-here.here c.loop-here.n c.loop-here.invariant w.loop-here-test.false _ w.history-is
-      | then-loop-here-test+in_default w ↦
-          let o = answer_stays c.loop-here.history c.loop-here.n c.loop-here.here.prefix.0 _ _ _ w.extend.ensures w.in_default.is in
-          writing_gap c.args.history.now c.args.count c.args.view.now c.args.rest c.loop-here.history c.loop-here.here c.loop-here.n c.loop-here.invariant w.loop-here-test.true _ w.entry_at-e.ensures o.0 _ (w.history-is ∙ o.1)
-    ]
+pub returns-in-None : goal.returns-in-None
+returns-in-None c =
+    writing_ends _ _ _ _ _ _ _ c.loop-e.invariant.2 (omega (arith, c.in-None.ensures.steps)) _ refl
+
+pub returns-in_default : goal.returns-in_default
+returns-in_default c =
+    let inv = c.loop-e.invariant in
+    let took = c.in-Some.ensures.steps in
+    let o = answer_stays c.loop-e.history c.loop-e.n c.loop-e.front.0 _ _ _ c.extend.ensures c.in_default.is in
+    writing_gap _ _ _ _ _ _ _ inv.2 (omega (arith, took.3)) _ (rw inv.1 at took.0) o.0 _ o.1

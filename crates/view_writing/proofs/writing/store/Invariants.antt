@@ -1,10 +1,12 @@
 -- `view_writing::writing::store` meets its contract.
 -- Assumes nothing.
+use Prim.Native.Nat.{ℕ}
+use mathlib.Core.Path.{◌≡◌}
+use Rattle.view_judging.specs.Judging.{place_at}
 use Rattle.view_writing.proofs.WritingTurns.{Written}
 use Rattle.view_writing.proofs.writing.store.Given as goal
 
-abbrev pub invariant-loop-here : goal.invariant-loop-here
-invariant-loop-here l = Written l.initial.history l.count l.view l.initial.here l.history l.here l.n
-
-abbrev pub decreases-loop-here : goal.decreases-loop-here
-decreases-loop-here l = l.here.left
+abbrev pub invariant-loop-e : goal.invariant-loop-e
+invariant-loop-e l =
+    let w = l.e-iterator in
+    (i : ℕ) × (w.bytes.now ≡ l.view) × Written l.initial.history l.count l.view l.fn.rest l.history (place_at w.next w.left i l.front.0) l.n

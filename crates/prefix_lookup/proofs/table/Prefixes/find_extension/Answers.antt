@@ -1,18 +1,14 @@
 -- `prefix_lookup::table::Prefixes::find_extension` meets its contract.
 -- Assumes nothing.
-use mathlib.Core.Path.{refl, sym, ◌∙◌}
+use mathlib.Core.Path.{sym, ◌∙◌}
 use native.Mathlib.Omega.{arith}
 use Rattle.storage.specs.Tables.{prefix_row}
 use Rattle.storage.specs.Rules.{same_row}
 use Rattle.prefix_lookup.specs.Table.{entry_value}
-use Rattle.prefix_lookup.specs.Prefix.{row_of, find}
+use Rattle.prefix_lookup.specs.Prefix.{row_of}
 use Rattle.prefix_lookup.proofs.Loops.{search_next, search_stop, search_none}
 use Rattle.prefix_lookup.proofs.StoredLaws.{stored_some, stored_none}
 use Rattle.prefix_lookup.proofs.table.Prefixes.find_extension.Goals as goal
-
-pub loop-k-init : goal.loop-k-init
-unfolding find
-loop-k-init c = (omega arith, refl)
 
 pub returns-then-matches_extension : goal.returns-then-matches_extension
 returns-then-matches_extension c =

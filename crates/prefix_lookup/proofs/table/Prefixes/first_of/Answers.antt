@@ -1,15 +1,11 @@
 -- `prefix_lookup::table::Prefixes::first_of` meets its contract.
 -- Assumes nothing.
-use mathlib.Core.Path.{refl, sym, ◌∙◌}
+use mathlib.Core.Path.{sym, ◌∙◌}
 use Rattle.storage.specs.Tables.{prefix_row}
-use Rattle.prefix_lookup.specs.Prefix.{is_of, first}
+use Rattle.prefix_lookup.specs.Prefix.{is_of}
 use Rattle.prefix_lookup.proofs.Loops.{search_next, search_stop, search_none}
 use Rattle.prefix_lookup.proofs.StoredLaws.{stored_some, stored_none}
 use Rattle.prefix_lookup.proofs.table.Prefixes.first_of.Goals as goal
-
-pub loop-k-init : goal.loop-k-init
-unfolding first
-loop-k-init c = refl
 
 pub returns-then-is_of : goal.returns-then-is_of
 returns-then-is_of c =
