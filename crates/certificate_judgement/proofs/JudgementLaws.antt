@@ -75,9 +75,11 @@ module _ (h : Bytes) (c : CertificateRow) where
 
 -- ---- the walk over all of them
 
-either_flag : (r b : Bool) → cond {A = ℕ} r 4 (cond b 4 0) ≡ cond (r || b) 4 0
-either_flag true b = refl
-either_flag false b = refl
+either_flag : (r b : Bool) → cond {A = ℕ} r 4 (cond b 4 0) ≡ cond (b || r) 4 0
+either_flag true true = refl
+either_flag true false = refl
+either_flag false true = refl
+either_flag false false = refl
 
 -- what is left of the certificates from the k-th on gives the rest
 pub record Walking (h t₀ : Bytes) (held m : ℕ) (t : Bytes) (b : Bool) (n k : ℕ) : Type 0 where
@@ -87,17 +89,6 @@ pub record Walking (h t₀ : Bytes) (held m : ℕ) (t : Bytes) (b : Bool) (n k :
   pub within : k ≤ m
 
 module _ (h t₀ : Bytes) (held m : ℕ) where
-  pub walking_starts : m ≡ word_at h 6 1 → Walking h t₀ held m t₀ false held 0
-  walking_starts e =
-      let s : certificates_of h ≡ tabulate (certificate_row (certificates_part h)) 0 (m - 0) =
-      ap (λ (x : ℕ). tabulate (certificate_row (certificates_part h)) 0 x) (let z : word_at h 6 1 ≡ m - 0 = omega arith in z) in
-      record {
-        flag = ap (flags_in h 0) s;
-        holds = ap (λ (cs : List CertificateRow). held_all t₀ held (lackings_in h cs)) s;
-        table = ap (λ (cs : List CertificateRow). bytes_all t₀ held (lackings_in h cs)) s;
-        within = omega arith;
-      }
-
   module _ (t : Bytes) (b : Bool) (n k : ℕ) (w : Walking h t₀ held m t b n k) where
     pub walking_ends : m ≤ k → JudgedAll h t₀ held b n t
     unfolding flags_in lackings_in held_all bytes_all
@@ -118,7 +109,7 @@ module _ (h t₀ : Bytes) (held m : ℕ) where
       more = tabulate_cons (certificate_row (certificates_part h)) k m l ∙ ap (λ (x : CertificateRow). x ∷ rest) (sym e)
 
       -- r: this one has a relevant index
-      pub walking_next : (r : Bool) (n' : ℕ) (t' : Bytes) → JudgedAs h c t n r n' t' → (b' : Bool) → b' ≡ (r || b) → Walking h t₀ held m t' b' n' (k + 1)
+      pub walking_next : (r : Bool) (n' : ℕ) (t' : Bytes) → JudgedAs h c t n r n' t' → (b' : Bool) → b' ≡ (b || r) → Walking h t₀ held m t' b' n' (k + 1)
       unfolding rest flags_in lackings_in
       walking_next r n' t' j b' e' =
           record {

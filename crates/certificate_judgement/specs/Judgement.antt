@@ -1,12 +1,11 @@
 -- Judging certificates on the bytes of a history, in the order of the walk: what is noted, and whether an index was relevant.
 -- Assumes nothing.
-use Rattle.std.specs.Prelude.{ℕ, ◌≤◌, ◌≡◌, Bool, true, cond, not, List, [], ◌∷◌, ◌++◌, eqb}
+use Rattle.std.specs.Prelude.{ℕ, ◌≡◌, Bool, true, cond, not, List, [], ◌∷◌, ◌++◌, eqb}
 use Rattle.model.specs.Sizes.{Bytes}
 use Rattle.model.specs.History.{Finding}
 use Rattle.storage_bytes.specs.Words.{word_at}
 use Rattle.storage.specs.Tables.{CertificateRow}
 use Rattle.storage.specs.Values.{certificates_of}
-use Rattle.storage.specs.Rules.{well_formed}
 use Rattle.committed_prefix.specs.Prefix.{agree_in}
 use Rattle.log_violation.specs.Violation.{held_all, bytes_all, note_where}
 use Rattle.check_relevance.specs.Relevance.{relevant_in}
@@ -36,12 +35,6 @@ unfoldable pub flag_in : Bytes → CertificateRow → ℕ → ℕ
 unfolding relevant_in
 flag_in h c b = cond (eqb (relevant_in h c) 0) b 4
 
--- what noting asks: a well-formed history, the number of its committed prefix, a log that is stored
-pub record Noting (h : Bytes) (p : ℕ) (c : CertificateRow) : Type 0 where
-  pub right : well_formed h ≡ true
-  pub committed : p ≡ word_at h 4 2
-  pub stored : c.log ≤ word_at h 0 2
-
 -- r: it has a relevant index
 pub record JudgedAs (h : Bytes) (c : CertificateRow) (t : Bytes) (held : ℕ) (r : Bool) (held' : ℕ) (t' : Bytes) : Type 0 where
   pub flag : (b : ℕ) → cond r 4 b ≡ flag_in h c b
@@ -59,10 +52,6 @@ unfoldable pub flags_in : Bytes → ℕ → List CertificateRow → ℕ
 unfolding flag_in
 flags_in h b [] = b
 flags_in h b (c ∷ cs) = flags_in h (flag_in h c b) cs
-
-pub record Judging (h : Bytes) (p : ℕ) : Type 0 where
-  pub right : well_formed h ≡ true
-  pub committed : p ≡ word_at h 4 2
 
 -- r: one of them has a relevant index
 pub record JudgedAll (h t : Bytes) (held : ℕ) (r : Bool) (held' : ℕ) (t' : Bytes) : Type 0 where

@@ -69,9 +69,6 @@ module _ (row : ℕ → CertificateRow) (t : ℕ) where
   held_within (suc k) =
       cond_cases (λ (r : ℕ). r ≤ suc k) (eqb (row k).term t) (suc (held_before row t k)) 0 (λ _. omega (arith, held_within k)) (λ _. omega arith)
 
-  pub held_start : (p : ℕ) → held_before row t p ≡ p - p + held_before row t p
-  held_start p = omega arith
-
   -- those from k on up to place p were met
   module _ (p k : ℕ) (within : k ≤ p) (inv : held_before row t p ≡ p - k + held_before row t k) where
     module _ (h : 0 < k) (x : ℕ) (e : x ≡ (row (k - 1)).term) where
@@ -107,9 +104,6 @@ module _ (row : ℕ → CertificateRow) (m : ℕ) where
   pub taken_zero : (k : ℕ) → taken_from row m k 0 ≡ false
   unfolding taken_from
   taken_zero k = refl
-
-  pub taken_start : (p h : ℕ) → h ≤ p → taken_from row m (p - h) h ≡ taken_from row m (p - h) (p - (p - h))
-  taken_start p h l = let e : h ≡ p - (p - h) = omega arith in ap (taken_from row m (p - h)) e
 
   module _ {b : Bool} (p k : ℕ) (inv : b ≡ taken_from row m k (p - k)) where
     rest : k < p → p - k ≡ suc (p - (k + 1))

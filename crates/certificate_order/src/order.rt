@@ -1,13 +1,16 @@
 // The certificates held stand by term, then arrival, and a new one is mostly of the newest term: so its place is looked for
-// from the end, and its number and whether that is taken only among those of its term, right before the place.
+// from the end, and its number and whether that is taken only among those of its term, right before the place. Rows are bytes: there is
+// no slice of them for a library's search.
 ghost use Rattle.std.specs.Prelude.{◌≡◌, ◌≤◌};
 ghost use Rattle.storage.specs.Tables.{certificate_row};
 ghost use Rattle.certificate_order.specs.Order.{place_from, held_before, taken_before};
 
-use certificate_rows::certificates::{Certificates, number_at, term_at};
+use certificate_rows::certificates::{number_at, term_at};
+use storage_bytes::layout::Certificates;
 use units::Term;
 
 // How many of the n stand before those of a later term: from the end back, the first that is of no later one is the last of them.
+#[tactic(auto, using(crate::proofs::Loops::place_none))]
 pub fn place_of(certificates: &Certificates, n: usize, term: Term) -> usize
     requires { n ≤ 64 }
     ensures { result ≡ place_from (certificate_row certificates.now) term.0 n }
@@ -21,6 +24,7 @@ pub fn place_of(certificates: &Certificates, n: usize, term: Term) -> usize
 }
 
 // How many right before the place are of the term.
+#[tactic(auto, using(crate::proofs::Loops::held_stop, crate::proofs::Loops::held_next, crate::proofs::Loops::held_none))]
 pub fn held_of(certificates: &Certificates, place: usize, term: Term) -> usize
     requires { place ≤ 64 }
     ensures { result ≡ held_before (certificate_row certificates.now) term.0 place }
@@ -34,6 +38,7 @@ pub fn held_of(certificates: &Certificates, place: usize, term: Term) -> usize
 }
 
 // Whether one of the `held` right before the place has the number.
+#[tactic(auto, using(crate::proofs::Loops::taken_stop, crate::proofs::Loops::taken_next, crate::proofs::Loops::taken_none))]
 pub fn is_taken(certificates: &Certificates, place: usize, held: usize, number: usize) -> bool
     requires { (held ≤ place) × (place ≤ 64) }
     ensures { result ≡ taken_before (certificate_row certificates.now) number place held }

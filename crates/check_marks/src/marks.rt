@@ -1,6 +1,6 @@
 // Checked marks: that of a certificate moves to the committed end where that passes it, with or without a relevant index.
 // Only the mark moves. One that is not passed is left as it is, and nothing else of its certificate is read.
-ghost use Rattle.std.specs.Prelude.{◌≡◌, ◌≤◌, ◌<◌, length};
+ghost use Rattle.std.specs.Prelude.{◌≡◌, ◌≤◌, ◌<◌};
 ghost use Rattle.storage_bytes.specs.Words.{word_at};
 ghost use Rattle.check_marks.specs.Marks.{mark_moved, marks_moved};
 
@@ -8,14 +8,14 @@ use certificate_mark::mark::with_mark;
 use certificate_rows::certificates::Certificate;
 use storage::head::certificate_count;
 use storage::rows::StoredRow;
-use storage_bytes::layout::CERTIFICATES;
+use storage_bytes::layout::{CERTIFICATES, History};
 use term_marks::marks::{checked_mark, store_mark};
 use units::LogIndex;
 
 // The mark of certificate k.
 #[tactic(auto, unfolding(crate::specs::Marks::mark_moved))]
-pub fn move_mark(history: &mut [u8], k: usize, end: LogIndex)
-    requires { (k < 64) × (length history.old ≡ 24137) }
+pub fn move_mark(history: &mut History, k: usize, end: LogIndex)
+    requires { k < 64 }
     ensures { history.new ≡ mark_moved history.old k end.0 }
 {
     if end <= checked_mark(history, k) {
@@ -28,8 +28,8 @@ pub fn move_mark(history: &mut [u8], k: usize, end: LogIndex)
 
 // The marks of all certificates.
 #[tactic(auto, using(crate::proofs::MarkLaws::moving_starts, crate::proofs::MarkLaws::moving_next, crate::proofs::MarkLaws::moving_ends))]
-pub fn move_marks(history: &mut [u8], end: LogIndex)
-    requires { (word_at history.old 6 1 ≤ 64) × (length history.old ≡ 24137) }
+pub fn move_marks(history: &mut History, end: LogIndex)
+    requires { word_at history.old 6 1 ≤ 64 }
     ensures { history.new ≡ marks_moved history.old end.0 0 (word_at history.old 6 1) }
 {
     let m = certificate_count(history);

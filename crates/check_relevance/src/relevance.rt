@@ -1,8 +1,7 @@
 // The relevant index of a certificate: the last committed index after its mark with a recorded term below its own.
 // A recorded zero is below every nonzero term; an index without a recorded term is not relevant.
-ghost use Rattle.std.specs.Prelude.{◌≡◌, ◌≤◌, true, length};
+ghost use Rattle.std.specs.Prelude.{◌≡◌, ◌≤◌};
 ghost use Rattle.storage.specs.Tables.{term_row};
-ghost use Rattle.storage.specs.Rules.{well_formed};
 ghost use Rattle.storage.specs.Values.{committed_end};
 ghost use Rattle.certificate_rows.specs.Values.{certificate_value};
 ghost use Rattle.table_rows.specs.TermSearch.{found_index};
@@ -10,13 +9,14 @@ ghost use Rattle.check_relevance.specs.Relevance.{last_relevant, relevant_in};
 
 use certificate_rows::certificates::Certificate;
 use storage::head::last_recorded;
-use storage_bytes::layout::TERMS;
+use storage::stored::Stored;
+use storage_bytes::layout::{TERMS, Terms};
 use table_rows::terms::term_at;
 use units::{LogIndex, Term};
 
 // From the end back to the mark, so that the first one met is the last.
-fn last_relevant(terms: &[u8], end: LogIndex, mark: LogIndex, term: Term) -> Option<LogIndex>
-    requires { (end.0 ≤ 256) × (length terms.now ≡ 1024) }
+fn last_relevant(terms: &Terms, end: LogIndex, mark: LogIndex, term: Term) -> Option<LogIndex>
+    requires { end.0 ≤ 256 }
     ensures { result ≡ found_index (last_relevant (term_row terms.now) mark.0 term.0 end.0) }
 {
     for k in (mark.0..end.0).rev() {
@@ -28,13 +28,14 @@ fn last_relevant(terms: &[u8], end: LogIndex, mark: LogIndex, term: Term) -> Opt
 }
 
 // The certificate's relevant index up to the committed end. Where that does not pass the mark, nothing else is read.
-pub fn relevant_index(history: &[u8], end: LogIndex, c: Certificate) -> Option<LogIndex>
-    requires { (well_formed history.now ≡ true) × (end.0 ≡ committed_end history.now) }
-    ensures { result ≡ found_index (relevant_in history.now (certificate_value c)) }
+pub fn relevant_index(history: Stored<'_>, end: LogIndex, c: Certificate) -> Option<LogIndex>
+    requires { end.0 ≡ committed_end history.bytes.now }
+    ensures { result ≡ found_index (relevant_in history.entry.bytes.now (certificate_value c)) }
 {
+    let bytes = history.bytes;
     if end <= c.mark {
         return None;
     }
-    let last = end.min(last_recorded(history)); // an index without a recorded term is not relevant
-    last_relevant(TERMS.of(history), last, c.mark, c.term)
+    let last = end.min(last_recorded(bytes)); // an index without a recorded term is not relevant
+    last_relevant(TERMS.array(bytes), last, c.mark, c.term)
 }

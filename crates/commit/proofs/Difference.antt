@@ -2,7 +2,7 @@
 -- Assumes nothing.
 use Prim.Native.Nat.{ℕ, ◌≤◌, ◌<◌}
 use native.Mathlib.Omega.{arith}
-use mathlib.Core.Path.{◌≡◌, refl, sym, ◌∙◌, ap, subst}
+use mathlib.Core.Path.{◌≡◌, sym, ◌∙◌, ap, subst}
 use mathlib.Core.Bool.{true, false}
 use mathlib.Core.Logic.{◌⊎◌, inl, inr, ⊎_elim}
 use mathlib.Core.List.Memᴰ
@@ -13,7 +13,7 @@ use Rattle.std.specs.Prelude.{Result, Ok, Err, is_ok, ⊤}
 use Rattle.model.specs.Sizes.{Bytes}
 use Rattle.model.specs.Entry.{with_all}
 use Rattle.model.specs.History.{Finding, History, noted}
-use Rattle.model.proofs.Tests.{tf, either, cond_cases, cond_true, cond_false}
+use Rattle.model.proofs.Tests.{tf, either, cond_true, cond_false}
 use Rattle.storage_bytes.specs.Lists.{every}
 use Rattle.storage_bytes.specs.Words.{word_at}
 use Rattle.storage.specs.Tables.{finding_row, finding_rows, findings_part}
@@ -23,9 +23,8 @@ use Rattle.storage.proofs.DecodeLaws.{FindingNamed}
 use Rattle.storage.proofs.Meanings.{Stands, with_noted, findings_stored, findings_taken, findings_right, noted_right}
 use Rattle.storage.proofs.WellFormed.{formed}
 use Rattle.log_violation.specs.Violation.{note_held, note_bytes, findings_written, room_for, room_answer, noted_in}
-use Rattle.log_violation.proofs.ViolationLaws.{Holds, note_holds, note_length, findings_long, in_length}
+use Rattle.log_violation.proofs.ViolationLaws.{Holds, note_holds, note_length, findings_long}
 use Rattle.committed_prefix.specs.Prefix.{unseen_set}
-use Rattle.committed_prefix.proofs.PrefixTurns.{unseen_length}
 use Rattle.commit.specs.Prefix.{difference, note_answer, note_leaves, Noted}
 use Rattle.log_violation.specs.declared.violation.FindingsFull.{FindingsFull}
 
@@ -39,12 +38,12 @@ module _ (h : Bytes) (n i : ℕ) (r : Result ⊤ FindingsFull) (u : Bytes)
   unfolding room_answer
   some_room v z = ⊎_elim (λ t. t) (λ f. absurd (tf (ap is_ok (sym z ∙ em.0 ∙ cond_false _ _ _ f)))) (either (room_for h (difference n i)))
 
-  pub note_full : (e : FindingsFull) → r ≡ Err e → Noted h n i (Err (record {})) u
+  pub note_full : (e : FindingsFull) → r ≡ Err e → (a : Result ℕ FindingsFull) → a ≡ Err (record {}) → Noted h n i a u
   unfolding note_answer note_leaves noted_in
-  note_full e z =
+  note_full e z a ea =
       let full = no_room e z in
       record {
-        answers = sym (cond_false (room_for h (difference n i)) _ _ full);
+        answers = ea ∙ sym (cond_false (room_for h (difference n i)) _ _ full);
         leaves = em.1 ∙ cond_false (room_for h (difference n i)) _ h full ∙ sym (cond_false (room_for h (difference n i)) _ h full);
       }
 
@@ -56,12 +55,6 @@ module _ (h : Bytes) (n i : ℕ) (r : Result ⊤ FindingsFull) (u : Bytes)
         answers = sym (cond_true (room_for h (difference n i)) _ _ room);
         leaves = ew ∙ ap (λ (y : Bytes). unseen_set y n 0) em.1 ∙ sym (cond_true (room_for h (difference n i)) _ h room);
       }
-
-pub note_leaves_length : (h : Bytes) (n i : ℕ) → length (note_leaves h n i) ≡ length h
-unfolding note_leaves
-note_leaves_length h n i =
-    cond_cases (λ (u : Bytes). length u ≡ length h) (room_for h (difference n i)) _ h
-    (λ _. unseen_length (noted_in h (difference n i)) n 0 ∙ in_length h (difference n i)) (λ _. refl)
 
 module _ (h : Bytes) (x : History) (s : Stands h x) (n i : ℕ) (here : n < 64) (limit : i ≤ 256) where
   -- the findings with the difference; how many are held with it, and their table

@@ -4,10 +4,9 @@ use Prim.Native.Nat.{ℕ}
 use mathlib.Core.Path.{◌≡◌, refl, sym, ◌∙◌, ap}
 use mathlib.Core.Bool.{Bool, true, false}
 use lib.Dec.{eqb}
-use lib.ListN.{length}
 use borrow.Author.Tests.{eq-eqb, ne_eqb}
 use Rattle.model.specs.Sizes.{Bytes}
-use Rattle.model.proofs.Tests.{cond_cases, cond_true, cond_false}
+use Rattle.model.proofs.Tests.{cond_true, cond_false}
 use Rattle.storage_bytes.specs.Words.{word_at}
 use Rattle.storage.specs.Writes.{committed_set}
 use Rattle.prefix_lookup.specs.Prefix.{stored_of, front_through}
@@ -15,18 +14,7 @@ use Rattle.committed_prefix.specs.Prefix.{agree_in, unseen_set, keep_bytes}
 use Rattle.commit.specs.Prefix.{longer_in, end_in, flags_of, note_answer, note_leaves, Noted, insert_answer, insert_leaves, kept_answer, kept_leaves, seen_answer, seen_leaves, commit_answer, commit_bytes, Inserted, Observed}
 use Rattle.units.specs.declared.LogPrefixWitness.{LogPrefixWitness}
 use Rattle.log_violation.specs.declared.violation.FindingsFull.{FindingsFull}
-use Rattle.committed_prefix.proofs.PrefixTurns.{unseen_length, keep_length}
-use Rattle.commit.proofs.Difference.{note_leaves_length}
 use Rattle.std.specs.Prelude.{Option, Some, None, Result, Ok}
-
--- ---- lengths
-
-pub insert_leaves_length : (h : Bytes) (n c p : ℕ) → length (insert_leaves h n c p) ≡ length h
-unfolding insert_leaves
-insert_leaves_length h n c p =
-    cond_cases (λ (u : Bytes). length u ≡ length h) (agree_in h c p (end_in h c p)) _ _
-    (λ _. cond_cases (λ (u : Bytes). length u ≡ length h) (longer_in h c p) _ _ (λ _. keep_length h n p) (λ _. unseen_length h n 0))
-    (λ _. note_leaves_length h n (end_in h c p))
 
 -- ---- held against the committed prefix
 

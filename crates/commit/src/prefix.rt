@@ -10,10 +10,12 @@ use log_violation::violation::{FindingsFull, note_in};
 use prefix_lookup::lookup::front_through;
 use prefix_rows::prefixes::through;
 use storage::head::{owner, set_committed};
-use storage_bytes::layout::PREFIXES;
+use storage::stored::Stored;
+use storage_bytes::layout::{History, PREFIXES};
 use table_rows::findings::{Found, LG_04};
 use units::{LogIndex, LogPrefixWitness, NodeId, Term};
 
+// The flags are numbers and no enum: their sum is the record's value, which callers in C read.
 // The flag of agreement with the committed prefix.
 const AGREEMENT: usize = 1;
 
@@ -32,7 +34,12 @@ fn flags(owner: NodeId, node: NodeId) -> usize
 }
 
 // A difference through the shorter end adds LG-04 and changes nothing else. The finding is noted in place: it is the only one.
-fn note_difference(history: &mut [u8], node: NodeId, end: LogIndex) -> Result<usize, FindingsFull>
+#[tactic(auto, using(storage::proofs::WellFormed::findings_fit))]
+fn note_difference(
+    history: &mut History,
+    node: NodeId,
+    end: LogIndex,
+) -> Result<usize, FindingsFull>
     requires { (well_formed history.old ≡ true) × (node.0 < 64) }
     ensures { Noted history.old node.0 end.0 result history.new }
 {
@@ -42,14 +49,15 @@ fn note_difference(history: &mut [u8], node: NodeId, end: LogIndex) -> Result<us
         index: end,
         term: Term::ZERO,
     };
-    note_in(&mut history[..], lg04)?;
-    set_unseen(&mut history[..], node, LogIndex::ZERO);
+    note_in(history, lg04)?;
+    set_unseen(history, node, None);
     Ok(0)
 }
 
 // The prefix seen is compared with the committed one; a longer one replaces it.
+#[tactic(auto, using(storage::proofs::WellFormed::prefixes_fit))]
 fn insert_committed_prefix(
-    history: &mut [u8],
+    history: &mut History,
     node: NodeId,
     committed: LogPrefixWitness,
     seen: LogPrefixWitness,
@@ -57,18 +65,18 @@ fn insert_committed_prefix(
     requires { (well_formed history.old ≡ true) × (node.0 < 64) × (committed.0 ≤ word_at history.old 0 2) × (seen.0 ≤ word_at history.old 0 2) }
     ensures { Inserted history.old node.0 committed.0 seen.0 result history.new }
 {
-    let prefixes = PREFIXES.of(&history[..]);
+    let prefixes = PREFIXES.array(history);
     let committed_end = through(prefixes, committed);
     let seen_end = through(prefixes, seen);
     let end = committed_end.min(seen_end);
-    if !agree_through(&history[..], committed, seen, end) {
-        return note_difference(&mut history[..], node, end);
+    if !agree_through(Stored { bytes: &*history }, committed, seen, end) {
+        return note_difference(history, node, end);
     }
-    let former = owner(&history[..]);
+    let former = owner(history);
     let sum = flags(former, node);
-    set_unseen(&mut history[..], node, LogIndex::ZERO);
+    set_unseen(history, node, None);
     if committed_end < seen_end {
-        set_committed(&mut history[..], seen, node);
+        set_committed(history, seen, node);
     }
     Ok(sum)
 }
@@ -76,24 +84,24 @@ fn insert_committed_prefix(
 // A node's commit index: the committed prefix that it shows is unseen, kept, or compared. The sum of its flags: 1 for agreement
 // with the committed prefix, 2 where its owner is another node.
 pub fn observe_committed_prefixes(
-    history: &mut [u8],
+    history: &mut History,
     node: NodeId,
     index: LogIndex,
 ) -> Result<usize, FindingsFull>
     requires { (well_formed history.old ≡ true) × (node.0 < 64) }
     ensures { Observed history.old node.0 index.0 result history.new }
 {
-    let Some(seen) = front_through(&history[..], node, index) else {
-        set_unseen(&mut history[..], node, index);
+    let Some(seen) = front_through(Stored { bytes: &*history }, node, index) else {
+        set_unseen(history, node, Some(index));
         return Ok(0);
     };
     if seen == LogPrefixWitness::EMPTY {
-        set_unseen(&mut history[..], node, LogIndex::ZERO); // index zero does nothing more
+        set_unseen(history, node, None); // index zero does nothing more
         return Ok(0);
     }
-    let Some(committed) = committed_prefix(&history[..]) else {
-        keep(&mut history[..], node, seen);
+    let Some(committed) = committed_prefix(history) else {
+        keep(history, node, seen);
         return Ok(0);
     };
-    insert_committed_prefix(&mut history[..], node, committed, seen)
+    insert_committed_prefix(history, node, committed, seen)
 }

@@ -15,7 +15,7 @@ use Rattle.storage_bytes.specs.Words.{word_at, word_bytes, put_bytes}
 use Rattle.storage.specs.Tables.{term_row, terms_part}
 use Rattle.storage.specs.Fresh.{zeros}
 use Rattle.storage.specs.Writes.{terms_lengthened}
-use Rattle.storage_bytes.proofs.WordLaws.{put_length, word_bytes_length}
+use Rattle.storage_bytes.proofs.WordLaws.{word_bytes_length}
 use Rattle.storage.proofs.FreshLaws.{zeros_length}
 use Rattle.storage.proofs.WriteLaws.{region_back}
 use Rattle.storage.proofs.RowLaws.{word_before, word_after}
@@ -55,12 +55,6 @@ module _ (h : Bytes) (new : ℕ) where
         ∙ ap (λ (m : ℕ). put_bytes (put_bytes h (393 + m * 4) (zeros ((new - m) * 4))) 2 (word_bytes 2 new)) e
         ∙ sym (cond_true (ltb (word_at h 2 2) new) _ h (lt-ltb _ new (omega arith)))
 
-  pub lengthened_length : length (lengthened_to h new) ≡ length h
-  unfolding lengthened_to terms_lengthened
-  lengthened_length =
-      cond_cases (λ (u : Bytes). length u ≡ length h) (ltb (word_at h 2 2) new) _ h
-      (λ _. put_length _ 2 (word_bytes 2 new) ∙ put_length h _ (zeros ((new - word_at h 2 2) * 4))) (λ _. refl)
-
   -- as many certificates as before
   pub lengthened_certificates : word_at (lengthened_to h new) 6 1 ≡ word_at h 6 1
   unfolding lengthened_to terms_lengthened
@@ -88,11 +82,6 @@ module _ (t x : ℕ) where
     pub replaced_greater : (x ≡ 0 → ⊥) → ltb t x ≡ is_replaced t x
     unfolding is_replaced
     replaced_greater m = sym (pass _ some_term ∙ ap (λ (b : Bool). b || ltb t x) (ne_eqb x 0 m))
-
-pub replace_length : (h : Bytes) (k t : ℕ) → length (replace_bytes h k t) ≡ length h
-unfolding replace_bytes
-replace_length h k t =
-    cond_cases (λ (u : Bytes). length u ≡ length h) (is_replaced t (term_in h k)) _ h (λ _. put_length h (393 + k * 4) (word_bytes 4 t)) (λ _. refl)
 
 module _ (h : Bytes) (k t : ℕ) (q : Bytes) (eq : q ≡ terms_part h) (x : ℕ) (e : x ≡ term_row q k) (b : Bool) (eb : b ≡ is_replaced t x) where
   test_is : is_replaced t (term_in h k) ≡ b
@@ -148,11 +137,10 @@ module _ (row : ℕ → ℕ) (t old new : ℕ) where
 
 pub record Replacing (h₀ : Bytes) (start new t : ℕ) (h : Bytes) (k : ℕ) : Type 0 where
   pub bytes : replace_all h₀ t start (new - start) ≡ replace_all h t k (new - k)
-  pub long : length h ≡ 24137
 
 module _ (h₀ : Bytes) (first new t : ℕ) where
-  pub replacing_starts : length h₀ ≡ 24137 → Replacing h₀ (first - 1) new t h₀ (first - 1)
-  replacing_starts l = record { bytes = refl; long = l }
+  pub replacing_starts : Replacing h₀ (first - 1) new t h₀ (first - 1)
+  replacing_starts = record { bytes = refl }
 
   module _ (h : Bytes) (k : ℕ) (w : Replacing h₀ (first - 1) new t h k) where
     pub replacing_next : k < new → (u : Bytes) → u ≡ replace_bytes h (k + 1 - 1) t → Replacing h₀ (first - 1) new t u (k + 1)
@@ -161,7 +149,6 @@ module _ (h₀ : Bytes) (first new t : ℕ) where
         let q = e ∙ ap (λ (j : ℕ). replace_bytes h j t) (place_is k) in
         record {
           bytes = w.bytes ∙ ap (replace_all h t k) (left_more new k l) ∙ ap (λ (z : Bytes). replace_all z t (k + 1) (new - (k + 1))) (sym q);
-          long = ap length q ∙ replace_length h k t ∙ w.long;
         }
 
     pub replacing_ends : 1 ≤ first → new ≤ k → h ≡ replace_all h₀ t (first - 1) (new + 1 - first)
@@ -170,11 +157,6 @@ module _ (h₀ : Bytes) (first new t : ℕ) where
         sym
         (ap (replace_all h₀ t (first - 1)) (let e : new + 1 - first ≡ new - (first - 1) = omega arith in e)
         ∙ w.bytes ∙ ap (replace_all h t k) (let e : new - k ≡ 0 = omega arith in e))
-
-pub replace_all_length : (h : Bytes) (t k n : ℕ) → length (replace_all h t k n) ≡ length h
-unfolding replace_all
-replace_all_length h t k zero = refl
-replace_all_length h t k (suc n) = replace_all_length (replace_bytes h k t) t (k + 1) n ∙ replace_length h k t
 
 -- as many certificates as before
 replace_certificates : (h : Bytes) (k t : ℕ) → word_at (replace_bytes h k t) 6 1 ≡ word_at h 6 1

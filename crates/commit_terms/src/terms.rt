@@ -1,6 +1,6 @@
 // Commit terms (`record_commit_terms`): the term in which each index was committed, as far as it is known. A term that comes
 // late can make an index relevant that a check has passed, so the marks past it are lowered.
-ghost use Rattle.std.specs.Prelude.{◌≡◌, true, ◌+◌, ◌-◌, ◌≤◌, length};
+ghost use Rattle.std.specs.Prelude.{◌≡◌, true, ◌+◌, ◌-◌, ◌≤◌};
 ghost use Rattle.storage.specs.Rules.{well_formed};
 ghost use Rattle.storage.specs.Tables.{term_row};
 ghost use Rattle.table_rows.specs.TermSearch.{found_index};
@@ -12,7 +12,7 @@ use records::head::CommitTerms;
 use storage::fresh::clear;
 use storage::head::{last_recorded, set_last_recorded};
 use storage::rows::set;
-use storage_bytes::layout::{TERM_WIDTH, TERMS};
+use storage_bytes::layout::{History, TERM_WIDTH, TERMS, Terms};
 use table_rows::terms::{CommitTerm, term_of};
 use term_marks::marks::lower_marks;
 use units::{LogIndex, Term};
@@ -30,18 +30,18 @@ impl From<OldExceedsNew> for Refusal {
 }
 
 // The list is lengthened with zeros to `new`: the places first, then the count, once.
-fn lengthen(history: &mut [u8], new: LogIndex)
-    requires { (new.0 ≤ 256) × (length history.old ≡ 24137) }
+fn lengthen(history: &mut History, new: LogIndex)
+    requires { new.0 ≤ 256 }
     ensures { history.new ≡ lengthened_to history.old new.0 }
 {
-    let recorded = last_recorded(&history[..]);
+    let recorded = last_recorded(history);
     if new <= recorded {
         return;
     }
     let a = TERMS.start + recorded.0 * TERM_WIDTH;
     let e = TERMS.start + new.0 * TERM_WIDTH;
     clear(&mut history[a..e]);
-    set_last_recorded(&mut history[..], new);
+    set_last_recorded(history, new);
 }
 
 // A nonzero term replaces one that is zero or greater.
@@ -52,8 +52,9 @@ fn is_replaced(x: Term, term: Term) -> bool
 }
 
 // The first index from old + 1 to new whose place the term replaces, where there is one. Nothing is written.
-fn first_replaced(terms: &[u8], old: LogIndex, new: LogIndex, term: Term) -> Option<LogIndex>
-    requires { (old.0 ≤ new.0) × (new.0 ≤ 256) × (length terms.now ≡ 1024) }
+#[tactic(auto, using(crate::proofs::TermTurns::searching_found, crate::proofs::TermTurns::searching_next, crate::proofs::TermTurns::searching_none))]
+fn first_replaced(terms: &Terms, old: LogIndex, new: LogIndex, term: Term) -> Option<LogIndex>
+    requires { (old.0 ≤ new.0) × (new.0 ≤ 256) }
     ensures { result ≡ found_index (first_replaced (term_row terms.now) term.0 old.0 (new.0 - old.0)) }
 {
     for k in old.0..new.0 {
@@ -66,39 +67,42 @@ fn first_replaced(terms: &[u8], old: LogIndex, new: LogIndex, term: Term) -> Opt
 }
 
 // The place of the index, where the term replaces it.
-fn replace_term(history: &mut [u8], index: LogIndex, term: Term)
-    requires { (1 ≤ index.0) × (index.0 ≤ 256) × (length history.old ≡ 24137) }
+#[tactic(auto, using(crate::proofs::TermTurns::replace_so, crate::proofs::TermTurns::replace_not))]
+fn replace_term(history: &mut History, index: LogIndex, term: Term)
+    requires { (1 ≤ index.0) × (index.0 ≤ 256) }
     ensures { history.new ≡ replace_bytes history.old (index.0 - 1) term.0 }
 {
-    let x = term_of(TERMS.of(&history[..]), index);
+    let x = term_of(TERMS.array(history), index);
     if is_replaced(x, term) {
-        set(&mut history[..], index.0 - 1, CommitTerm(term));
+        set(history, index.0 - 1, CommitTerm(term));
     }
 }
 
 // Each place from the first index to new.
-fn replace_terms(history: &mut [u8], first: LogIndex, new: LogIndex, term: Term)
-    requires { (1 ≤ first.0) × (new.0 ≤ 256) × (length history.old ≡ 24137) }
+#[tactic(auto, using(crate::proofs::TermTurns::replacing_next, crate::proofs::TermTurns::replacing_ends, crate::proofs::TermTurns::replacing_starts))]
+fn replace_terms(history: &mut History, first: LogIndex, new: LogIndex, term: Term)
+    requires { (1 ≤ first.0) × (new.0 ≤ 256) }
     ensures { history.new ≡ replace_all history.old term.0 (first.0 - 1) (new.0 + 1 - first.0) }
 {
     for k in first.0 - 1..new.0 {
-        replace_term(&mut history[..], LogIndex(k + 1), term);
+        replace_term(history, LogIndex(k + 1), term);
     }
 }
 
 // The indexes after old, through new, were committed in the term. A repeated record writes nothing.
-pub fn record_commit_terms(history: &mut [u8], t: CommitTerms) -> Result<(), OldExceedsNew>
+#[tactic(auto, using(storage::proofs::WellFormed::certificates_fit, crate::proofs::TermTurns::lengthened_certificates, crate::proofs::TermTurns::replace_all_certificates, table_rows::proofs::TermSearchLaws::index_told))]
+pub fn record_commit_terms(history: &mut History, t: CommitTerms) -> Result<(), OldExceedsNew>
     requires { (well_formed history.old ≡ true) × (t.new.0 ≤ 256) }
     ensures { (result ≡ terms_answer t.old.0 t.new.0) × (history.new ≡ terms_bytes history.old t.old.0 t.new.0 t.term.0) }
 {
     if t.new < t.old {
         return Err(OldExceedsNew);
     }
-    lengthen(&mut history[..], t.new);
-    let found = first_replaced(TERMS.of(&history[..]), t.old, t.new, t.term);
+    lengthen(history, t.new);
+    let found = first_replaced(TERMS.array(history), t.old, t.new, t.term);
     if let Some(first) = found {
-        replace_terms(&mut history[..], first, t.new, t.term);
-        lower_marks(&mut history[..], t.term, first);
+        replace_terms(history, first, t.new, t.term);
+        lower_marks(history, t.term, first);
     }
     Ok(())
 }

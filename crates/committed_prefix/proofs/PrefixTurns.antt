@@ -1,20 +1,16 @@
 -- What the steps on the committed prefix answer and leave, by what they read.
 -- Assumes nothing.
-use Prim.Native.Nat.{ℕ, ◌+◌, ◌*◌, ◌≤◌}
+use Prim.Native.Nat.{ℕ, ◌≤◌}
 use mathlib.Core.Path.{◌≡◌, refl, sym, ◌∙◌, ap, subst}
 use mathlib.Core.Bool.{Bool, false}
-use lib.ListN.{length}
 use Rattle.model.specs.Sizes.{Bytes}
-use Rattle.storage_bytes.specs.Words.{word_at, word_bytes, put_bytes}
-use Rattle.storage.specs.Tables.{PrefixRow, NodeRow, row_of_node, prefix_row, nodes_part, prefixes_part}
-use Rattle.storage.specs.Writes.{node_bytes, committed_set}
-use Rattle.storage_bytes.proofs.WordLaws.{put_length}
+use Rattle.storage_bytes.specs.Words.{word_at}
+use Rattle.storage.specs.Tables.{PrefixRow, prefix_row, prefixes_part}
 use Rattle.prefix_lookup.specs.Prefix.{stored_of, slice_of}
 use Rattle.log_comparison.specs.Comparison.{same_from}
 use Rattle.prefix_lookup.proofs.StoredLaws.{stored_number}
 use Rattle.prefix_lookup.proofs.TableLaws.{whole_table, slice_within}
-use Rattle.prefix_lookup.proofs.FrontLaws.{node_read}
-use Rattle.committed_prefix.specs.Prefix.{rows_of, node_of, same_slices, agree_in, unseen_set, keep_bytes}
+use Rattle.committed_prefix.specs.Prefix.{rows_of, same_slices, agree_in}
 use Rattle.units.specs.declared.LogPrefixWitness.{LogPrefixWitness}
 use Rattle.storage.proofs.WellFormed.{Formed}
 use Rattle.std.specs.Prelude.{Option, Some, None}
@@ -26,14 +22,6 @@ stored_within h p i q f l e = slice_within (prefixes_part h) (word_at h 0 2) p i
 -- the committed prefix, where one is kept, is stored
 pub kept_within : (h : Bytes) → Formed h → (k : Option LogPrefixWitness) → k ≡ stored_of (word_at h 4 2) → (c : LogPrefixWitness) → k ≡ Some c → c.0 ≤ word_at h 0 2
 kept_within h f k ek c g = subst (λ (x : ℕ). x ≤ word_at h 0 2) (sym (stored_number (word_at h 4 2) k ek c g).0) f.committed
-
--- ---- the unseen mark
-
-pub unseen_is : (h : Bytes) (n : ℕ) (q : Bytes) → q ≡ nodes_part h → (x : NodeRow) → x ≡ row_of_node q n → (m : ℕ) (u : Bytes)
-    → u ≡ put_bytes h (9 + n * 6) (node_bytes (record { front = x.front; last = x.last; unseen = m })) → u ≡ unseen_set h n m
-unfolding unseen_set
-unseen_is h n q eq x ex m u e =
-    e ∙ ap (λ (y : NodeRow). put_bytes h (9 + n * 6) (node_bytes (record { front = y.front; last = y.last; unseen = m }))) (node_read h n q eq x ex)
 
 -- ---- compared
 
@@ -67,18 +55,3 @@ module _ (h : Bytes) (a b i : ℕ) (q : Bytes) (eq : q ≡ prefixes_part h) (r :
     pub agree_same : (p' : LogPrefixWitness) → s ≡ Some p' → (v : Bool) → v ≡ same_from (prefix_row q) p.0 p.0 p'.0 → v ≡ agree_in h a b i
     agree_same p' g v w =
         w ∙ ap (λ (u : Bytes). same_from (prefix_row u) p.0 p.0 p'.0) eq ∙ sym (both_slices ∙ ap (same_slices (rows_of h) (Some p)) g)
-
--- ---- lengths
-
-pub unseen_length : (h : Bytes) (n m : ℕ) → length (unseen_set h n m) ≡ length h
-unfolding unseen_set
-unseen_length h n m = put_length h (9 + n * 6) (node_bytes (record { front = (node_of h n).front; last = (node_of h n).last; unseen = m }))
-
-committed_length_lem : (h : Bytes) (p o : ℕ) → length (committed_set h p o) ≡ length h
-unfolding committed_set
-committed_length_lem h p o = put_length (put_bytes h 4 (word_bytes 2 p)) 8 (word_bytes 1 o) ∙ put_length h 4 (word_bytes 2 p)
-
--- whoever is the owner
-pub keep_length : (h : Bytes) (n p : ℕ) → length (keep_bytes h n p) ≡ length h
-unfolding keep_bytes
-keep_length h n p = committed_length_lem (unseen_set h n 0) p _ ∙ unseen_length h n 0

@@ -1,16 +1,17 @@
 // The committed prefix: looked up, held against another one, and replaced; and a node's unseen mark.
-ghost use Rattle.std.specs.Prelude.{◌≡◌, true, ◌≤◌, ◌<◌, length};
+ghost use Rattle.std.specs.Prelude.{◌≡◌, ◌≤◌, ◌<◌, length};
 ghost use Rattle.storage_bytes.specs.Words.{word_at};
-ghost use Rattle.storage.specs.Rules.{well_formed};
+ghost use Rattle.table_rows.specs.Values.{mark_value};
 ghost use Rattle.prefix_lookup.specs.Prefix.{stored_of};
 ghost use Rattle.committed_prefix.specs.Prefix.{unseen_set, agree_in, keep_bytes};
 
 use log_comparison::comparison::same_prefix;
 use prefix_lookup::lookup::slice_through;
 use storage::head::{committed, set_committed};
-use storage::rows::{StoredRow, set};
-use storage_bytes::layout::{NODES, PREFIXES};
-use table_rows::nodes::Node;
+use storage::rows::set;
+use storage::stored::Stored;
+use storage_bytes::layout::{History, PREFIXES};
+use table_rows::nodes::{Node, node_of};
 use units::{LogIndex, LogPrefixWitness, NodeId};
 
 // The committed prefix, where one is kept.
@@ -25,27 +26,28 @@ pub fn committed_prefix(history: &[u8]) -> Option<LogPrefixWitness>
     Some(p)
 }
 
-// The node's unseen mark is set; its view stays.
-pub fn set_unseen(history: &mut [u8], node: NodeId, mark: LogIndex)
-    requires { (node.0 < 64) × (length history.old ≡ 24137) }
-    ensures { history.new ≡ unseen_set history.old node.0 mark.0 }
+// The node's unseen mark is set, or cleared; its view stays.
+#[tactic(auto, unfolding(crate::specs::Prefix::unseen_set))]
+pub fn set_unseen(history: &mut History, node: NodeId, mark: Option<LogIndex>)
+    requires { node.0 < 64 }
+    ensures { history.new ≡ unseen_set history.old node.0 (mark_value mark) }
 {
-    let k = usize::from(node.0);
-    let x = Node::at(NODES.of(&history[..]), k);
-    set(&mut history[..], k, Node { unseen: mark, ..x });
+    let x = node_of(history, node);
+    set(history, usize::from(node.0), Node { unseen: mark, ..x });
 }
 
 // Both prefixes reach the index, and are the same through it.
 pub fn agree_through(
-    history: &[u8],
+    history: Stored<'_>,
     a: LogPrefixWitness,
     b: LogPrefixWitness,
     index: LogIndex,
 ) -> bool
-    requires { (well_formed history.now ≡ true) × (a.0 ≤ word_at history.now 0 2) × (b.0 ≤ word_at history.now 0 2) }
-    ensures { result ≡ agree_in history.now a.0 b.0 index.0 }
+    requires { (a.0 ≤ word_at history.bytes.now 0 2) × (b.0 ≤ word_at history.bytes.now 0 2) }
+    ensures { result ≡ agree_in history.entry.bytes.now a.0 b.0 index.0 }
 {
-    let prefixes = PREFIXES.of(history);
+    let bytes = history.bytes;
+    let prefixes = PREFIXES.array(bytes);
     let Some(p) = slice_through(prefixes, a, index) else {
         return false;
     };
@@ -56,10 +58,11 @@ pub fn agree_through(
 }
 
 // The prefix becomes the committed one, and the node its owner; the node's unseen mark is cleared.
-pub fn keep(history: &mut [u8], node: NodeId, p: LogPrefixWitness)
-    requires { (node.0 < 64) × (length history.old ≡ 24137) }
+#[tactic(auto, unfolding(crate::specs::Prefix::keep_bytes))]
+pub fn keep(history: &mut History, node: NodeId, p: LogPrefixWitness)
+    requires { node.0 < 64 }
     ensures { history.new ≡ keep_bytes history.old node.0 p.0 }
 {
-    set_unseen(&mut history[..], node, LogIndex::ZERO);
-    set_committed(&mut history[..], p, node);
+    set_unseen(history, node, None);
+    set_committed(history, p, node);
 }

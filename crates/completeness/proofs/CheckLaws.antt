@@ -4,14 +4,12 @@ use Prim.Native.Nat.{ℕ, ◌<◌, ◌≤◌}
 use mathlib.Core.Path.{◌≡◌, refl, sym, ◌∙◌, ap, subst}
 use mathlib.Core.Bool.{Bool, cond}
 use lib.Dec.{ltb}
-use lib.ListN.{length}
 use borrow.Author.Tests.{lt-ltb, le-ltb}
 use Rattle.model.specs.Sizes.{Bytes}
 use Rattle.model.proofs.Tests.{cond_true, cond_false}
 use Rattle.storage_bytes.specs.Words.{word_at}
 use Rattle.storage.specs.Tables.{findings_part, prefixes_part}
 use Rattle.log_violation.specs.Violation.{held_all, bytes_all, findings_kept}
-use Rattle.log_violation.proofs.Kept.{kept_length}
 use Rattle.log_violation.specs.declared.violation.FindingsFull.{FindingsFull}
 use Rattle.storage.specs.Values.{certificates_of, number_index, committed_end}
 use Rattle.units.specs.declared.LogPrefixWitness.{LogPrefixWitness}
@@ -20,7 +18,6 @@ use Rattle.prefix_lookup.proofs.StoredLaws.{stored_number, stored_nothing}
 use Rattle.certificate_judgement.specs.Judgement.{lackings_in, JudgedAll}
 use Rattle.check_marks.specs.Marks.{marks_moved}
 use Rattle.completeness.specs.Check.{check_held, check_table, check_written, judged_answer, judged_bytes, kept_answer, kept_bytes, check_answer, check_bytes, CheckedAs}
-use Rattle.check_marks.proofs.MarkLaws.{marks_length}
 use Rattle.std.specs.Prelude.{Option, Some, None, Result, Ok, Err}
 
 -- ---- written
@@ -29,10 +26,6 @@ module _ (h t : Bytes) (held end : ℕ) where
   pub written_as : (a : Bytes) → a ≡ marks_moved h end 0 (word_at h 6 1) → (b : Bytes) → b ≡ findings_kept a t held → b ≡ check_written h t held end
   unfolding check_written
   written_as a ea b eb = eb ∙ ap (λ (x : Bytes). findings_kept x t held) ea
-
-  pub written_length : length (check_written h t held end) ≡ length h
-  unfolding check_written
-  written_length = kept_length (marks_moved h end 0 (word_at h 6 1)) t held ∙ marks_length (word_at h 6 1) h end 0
 
 -- ---- the committed prefix taken apart
 

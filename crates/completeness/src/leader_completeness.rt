@@ -8,9 +8,10 @@ use check_marks::marks::move_marks;
 use committed_prefix::committed::committed_prefix;
 use log_violation::violation::{FindingsFull, Notes};
 use prefix_rows::prefixes::through;
-use storage_bytes::layout::PREFIXES;
+use storage::stored::Stored;
+use storage_bytes::layout::{History, PREFIXES};
 
-// The flag of a relevant index.
+// The flag of a relevant index: a number and no enum, since it is the record's value, which callers in C read.
 const RELEVANT_INDEX: usize = 4;
 
 // The sum of the flags.
@@ -22,19 +23,20 @@ fn flags(relevant: bool) -> usize
 
 // The check: judged on a copy of the findings, then the marks and the findings are written. Its value: 4 where an index was relevant,
 // else 0. Where the findings would exceed their limit, no mark is moved.
-pub fn record_leader_completeness(history: &mut [u8]) -> Result<usize, FindingsFull>
+#[tactic(auto, using(storage::proofs::WellFormed::certificates_fit))]
+pub fn record_leader_completeness(history: &mut History) -> Result<usize, FindingsFull>
     requires { well_formed history.old ≡ true }
     ensures { CheckedAs history.old result history.new }
 {
-    let Some(prefix) = committed_prefix(&history[..]) else {
+    let Some(prefix) = committed_prefix(history) else {
         return Ok(0); // nothing is committed, so no mark is passed
     };
-    let end = through(PREFIXES.of(&history[..]), prefix);
+    let end = through(PREFIXES.array(history), prefix);
     let committed = Committed { prefix, end };
-    let mut notes = Notes::of(&history[..]);
-    let relevant = judge_all(&history[..], committed, &mut notes);
+    let mut notes = Notes::of(history);
+    let relevant = judge_all(Stored { bytes: &*history }, committed, &mut notes);
     notes.fits()?;
-    move_marks(&mut history[..], end);
-    notes.keep(&mut history[..]);
+    move_marks(history, end);
+    notes.keep(history);
     Ok(flags(relevant))
 }

@@ -19,14 +19,6 @@ use Rattle.election_judging.proofs.Turns as judged
 use Rattle.election.specs.Certify.{full_in, answer_of, kept, bytes_of, answer_in, bytes_in, Recorded}
 use Rattle.std.specs.Prelude.{Option, Some, None, Result, Ok, Err, ⊤}
 
--- a new certificate's row, with a log and without
-module _ (l t number log : ℕ) (p : Bool) where
-  pub present_kept : p ≡ true → ◌≡◌ {A = CertificateRow} (record { term = t; log = log; mark = 0; leader = l; number = number; present = 1 }) (kept l t number p log)
-  present_kept e = ap (λ (b : Bool). kept l t number b log) (sym e)
-
-  pub absent_kept : p ≡ false → ◌≡◌ {A = CertificateRow} (record { term = t; log = log; mark = 0; leader = l; number = number; present = 0 }) (kept l t number p log)
-  absent_kept e = ap (λ (b : Bool). kept l t number b log) (sym e)
-
 -- the place is among those held, or behind them
 pub place_fits : (h : Bytes) (t : ℕ) (m : Result Numbering NumberTaken) → m ≡ numbering_in h t → (k : Numbering) → m ≡ Ok k → k.place ≤ word_at h 6 1
 place_fits h t m e k g = judged.next_within (certificate_row (certificates_part h)) t (word_at h 6 1) k (sym e ∙ g)
@@ -85,12 +77,12 @@ module _ (h : Bytes) (l t : ℕ) (p : Bool) (n : ℕ) where
 
         module _ (m : Result Numbering NumberTaken) (em : m ≡ numbering_in h t) where
           -- 11
-          pub taken : (x : NumberTaken) → m ≡ Err x → Gives (Err ElectionRefusal.NumberTaken) h
+          pub taken : (x : NumberTaken) → m ≡ Err x → (r : Result ⊤ ElectionRefusal) → r ≡ Err ElectionRefusal.NumberTaken → Gives r h
           unfolding answer_in bytes_in
-          taken x g =
+          taken x g r er =
               let q = sym em ∙ g in
               record {
-                answer = is_eleven (full_in h) (numbering_in h t) (front_through h l n) log within room x q;
+                answer = er ∙ is_eleven (full_in h) (numbering_in h t) (front_through h l n) log within room x q;
                 bytes = sym (λ i. bytes_of h l t p (within i) (room i) (q i));
               }
 

@@ -12,9 +12,11 @@ use election_judging::judging::{NumberTaken, number_in_term};
 use prefix_lookup::lookup::front_through;
 use records::head::Election;
 use storage::head::certificate_count;
+use storage::stored::Stored;
+use storage_bytes::layout::History;
 use units::{CERTIFICATE_LIMIT, LogIndex, LogPrefixWitness};
 
-// Why an election is refused.
+// Why an election is refused. An enum of its own, so that a contract rules every other refusal out.
 #[derive(Clone, Copy, PartialEq, Eq)]
 pub enum ElectionRefusal {
     // 9: the length exceeds the leader's front.
@@ -61,18 +63,19 @@ fn new_certificate(e: Election, number: usize, log: LogPrefixWitness) -> Certifi
 
 // An election of the leader in the term, with the first `length` entries of its front where its log is present: 9, then 10,
 // then 11, else the certificate is put in its place.
-pub fn record_election(history: &mut [u8], e: Election) -> Result<(), ElectionRefusal>
+#[tactic(auto, using(crate::proofs::Turns::place_fits))]
+pub fn record_election(history: &mut History, e: Election) -> Result<(), ElectionRefusal>
     requires { (well_formed history.old ≡ true) × (e.leader.0 < 64) }
     ensures { Recorded history.old e.leader.0 e.term.0 e.present e.length result history.new }
 {
-    let Some(log) = front_through(&history[..], e.leader, LogIndex(e.length)) else {
+    let Some(log) = front_through(Stored { bytes: &*history }, e.leader, LogIndex(e.length)) else {
         return Err(ElectionRefusal::LengthExceedsFront);
     };
-    if CERTIFICATE_LIMIT <= certificate_count(&history[..]) {
+    if CERTIFICATE_LIMIT <= certificate_count(history) {
         return Err(ElectionRefusal::CertificatesFull);
     }
-    let next = number_in_term(&history[..], e.term)?;
+    let next = number_in_term(Stored { bytes: &*history }, e.term)?;
     let c = new_certificate(e, next.number, log);
-    add_certificate(&mut history[..], next.place, c);
+    add_certificate(history, next.place, c);
     Ok(())
 }

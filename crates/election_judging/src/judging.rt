@@ -1,11 +1,11 @@
 // What an election is judged by, with nothing written: the place and number of a new certificate of its term, or that the number
 // is taken (11).
-ghost use Rattle.std.specs.Prelude.{◌≡◌, true};
-ghost use Rattle.storage.specs.Rules.{well_formed};
+ghost use Rattle.std.specs.Prelude.{◌≡◌};
 ghost use Rattle.election_judging.specs.Certify.{numbering_in};
 
 use certificate_order::order::{held_of, is_taken, place_of};
 use storage::head::certificate_count;
+use storage::stored::Stored;
 use storage_bytes::layout::CERTIFICATES;
 use units::Term;
 
@@ -21,12 +21,13 @@ pub struct Numbering {
 pub struct NumberTaken;
 
 // The place and the number are found once. The number is how many the term holds.
-pub fn number_in_term(history: &[u8], term: Term) -> Result<Numbering, NumberTaken>
-    requires { well_formed history.now ≡ true }
-    ensures { result ≡ numbering_in history.now term.0 }
+#[tactic(auto, using(storage::proofs::WellFormed::certificates_fit, crate::proofs::Turns::place_fits, crate::proofs::Turns::number_fits))]
+pub fn number_in_term(history: Stored<'_>, term: Term) -> Result<Numbering, NumberTaken>
+    ensures { result ≡ numbering_in history.entry.bytes.now term.0 }
 {
-    let n = certificate_count(history);
-    let certificates = CERTIFICATES.array(history);
+    let bytes = history.bytes;
+    let n = certificate_count(bytes);
+    let certificates = CERTIFICATES.array(bytes);
     let place = place_of(certificates, n, term);
     let number = held_of(certificates, place, term);
     if is_taken(certificates, place, number, number) {

@@ -2,12 +2,12 @@
 -- Assumes nothing.
 use Prim.Native.Nat.{ℕ, suc, ◌-◌, ◌≤◌, ◌<◌}
 use native.Mathlib.Omega.{arith}
-use mathlib.Core.Path.{◌≡◌, refl, sym, ◌∙◌, ap, subst}
+use mathlib.Core.Path.{◌≡◌, sym, ◌∙◌, ap, subst}
 use lib.Dec.{leb}
 use lib.ListN.{length}
 use borrow.Author.Tests.{le-leb, lt-leb}
 use Rattle.model.specs.Sizes.{Bytes}
-use Rattle.model.proofs.Tests.{cond_cases, cond_true, cond_false}
+use Rattle.model.proofs.Tests.{cond_true, cond_false}
 use Rattle.storage_bytes.specs.Words.{word_at, word_bytes}
 use Rattle.storage_bytes.proofs.WordLaws.{put_length}
 use Rattle.term_marks.specs.Marks.{mark_set, certificate_of, lower_bytes, lower_back}
@@ -16,16 +16,10 @@ pub mark_length : (h : Bytes) (k m : ℕ) → length (mark_set h k m) ≡ length
 unfolding mark_set
 mark_length h k m = put_length h _ (word_bytes 2 m)
 
-pub lower_length : (h : Bytes) (first k : ℕ) → length (lower_bytes h first k) ≡ length h
-unfolding lower_bytes
-lower_length h first k =
-    cond_cases (λ (u : Bytes). length u ≡ length h) (leb first (certificate_of h k).mark) _ h (λ _. mark_length h k (first - 1)) (λ _. refl)
-
 -- ---- the loop
 
 pub record Lowering (h₀ : Bytes) (t first : ℕ) (h : Bytes) (k : ℕ) : Type 0 where
   pub bytes : lower_back h₀ t first (word_at h₀ 6 1) ≡ lower_back h t first k
-  pub long : length h ≡ 24137
   pub within : k ≤ 64
 
 module _ (h₀ : Bytes) (t first : ℕ) where
@@ -50,6 +44,5 @@ module _ (h₀ : Bytes) (t first : ℕ) where
           record {
             bytes = turn ∙ cond_false (leb (certificate_of h (k - 1)).term t) h _ (lt-leb _ t (subst (λ (y : ℕ). t < y) e g))
                 ∙ ap (λ (v : Bytes). lower_back v t first (k - 1)) (sym q);
-            long = ap length q ∙ lower_length h first (k - 1) ∙ w.long;
             within = (let z = w.within in omega arith);
           }

@@ -1,33 +1,34 @@
 // The checked marks of certificates. Of a row only its term and its mark are read, and the mark alone is written, so the
 // rest of its certificate stays as it is.
-ghost use Rattle.std.specs.Prelude.{◌≡◌, ◌≤◌, ◌<◌, length};
+ghost use Rattle.std.specs.Prelude.{◌≡◌, ◌≤◌, ◌<◌};
 ghost use Rattle.storage_bytes.specs.Words.{word_at};
 ghost use Rattle.term_marks.specs.Marks.{certificate_of, mark_set, lower_bytes, lower_back};
 
 use certificate_rows::certificates::{mark_at, put_mark, term_at};
 use storage::head::certificate_count;
-use storage_bytes::layout::CERTIFICATES;
+use storage_bytes::layout::{CERTIFICATES, History};
 use units::{LogIndex, Term};
 
 // The term of certificate k.
-fn election_term(history: &[u8], k: usize) -> Term
-    requires { (k < 64) × (length history.now ≡ 24137) }
+fn election_term(history: &History, k: usize) -> Term
+    requires { k < 64 }
     ensures { result.0 ≡ (certificate_of history.now k).term }
 {
     term_at(CERTIFICATES.array(history), k)
 }
 
 // The mark of certificate k.
-pub fn checked_mark(history: &[u8], k: usize) -> LogIndex
-    requires { (k < 64) × (length history.now ≡ 24137) }
+pub fn checked_mark(history: &History, k: usize) -> LogIndex
+    requires { k < 64 }
     ensures { result.0 ≡ (certificate_of history.now k).mark }
 {
     mark_at(CERTIFICATES.array(history), k)
 }
 
-// The mark of certificate k, written. Only the table is lent.
-pub fn store_mark(history: &mut [u8], k: usize, mark: LogIndex)
-    requires { (k < 64) × (length history.old ≡ 24137) }
+// The mark of certificate k, written. Only the table is lent, on the spot: a function that lends a region to be written was tried, and
+// its `Lends` did not prove for a range.
+pub fn store_mark(history: &mut History, k: usize, mark: LogIndex)
+    requires { k < 64 }
     ensures { history.new ≡ mark_set history.old k mark.0 }
 {
     let a = CERTIFICATES.start;
@@ -37,8 +38,8 @@ pub fn store_mark(history: &mut [u8], k: usize, mark: LogIndex)
 
 // Where the mark of certificate k is at or past the first changed index, it goes before that.
 #[tactic(auto, unfolding(crate::specs::Marks::lower_bytes))]
-fn lower_mark(history: &mut [u8], k: usize, first: LogIndex)
-    requires { (k < 64) × (1 ≤ first.0) × (length history.old ≡ 24137) }
+fn lower_mark(history: &mut History, k: usize, first: LogIndex)
+    requires { (k < 64) × (1 ≤ first.0) }
     ensures { history.new ≡ lower_bytes history.old first.0 k }
 {
     if first <= checked_mark(history, k) {
@@ -48,8 +49,8 @@ fn lower_mark(history: &mut [u8], k: usize, first: LogIndex)
 
 // The marks of all certificates of a greater term. They stand by term, so it goes from the last back and stops at the
 // first whose term is not greater: none before that is.
-pub fn lower_marks(history: &mut [u8], term: Term, first: LogIndex)
-    requires { (word_at history.old 6 1 ≤ 64) × (1 ≤ first.0) × (length history.old ≡ 24137) }
+pub fn lower_marks(history: &mut History, term: Term, first: LogIndex)
+    requires { (word_at history.old 6 1 ≤ 64) × (1 ≤ first.0) }
     ensures { history.new ≡ lower_back history.old term.0 first.0 (word_at history.old 6 1) }
 {
     for k in (0..certificate_count(history)).rev() {

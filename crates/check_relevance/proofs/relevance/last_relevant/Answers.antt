@@ -2,7 +2,6 @@
 -- Assumes nothing.
 use Rattle.check_relevance.proofs.RelevanceLaws.{relevant_next, relevant_found, relevant_none}
 use Rattle.table_rows.proofs.TermSearchLaws.{index_found, index_none}
-use Rattle.storage.specs.Tables.{term_row}
 use Prim.Native.Nat.{◌+◌, ◌-◌, ◌≤◌, ◌<◌}
 use mathlib.Core.Path.{◌≡◌, ◌∙◌}
 use borrow.Author.Rules.{rules}
@@ -17,7 +16,7 @@ returns-then-lt c =
     let after = c.loop-k-test.true in
     index_found (record { 0 = l.k - 1 + 1 }) _
     ((let e : l.k - 1 + 1 ≡ l.k = omega arith in e)
-    ∙ relevant_found (term_row s.terms.now) s.mark.0 s.term.0 s.end.0 l.k l.invariant after _ c.term_at.ensures earlier)
+    ∙ relevant_found _ _ _ _ _ l.invariant after _ c.term_at.ensures earlier)
     (λ z. omega arith)
 
 pub loop-k-preserved : goal.loop-k-preserved
@@ -25,10 +24,9 @@ loop-k-preserved c =
     let l = c.loop-k in
     let s = c.args in
     let later : s.term.0 ≤ c.term_at.result.0 = search rules in
-    relevant_next (term_row s.terms.now) s.mark.0 s.term.0 s.end.0 l.k l.invariant c.loop-k-test.true _ c.term_at.ensures later
+    relevant_next _ _ _ _ _ l.invariant c.loop-k-test.true _ c.term_at.ensures later
 
 pub returns : goal.returns
 returns c =
     let l = c.loop-k in
-    let s = c.args in
-    index_none _ (relevant_none (term_row s.terms.now) s.mark.0 s.term.0 s.end.0 l.k l.invariant c.loop-k-test.false)
+    index_none _ (relevant_none _ _ _ _ _ l.invariant c.loop-k-test.false)

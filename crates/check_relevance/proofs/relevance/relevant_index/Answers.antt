@@ -3,8 +3,7 @@
 use Rattle.check_relevance.proofs.RelevanceLaws.{relevant_not_passed, relevant_read}
 use Rattle.table_rows.specs.TermSearch.{found_index}
 use Rattle.table_rows.proofs.TermSearchLaws.{index_none}
-use Rattle.certificate_rows.specs.Values.{certificate_value}
-use Rattle.storage.proofs.WellFormed.{formed, end_small}
+use Rattle.storage.proofs.WellFormed.{end_small}
 use Prim.Native.Nat.{◌≤◌, min}
 use mathlib.Core.Path.{◌≡◌, ◌∙◌, ap}
 use borrow.Author.Rules.{rules}
@@ -14,23 +13,16 @@ use Rattle.check_relevance.proofs.relevance.relevant_index.Goals as goal
 pub returns-then-le : goal.returns-then-le
 returns-then-le c =
     let passed : c.args.end.0 ≤ c.args.c.mark.0 = search rules in
-    index_none _ (relevant_not_passed c.args.history.now (certificate_value c.args.c) _ c.requires.1 passed)
-
-pub last_recorded-requires : goal.last_recorded-requires
-last_recorded-requires c = let l = (formed _ c.requires.0).long in omega arith
-
-pub of-requires : goal.of-requires
-of-requires c = let l = (formed _ c.requires.0).long in omega arith
+    index_none _ (relevant_not_passed _ _ _ c.requires passed)
 
 pub last_relevant-requires : goal.last_relevant-requires
 last_relevant-requires c =
     let e : c.min-last.result.0 ≡ min c.args.end.0 c.last_recorded.result.0 = search rules in
-    let m = c.requires.1 in
-    let b = end_small _ c.requires.0 in
-    (omega arith, c.of.ensures.long)
+    let b = end_small _ c.args.history.formed in
+    omega arith
 
 pub returns : goal.returns
 returns c =
     let e : c.min-last.result.0 ≡ min c.args.end.0 c.last_recorded.result.0 = search rules in
     c.last_relevant.ensures
-    ∙ ap found_index (relevant_read c.args.history.now (certificate_value c.args.c) _ c.requires.1 _ c.of.ensures.is _ c.last_recorded.ensures.is _ e)
+    ∙ ap found_index (relevant_read _ _ _ c.requires _ c.array.ensures.is _ c.last_recorded.ensures.is _ e)

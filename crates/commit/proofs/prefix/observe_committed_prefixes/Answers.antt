@@ -5,36 +5,20 @@ use Rattle.prefix_lookup.proofs.FrontLaws.{through_stored}
 use Rattle.commit.proofs.PrefixTurns.{observe_unseen, observe_zero, observe_first, observe_later}
 use Rattle.storage.proofs.WellFormed.{formed}
 use borrow.Author.Tests.{eqb-true, eqb-false}
-use native.Mathlib.Omega.{arith}
 use mathlib.Core.Path.{sym, ◌∙◌}
 use Rattle.commit.proofs.prefix.observe_committed_prefixes.Goals as goal
 
-pub set_unseen-requires : goal.set_unseen-requires
-set_unseen-requires c =
-    (c.requires.1, (formed _ c.requires.0).long)
-
 pub returns-in_default : goal.returns-in_default
 returns-in_default c =
-    observe_unseen c.args.history.now c.args.node.0 c.args.index.0 _ c.front_through.ensures c.in_default.is _ c.set_unseen.ensures
-
-pub set_unseen-requires-then-eq : goal.set_unseen-requires-then-eq
-set_unseen-requires-then-eq c =
-    (c.requires.1, (formed _ c.requires.0).long)
+    observe_unseen _ _ _ _ c.front_through.ensures c.in_default.is _ c.set_unseen.ensures
 
 pub returns-then-eq : goal.returns-then-eq
 returns-then-eq c =
-    observe_zero c.args.history.now c.args.node.0 c.args.index.0 _ c.front_through.ensures _ c.in-Some.is (eqb-true _ _ (sym c.if-eq.ensures)) _ c.set_unseen-then-eq.ensures
-
-pub committed_prefix-requires : goal.committed_prefix-requires
-committed_prefix-requires c = let l = (formed _ c.requires.0).long in omega arith
-
-pub keep-requires : goal.keep-requires
-keep-requires c =
-    (c.requires.1, (formed _ c.requires.0).long)
+    observe_zero _ _ _ _ c.front_through.ensures _ c.in-Some.is (eqb-true _ _ (sym c.if-eq.ensures)) _ c.set_unseen-then-eq.ensures
 
 pub returns-in_default-committed_prefix : goal.returns-in_default-committed_prefix
 returns-in_default-committed_prefix c =
-    observe_first c.args.history.now c.args.node.0 c.args.index.0 _ c.front_through.ensures _ c.in-Some.is (eqb-false _ _ (sym c.if-eq.ensures)) _ c.committed_prefix.ensures c.in_default-committed_prefix.is _ c.keep.ensures
+    observe_first _ _ _ _ c.front_through.ensures _ c.in-Some.is (eqb-false _ _ (sym c.if-eq.ensures)) _ c.committed_prefix.ensures c.in_default-committed_prefix.is _ c.keep.ensures
 
 pub insert_committed_prefix-requires : goal.insert_committed_prefix-requires
 insert_committed_prefix-requires c =
@@ -48,4 +32,4 @@ insert_committed_prefix-requires c =
 
 pub returns : goal.returns
 returns c =
-    observe_later c.args.history.now c.args.node.0 c.args.index.0 _ c.front_through.ensures _ c.in-Some.is (eqb-false _ _ (sym c.if-eq.ensures)) _ c.committed_prefix.ensures _ c.in-Some-committed_prefix.is _ _ c.insert_committed_prefix.ensures
+    observe_later _ _ _ _ c.front_through.ensures _ c.in-Some.is (eqb-false _ _ (sym c.if-eq.ensures)) _ c.committed_prefix.ensures _ c.in-Some-committed_prefix.is _ _ c.insert_committed_prefix.ensures

@@ -10,7 +10,7 @@ pub returns-then-le : goal.returns-then-le
 returns-then-le c =
     let s = c.args in
     let enough : s.new.0 ≤ c.last_recorded-recorded.result.0 = search rules in
-    lengthen_not s.history.now s.new.0 _ c.last_recorded-recorded.ensures.is enough
+    lengthen_not _ _ _ c.last_recorded-recorded.ensures.is enough
 
 pub returns : goal.returns
 returns c =
@@ -18,4 +18,4 @@ returns c =
     let l : c.last_recorded-recorded.result.0 < c.args.new.0 = search rules in
     let h = c.args.history.now in
     lengthen_so h c.args.new.0 _ r.ensures.is l _
-    (places_cleared h _ r.result.0 c.args.new.0 (omega arith) c.requires.0 c.requires.1 c.clear.ensures) _ c.set_last_recorded.ensures
+    (places_cleared h _ r.result.0 c.args.new.0 (omega arith) c.requires (omega arith) c.clear.ensures) _ c.set_last_recorded.ensures

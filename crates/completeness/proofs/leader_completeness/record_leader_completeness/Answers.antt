@@ -4,38 +4,33 @@ use Rattle.completeness.proofs.CheckLaws.{checked_nothing, number_is, end_read, 
 use Rattle.std.proofs.lemmas.Result.{err_from_is_err_and}
 use Rattle.log_violation.proofs.ViolationLaws.{too_many, in_limit}
 use Rattle.storage.proofs.WellFormed.{formed}
-use Rattle.check_marks.proofs.MarkLaws.{marks_length}
 use Rattle.committed_prefix.proofs.PrefixTurns.{kept_within}
-use mathlib.Core.Path.{ap, ◌∙◌}
+use Rattle.storage.specs.Values.{committed_end}
+use mathlib.Core.Path.{◌≡◌, ap, ◌∙◌}
 use native.Mathlib.Omega.{arith}
 use Rattle.std.specs.Prelude.{Ok}
-use lib.ListN.{length}
 use Rattle.completeness.proofs.leader_completeness.record_leader_completeness.Goals as goal
+use Rattle.completeness.proofs.leader_completeness.record_leader_completeness.Goals.{After-through-end}
 
-pub committed_prefix-requires : goal.committed_prefix-requires
-committed_prefix-requires c = let l = (formed _ c.requires).long in omega arith
+-- the end of the committed prefix, as it was read
+end_is : (c : After-through-end) → c.through-end.result.0 ≡ committed_end c.args.history.now
+end_is c = end_read _ _ c.committed_prefix.ensures _ c.in-Some.is _ c.array.ensures.is _ c.through-end.ensures.is
 
 pub returns-in_default : goal.returns-in_default
 returns-in_default c =
     checked_nothing c.args.history.now _ c.committed_prefix.ensures c.in_default.is
-
-pub of-requires : goal.of-requires
-of-requires c = let l = (formed _ c.requires).long in omega arith
 
 pub through-end-requires : goal.through-end-requires
 through-end-requires c =
     let o = formed _ c.requires in
     let a = kept_within _ o _ c.committed_prefix.ensures _ c.in-Some.is in
     let b = o.prefixes in
-    (omega arith, c.of.ensures.long)
-
-pub of-notes-requires : goal.of-notes-requires
-of-notes-requires c = let l = (formed _ c.requires).long in omega arith
+    omega arith
 
 pub judge_all-relevant-requires : goal.judge_all-relevant-requires
 judge_all-relevant-requires c = (
-  record { right = c.requires; committed = number_is _ _ c.committed_prefix.ensures _ c.in-Some.is },
-  end_read c.args.history.now _ c.committed_prefix.ensures _ c.in-Some.is _ c.of.ensures.is _ c.through-end.ensures.is,
+  number_is _ _ c.committed_prefix.ensures _ c.in-Some.is,
+  end_is (goal.at.judge_all-relevant-requires c).After-through-end,
 )
 
 pub returns-in_err-fits : goal.returns-in_err-fits
@@ -44,18 +39,10 @@ returns-in_err-fits c =
     let q = judged_refused c.args.history.now _ _ _ _ _ c.of-notes.ensures c.judge_all-relevant.ensures (too_many _ _ c.fits.ensures _ c.in_err-fits.was) in
     checked_kept c.args.history.now _ c.committed_prefix.ensures _ c.in-Some.is _ _ (p.1 ∙ q.0, q.1)
 
-pub move_marks-requires : goal.move_marks-requires
-move_marks-requires c =
-    let o = formed _ c.requires in
-    (o.certificates, o.long)
-
-pub keep-requires : goal.keep-requires
-keep-requires c = ap length c.move_marks.ensures ∙ marks_length _ _ _ _ ∙ (formed _ c.requires).long
-
 pub returns : goal.returns
 returns c =
     let h = c.args.history.now in
     let q = judged_accepted h _ _ _ _ _ c.of-notes.ensures c.judge_all-relevant.ensures (in_limit _ _ c.fits.ensures _ c.in_ok-fits.was)
-    _ (end_read h _ c.committed_prefix.ensures _ c.in-Some.is _ c.of.ensures.is _ c.through-end.ensures.is)
+    _ (end_is (goal.at.returns c).After-through-end)
     _ (written_as h _ _ _ _ c.move_marks.ensures _ c.keep.ensures) in
     checked_kept h _ c.committed_prefix.ensures _ c.in-Some.is _ _ (ap Ok c.flags.ensures ∙ q.0, q.1)

@@ -7,17 +7,14 @@ use Rattle.term_marks.proofs.marks.lower_marks.Goals as goal
 pub returns-then-le : goal.returns-then-le
 returns-then-le c =
     let l = c.loop-k in
-    let s = c.args in
-    lowering_ends s.history.now s.term.0 s.first.0 l.history l.k l.invariant c.loop-k-test.true _ c.election_term.ensures (search rules)
+    lowering_ends _ _ _ _ _ l.invariant c.loop-k-test.true _ c.election_term.ensures (search rules)
 
 pub loop-k-preserved : goal.loop-k-preserved
 loop-k-preserved c =
     let l = c.loop-k in
-    let s = c.args in
-    lowering_next s.history.now s.term.0 s.first.0 l.history l.k l.invariant c.loop-k-test.true _ c.election_term.ensures (search rules) _ c.lower_mark.ensures
+    lowering_next _ _ _ _ _ l.invariant c.loop-k-test.true _ c.election_term.ensures (search rules) _ c.lower_mark.ensures
 
 pub returns : goal.returns
 returns c =
     let l = c.loop-k in
-    let s = c.args in
-    lowering_none s.history.now s.term.0 s.first.0 l.history l.k l.invariant c.loop-k-test.false
+    lowering_none _ _ _ _ _ l.invariant c.loop-k-test.false
