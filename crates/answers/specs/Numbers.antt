@@ -1,16 +1,22 @@
 -- Document 01's numbers for the answer to a record, of the code's answers and of the model's.
 -- Assumes nothing.
-use Rattle.std.specs.Prelude.{ℕ, Result, Ok, Err}
+use Rattle.std.specs.Prelude.{ℕ, Option, None, Result, Ok, Err}
+use Rattle.std.specs.Option.{unwrap_or}
 use Rattle.model.specs.Refusal.{number, prefixesFull, findingsFull, old_exceeds_new, lengthExceedsFront, certificatesFull, numberTaken}
 use Rattle.model.specs.Answer as model
 use Rattle.bit_fields.specs.Answers.{refusal_of}
+use Rattle.units.specs.declared.NodeId.{NodeId}
 use Rattle.answers.specs.declared.answer.Accepted.{Accepted}
 use Rattle.answers.specs.declared.answer.Refusal.{Refusal}
 use Rattle.answers.specs.declared.numbers.Reply.{Reply}
 
 -- accepted with a value, and no row that fails
 abbrev pub accepted_with : ℕ → Result Accepted Refusal
-accepted_with v = Ok (record { value = v; node = record { 0 = 0 } })
+accepted_with v = Ok (record { value = v; node = None })
+
+-- the number of a node that may be none: then 0
+abbrev pub node_number : Option NodeId → ℕ
+node_number n = (unwrap_or n (record { 0 = 0 })).0
 
 -- a refusal: value and node are 0
 abbrev pub refusal_in : ℕ → Reply
@@ -28,7 +34,7 @@ number_of Refusal.NumberTaken = number numberTaken
 number_of Refusal.StorageBroken = 12
 
 abbrev pub reply_of : Result Accepted Refusal → Reply
-reply_of (Ok a) = record { refusal = 0; value = a.value; node = a.node.0 }
+reply_of (Ok a) = record { refusal = 0; value = a.value; node = node_number a.node }
 reply_of (Err r) = refusal_in (number_of r)
 
 -- the model's answer, which is never 12

@@ -6,11 +6,11 @@ ghost use Rattle.answers.specs.declared.answer.Refusal.{Refusal};
 use bit_fields::bits::Fault;
 use units::NodeId;
 
-// A record that is accepted, with its value and the node of a failing row or 0.
+// A record that is accepted, with its value and the node of a failing row.
 #[derive(Clone, Copy, PartialEq, Eq)]
 pub struct Accepted {
     pub value: usize,
-    pub node: NodeId,
+    pub node: Option<NodeId>,
 }
 
 impl Accepted {
@@ -18,10 +18,7 @@ impl Accepted {
     pub fn with(value: usize) -> Accepted
         ensures { Ok result ≡ accepted_with value }
     {
-        Accepted {
-            value,
-            node: NodeId(0),
-        }
+        Accepted { value, node: None }
     }
 }
 

@@ -1,8 +1,9 @@
-// Document 01's numbers for an answer: its refusal or 0, its value and its node.
+// Document 01's numbers for an answer: its refusal or 0, its value and its node. They are numbers because callers in C read them.
 ghost use Rattle.std.specs.Prelude.{◌≡◌};
 ghost use Rattle.answers.specs.Numbers.{reply_of};
 
 use crate::answer::{Accepted, Refusal};
+use units::NodeId;
 
 #[repr(C)]
 #[derive(Clone, Copy)]
@@ -23,7 +24,7 @@ impl From<Result<Accepted, Refusal>> for Reply {
             Ok(accepted) => Reply {
                 refusal: 0,
                 value: accepted.value,
-                node: accepted.node.0,
+                node: accepted.node.unwrap_or(NodeId(0)).0,
             },
             Err(r) => Reply {
                 refusal: u8::from(r),

@@ -5,7 +5,7 @@ use Rattle.model.specs.Rows as rows
 use Rattle.log_violation.specs.declared.violation.FindingsFull.{FindingsFull}
 use Rattle.election.specs.declared.certificate.ElectionRefusal.{ElectionRefusal}
 use Rattle.invariants.specs.declared.commit_safety.Failure.{Failure}
-use Rattle.invariants.specs.Rules.{number}
+use Rattle.invariants.specs.Rules.{number, verdict_for}
 use Rattle.answers.specs.declared.answer.Accepted.{Accepted}
 use Rattle.answers.specs.declared.answer.Refusal.{Refusal}
 use Rattle.answers.specs.Numbers.{accepted_with}
@@ -20,10 +20,11 @@ abbrev pub of_check : Result ℕ FindingsFull → Result Accepted Refusal
 of_check (Ok v) = accepted_with v
 of_check (Err e) = Err Refusal.FindingsFull
 
-abbrev pub of_rows : rows.Verdict → Result Accepted Refusal
-of_rows v = Ok (record { value = v.rule; node = record { 0 = v.node } })
-
 -- the code's own verdict
 abbrev pub of_verdict : Option Failure → Result Accepted Refusal
 of_verdict None = accepted_with 0
-of_verdict (Some f) = Ok (record { value = number f.rule; node = f.node })
+of_verdict (Some f) = Ok (record { value = number f.rule; node = Some f.node })
+
+-- the model's
+abbrev pub of_rows : rows.Verdict → Result Accepted Refusal
+of_rows v = of_verdict (verdict_for v)

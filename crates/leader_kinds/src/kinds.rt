@@ -12,6 +12,7 @@ use completeness::leader_completeness::record_leader_completeness;
 use election::certificate::record_election;
 use invariants::commit_safety::{Failure, check_commit_safety};
 use records::head::Election;
+use storage_bytes::layout::History;
 
 // The value is the rule that fails, 0 where none does.
 fn of_rows(failed: Option<Failure>) -> Accepted
@@ -20,27 +21,27 @@ fn of_rows(failed: Option<Failure>) -> Accepted
     match failed {
         Some(f) => Accepted {
             value: usize::from(u8::from(f.rule)),
-            node: f.node,
+            node: Some(f.node),
         },
         None => Accepted::with(0),
     }
 }
 
 // Kind 4.
-pub fn take_election(history: &mut [u8], e: Election) -> Result<Accepted, Refusal>
+pub fn take_election(history: &mut History, e: Election) -> Result<Accepted, Refusal>
     requires { (well_formed history.old ≡ true) × (e.leader.0 < 64) }
     ensures { (result ≡ of_election (answer_in history.old e.leader.0 e.term.0 e.length)) × (history.new ≡ bytes_in history.old e.leader.0 e.term.0 e.present e.length) }
 {
-    record_election(&mut history[..], e)?;
+    record_election(history, e)?;
     Ok(Accepted::with(0))
 }
 
 // Kind 5.
-pub fn take_check(history: &mut [u8]) -> Result<Accepted, Refusal>
+pub fn take_check(history: &mut History) -> Result<Accepted, Refusal>
     requires { well_formed history.old ≡ true }
     ensures { (result ≡ of_check (check_answer history.old)) × (history.new ≡ check_bytes history.old) }
 {
-    let value = record_leader_completeness(&mut history[..])?;
+    let value = record_leader_completeness(history)?;
     Ok(Accepted::with(value))
 }
 

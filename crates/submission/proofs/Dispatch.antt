@@ -1,30 +1,22 @@
 -- What a told head gives each kind, and a reply by another name of the same head.
 -- Assumes nothing.
-use Prim.Native.Nat.{ℕ, ◌≤◌, ◌<◌}
+use Prim.Native.Nat.{ℕ, ◌<◌}
 use mathlib.Core.Path.{◌≡◌, refl, sym, ◌∙◌, ap, subst}
-use mathlib.Core.Bool.{Bool, true, false}
+use mathlib.Core.Bool.{true, false}
 use Rattle.model.specs.Sizes.{Bytes}
-use Rattle.model.specs.Rows as rows
 use Rattle.model.proofs.Tests.{cond_true, cond_false}
 use Rattle.units.specs.declared.NodeId.{NodeId}
-use Rattle.units.specs.declared.LogIndex.{LogIndex}
-use Rattle.units.specs.declared.Term.{Term}
 use Rattle.bit_fields.specs.declared.bits.Fault.{Fault}
 use Rattle.records.specs.declared.head.Head.{Head}
 use Rattle.records.specs.Heads.{Told, Within}
-use Rattle.record_scan.specs.Places.{rows_at, first_row}
-use Rattle.records.proofs.Readable.{view_walk}
 use Rattle.storage.specs.Rules.{well_formed}
-use Rattle.view_judging.specs.Judging.{Observing}
 use Rattle.std.specs.Prelude.{Result, Ok, Err}
 use Rattle.answers.specs.declared.answer.Accepted.{Accepted}
 use Rattle.answers.specs.declared.answer.Refusal.{Refusal}
-use Rattle.leader_kinds.specs.Kinds.{of_rows}
 use Rattle.submission.specs.Replies.{reply_to, bytes_to, Replied, submit_answer, submit_bytes, Submitted}
 
-module _ (h s : Bytes) (d : Result Head Fault) (t : Told s d) where
-  pub view_asks : (n : NodeId) (c : ℕ) → well_formed h ≡ true → d ≡ Ok (Head.View n c) → Observing h s c n.0
-  view_asks n c w e = record { right = w; walk = view_walk s d n c t e; is_node = (subst Within e t.within).0 }
+pub view_node : (s : Bytes) (d : Result Head Fault) → Told s d → (n : NodeId) (c : ℕ) → d ≡ Ok (Head.View n c) → n.0 < 64
+view_node s d t n c e = (subst Within e t.within).0
 
 pub replied : (h s : Bytes) (d d' : Result Head Fault) (r : Result Accepted Refusal) (h' : Bytes) → d ≡ d' → (r ≡ reply_to h s d') × (h' ≡ bytes_to h s d') → Replied h s d r h'
 replied h s d d' r h' e q = subst (λ (x : Result Head Fault). Replied h s x r h') (sym e) (record { answer = q.0; bytes = q.1 })

@@ -5,9 +5,11 @@ use Prim.Native.Nat.{ℕ}
 use mathlib.Core.Path.{◌≡◌, refl, sym, ◌∙◌, ap, subst, subst₂}
 use mathlib.Core.Bool.{false}
 use mathlib.Core.Option.{Option, none, some}
+use mathlib.Core.List.{List}
 use Rattle.model.specs.Sizes.{Bytes}
 use Rattle.model.specs.Refusal.{prefixesFull, findingsFull, old_exceeds_new, lengthExceedsFront, certificatesFull, numberTaken}
-use Rattle.model.specs.Record.{Record, rows}
+use Rattle.model.specs.Record.{Row, Record, rows}
+use Rattle.model.specs.Rows.{Verdict, verdict}
 use Rattle.model.specs.Reading.{Reading, readable, unreadable, read}
 use Rattle.model.specs.History.{History}
 use Rattle.model.specs.Answer as model
@@ -37,18 +39,22 @@ use Rattle.election.specs.Certify.{answer_in}
 use Rattle.election.proofs.Meaning as elections
 use Rattle.completeness.specs.Check.{check_reply, check_answer, check_bytes}
 use Rattle.completeness.proofs.Meaning as checks
-use Rattle.std.specs.Prelude.{Result, Ok, Err, ⊤}
+use Rattle.std.specs.Prelude.{Option as Answered, Some, None, Result, Ok, Err, ⊤}
 use Rattle.answers.specs.declared.answer.Accepted.{Accepted}
 use Rattle.answers.specs.declared.answer.Refusal.{Refusal}
+use Rattle.answers.specs.Numbers.{node_number}
+use Rattle.invariants.specs.declared.commit_safety.Failure.{Failure}
+use Rattle.invariants.specs.Rules.{verdict_for, verdict_of}
+use Rattle.invariants.proofs.Pass.{verdict_back}
 use Rattle.log_kinds.specs.Kinds.{of_view, of_commit, of_terms}
-use Rattle.leader_kinds.specs.Kinds.{of_election, of_check}
+use Rattle.leader_kinds.specs.Kinds.{of_election, of_check, of_rows, of_verdict}
 use Rattle.submission.specs.Replies.{reply_to, bytes_to, submit_answer, submit_bytes, Submitted}
 
 -- ---- statement
 
 -- an answer in the model's words; 12 is not among the model's
 abbrev pub modelled : Result Accepted Refusal → Option model.Answer
-modelled (Ok a) = some (model.accepted a.value a.node.0)
+modelled (Ok a) = some (model.accepted a.value (node_number a.node))
 modelled (Err (Refusal.Unreadable f)) = some (model.refused (refusal_of f))
 modelled (Err Refusal.PrefixesFull) = some (model.refused prefixesFull)
 modelled (Err Refusal.FindingsFull) = some (model.refused findingsFull)
@@ -103,6 +109,13 @@ check_said : (a : Result ℕ FindingsFull) → modelled (of_check a) ≡ some (c
 check_said (Ok v) = refl
 check_said (Err e) = refl
 
+verdict_said : (v : Answered Failure) → modelled (of_verdict v) ≡ some (model.accepted (verdict_of v).rule (verdict_of v).node)
+verdict_said None = refl
+verdict_said (Some f) = refl
+
+rows_said : (rs : List Row) → modelled (of_rows (verdict rs)) ≡ some (model.accepted (verdict rs).rule (verdict rs).node)
+rows_said rs = verdict_said (verdict_for (verdict rs)) ∙ ap (λ (v : Verdict). some (model.accepted v.rule v.node)) (verdict_back rs)
+
 module _ (h : Bytes) (x : History) (st : Stands h x) where
   -- ---- any record
 
@@ -132,7 +145,7 @@ module _ (h : Bytes) (x : History) (st : Stands h x) where
       took h x s _ _ _ _ t.reading (check_said (check_answer h))
       (checks.check_means h x (check_answer h) (check_bytes h) st (record { is = refl; bytes = refl }))
   told_means s (Ok (Head.Rows c)) t =
-      took h x s _ _ _ _ t.reading refl (kinds.accepts h x (rows (rows_at s first_row c)) _ h refl refl st)
+      took h x s _ _ _ _ t.reading (rows_said (rows_at s first_row c)) (kinds.accepts h x (rows (rows_at s first_row c)) _ h refl refl st)
   told_means s (Err w) t = unread s w t.reading
 
 -- of bytes that stand for a history, what `submit` promises is what the model says

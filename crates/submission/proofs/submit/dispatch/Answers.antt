@@ -2,12 +2,15 @@
 -- Assumes nothing.
 use mathlib.Core.Path.{ap}
 use Rattle.std.specs.Prelude.{Ok}
-use Rattle.records.proofs.Readable.{rows_walk}
-use Rattle.submission.proofs.Dispatch.{view_asks}
+use Rattle.records.proofs.Readable.{view_walk, rows_walk}
+use Rattle.submission.proofs.Dispatch.{view_node}
 use Rattle.submission.proofs.submit.dispatch.Goals as goal
 
-pub take_view-requires : goal.take_view-requires
-take_view-requires c = let s = c in view_asks _ _ _ s.requires.1 _ _ s.requires.0 (ap Ok c.in-View.is)
+pub invariant_of-view : goal.invariant_of-view
+invariant_of-view c =
+    let t = c.requires.1 in
+    let e = ap Ok c.in-View.is in
+    record { walk = ∣ view_walk _ _ _ _ t e ∣₁; is_node = view_node _ _ t _ _ e }
 
 pub take_rows-requires : goal.take_rows-requires
 take_rows-requires c = let s = c in rows_walk _ _ _ s.requires.1 (ap Ok c.in-Rows.is)
