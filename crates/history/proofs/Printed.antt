@@ -5,7 +5,7 @@ use Prim.Native.Nat.{ℕ, zero, suc}
 use mathlib.Core.Path.{◌≡◌, refl, sym, ◌∙◌, ap}
 use mathlib.Core.Bool.{true, false, cond}
 use mathlib.Core.List.{List, [], ◌∷◌}
-use Rattle.std.specs.Prelude.{Option, Some, None, IfSome, IfNone, Result}
+use Rattle.std.specs.Prelude.{Option, Some, None, IfSome, IfNone, Ok, Err}
 use Rattle.model.specs.Sizes.{Bytes}
 use Rattle.model.specs.History.{History}
 use Rattle.model.specs.Lists.{finding_list, leader_list, unseen_list, unknown_list}
@@ -13,7 +13,7 @@ use mathlib.Core.Logic.{⊎_elim}
 use Rattle.model.proofs.Tests.{cond_true, cond_false, either}
 use Rattle.storage.specs.Rules.{well_formed}
 use Rattle.storage.specs.Decode.{decode}
-use Rattle.storage.specs.Fresh.{FreshMade, made_number}
+use Rattle.storage.specs.Fresh.{FreshMade}
 use Rattle.storage.specs.declared.fresh.WrongLength.{WrongLength}
 use Rattle.storage.proofs.Meanings.{stand, end_is}
 use Rattle.index_lists.specs.Picked.{nth}
@@ -41,52 +41,67 @@ nth_as f d g [] n = refl
 nth_as f d g (x ∷ xs) zero = refl
 nth_as f d g (x ∷ xs) (suc n) = nth_as f d g xs n
 
--- One law for the readers: `list` is the model's, `answer` what the code of `lists` gives for it, `said` the reply for that, and
--- `broken` the reply where the rules are broken.
-module _ {X A R : Type 0} (h : Bytes) (n : ℕ) (list : History → List X) (of : X → A) (none : A) (answer : A) (said : A → R) (broken : R) where
-  here : well_formed h ≡ true → answer ≡ nth of none (list (decode h)) n → (a : A) → a ≡ answer → (r : R) → r ≡ said a
-      → r ≡ cond (well_formed h) (nth (λ x. said (of x)) (said none) (list (decode h)) n) broken
-  here w told a ea r er =
-      er ∙ ap said (ea ∙ told) ∙ nth_as of none said (list (decode h)) n ∙ sym (cond_true (well_formed h) _ broken w)
+-- `reply`'s answer is `out`, by what it ensures: `post` tells what the closure gives of the history lent to it, which is `answer`, and
+-- `said` is the reply for that, `broken` the one where the rules are broken.
+abbrev pub Replied : {L A R : Type 0} (h : Bytes) (bytes : L → Bytes) (answer : Option A) (said : Option A → R) (broken out : R)
+    → (L → Option A → Type 0) → R → Type 0
+Replied {L = L} {A = A} h bytes answer said broken out post r =
+    (well_formed h ≡ false → r ≡ broken)
+    → (well_formed h ≡ true → (lent : L) × (bytes lent ≡ h) × (x : Option A) × post lent x × IfSome x (λ v. r ≡ said (Some v)) × IfNone x (r ≡ said None))
+    → ((lent : L) (x : Option A) → bytes lent ≡ h → post lent x → x ≡ answer)
+    → r ≡ out
 
-module _ (h : Bytes) (n : ℕ) where
-  pub finding_here : well_formed h ≡ true → (a : Option Found) → a ≡ finding_answer h n → (r : FindingReply) → r ≡ found_as a → r ≡ finding_out h n
-  finding_here w = here h n finding_list finding_of None (finding_answer h n) found_as (no_finding 12) w (findings_told h (decode h) n (stand h w))
+-- One law for the readers: `list` is the model's.
+module _ {X A R : Type 0} (h : Bytes) (n : ℕ) (list : History → List X) (of : X → Option A) (answer : Option A) (said : Option A → R) (broken : R)
+    (told : well_formed h ≡ true → answer ≡ nth of None (list (decode h)) n) where
+  out : R
+  out = cond (well_formed h) (nth (λ x. said (of x)) (said None) (list (decode h)) n) broken
 
-  pub leader_here : well_formed h ≡ true → (a : Option Printed) → a ≡ leader_answer h n → (r : LeaderReply) → r ≡ leader_is a → r ≡ leader_out h n
-  leader_here w = here h n leader_list leader_as None (leader_answer h n) leader_is (no_leader 12) w (leaders_told h (decode h) n (stand h w))
+  said_as : (r : R) (x : Option A) → IfSome x (λ v. r ≡ said (Some v)) → IfNone x (r ≡ said None) → r ≡ said x
+  said_as r (Some v) e f = e
+  said_as r None e f = f
 
-  pub mark_here : well_formed h ≡ true → (a : Option Mark) → a ≡ unseen_answer h n → (r : UnseenReply) → r ≡ mark_is a → r ≡ unseen_out h n
-  mark_here w = here h n unseen_list mark_of None (unseen_answer h n) mark_is (no_mark 12) w (unseen_told h (decode h) n (stand h w))
+  here : well_formed h ≡ true → said answer ≡ out
+  unfolding out
+  here w = ap said (told w) ∙ nth_as of None said (list (decode h)) n ∙ sym (cond_true (well_formed h) _ broken w)
 
-  pub index_here : well_formed h ≡ true → (a : Option LogIndex) → a ≡ unknown_answer h n → (r : UnknownReply) → r ≡ index_is a → r ≡ unknown_out h n
-  index_here w = here h n unknown_list index_of None (unknown_answer h n) index_is (no_index 12) w (unknown_told h (decode h) n (stand h w))
+  replied : {L : Type 0} (bytes : L → Bytes) (post : L → Option A → Type 0) (r : R) → Replied h bytes answer said broken out post r
+  unfolding out
+  replied bytes post r b g p =
+      ⊎_elim (λ w. let x = g w in said_as r x.2 x.4 x.5 ∙ ap said (p x.0 x.2 x.1 x.3) ∙ here w)
+      (λ w. b w ∙ sym (cond_false (well_formed h) _ broken w)) (either (well_formed h))
 
--- One law for the readers' replies: `post` tells what the closure gives, which is `answer`.
-replied_as : {A R : Type 0} (post : Option A → Type 0) (answer : Option A) (said : Option A → R) (r : R)
-    → (x : Option A) → post x → IfSome x (λ v. r ≡ said (Some v)) → IfNone x (r ≡ said None) → ((y : Option A) → post y → y ≡ answer) → r ≡ said answer
-replied_as post answer said r (Some v) q e f p = e ∙ ap said (p (Some v) q)
-replied_as post answer said r None q e f p = f ∙ ap said (p None q)
+module _ (h : Bytes) (n : ℕ) {L : Type 0} (bytes : L → Bytes) where
+  pub finding_here : (post : L → Option Found → Type 0) (r : FindingReply) → Replied h bytes (finding_answer h n) found_as (no_finding 12) (finding_out h n) post r
+  unfolding out
+  finding_here = replied h n finding_list finding_of (finding_answer h n) found_as (no_finding 12) (λ w. findings_told h (decode h) n (stand h w)) bytes
 
-pub replied : {A R : Type 0} (h : Bytes) (post : Option A → Type 0) (answer : Option A) (said : Option A → R) (broken out r : R)
-    → (well_formed h ≡ false → r ≡ broken)
-    → (well_formed h ≡ true → (x : Option A) × post x × IfSome x (λ v. r ≡ said (Some v)) × IfNone x (r ≡ said None))
-    → ((x : Option A) → post x → x ≡ answer)
-    → (well_formed h ≡ true → said answer ≡ out) → (well_formed h ≡ false → broken ≡ out) → r ≡ out
-replied h post answer said broken out r b g p here' broken' =
-    ⊎_elim (λ w. let x = g w in replied_as post answer said r x.0 x.1 x.2 x.3 p ∙ here' w) (λ w. b w ∙ broken' w) (either (well_formed h))
+  pub leader_here : (post : L → Option Printed → Type 0) (r : LeaderReply) → Replied h bytes (leader_answer h n) leader_is (no_leader 12) (leader_out h n) post r
+  unfolding out
+  leader_here = replied h n leader_list leader_as (leader_answer h n) leader_is (no_leader 12) (λ w. leaders_told h (decode h) n (stand h w)) bytes
 
--- where the rules are broken
-pub is_broken : {R : Type 0} (h : Bytes) (given broken : R) → well_formed h ≡ false → broken ≡ cond (well_formed h) given broken
-is_broken h given broken w = sym (cond_false (well_formed h) given broken w)
+  pub mark_here : (post : L → Option Mark → Type 0) (r : UnseenReply) → Replied h bytes (unseen_answer h n) mark_is (no_mark 12) (unseen_out h n) post r
+  unfolding out
+  mark_here = replied h n unseen_list mark_of (unseen_answer h n) mark_is (no_mark 12) (λ w. unseen_told h (decode h) n (stand h w)) bytes
 
-module _ (h : Bytes) where
-  pub committed_here : well_formed h ≡ true → (l o : ℕ) → l ≡ committed_end h → o ≡ owner_in h
-      → ◌≡◌ {A = CommittedReply} (record { state = 0; length = l; owner = o }) (committed_out h)
-  committed_here w l o el eo =
-      (λ i. record { state = 0; length = (el ∙ end_is h (decode h) (stand h w)) i; owner = (eo ∙ owner_told h (decode h) (stand h w)) i })
-      ∙ sym (cond_true (well_formed h) _ _ w)
+  pub index_here : (post : L → Option LogIndex → Type 0) (r : UnknownReply) → Replied h bytes (unknown_answer h n) index_is (no_index 12) (unknown_out h n) post r
+  unfolding out
+  index_here = replied h n unknown_list index_of (unknown_answer h n) index_is (no_index 12) (λ w. unknown_told h (decode h) n (stand h w)) bytes
+
+-- the committed prefix, of the bytes lent
+pub committed_here : (b h : Bytes) (l o : ℕ) → b ≡ h → well_formed b ≡ true → l ≡ committed_end b → o ≡ owner_in b
+    → ◌≡◌ {A = CommittedReply} (record { state = 0; length = l; owner = o }) (committed_out h)
+committed_here b h l o e w el eo =
+    (λ i. record { state = 0; length = (el ∙ end_is b (decode b) (stand b w)) i; owner = (eo ∙ owner_told b (decode b) (stand b w)) i })
+    ∙ sym (cond_true (well_formed b) _ _ w) ∙ ap committed_out e
+
+pub committed_broken : (h : Bytes) → well_formed h ≡ false
+    → ◌≡◌ {A = CommittedReply} (record { state = 12; length = 0; owner = 0 }) (committed_out h)
+committed_broken h w = sym (cond_false (well_formed h) _ _ w)
 
 -- a fresh history, by the number of the answer
-pub fresh_made : (h : Bytes) (a : Result Unit WrongLength) (h' : Bytes) (r : ℕ) → FreshMade h a h' → r ≡ made_number a → MadeFresh h r h'
-fresh_made h a h' r m e = record { answer = e ∙ m.number; bytes = m.leaves }
+pub made_fresh : (h h' : Bytes) → FreshMade h (Ok tt) h' → MadeFresh h 0 h'
+made_fresh h h' m = record { answer = m.number; bytes = m.leaves }
+
+pub made_broken : (h h' : Bytes) (w : WrongLength) → FreshMade h (Err w) h' → MadeFresh h 12 h'
+made_broken h h' w m = record { answer = m.number; bytes = m.leaves }

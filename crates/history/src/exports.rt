@@ -12,21 +12,22 @@ use index_lists::committed::{committed_length, committed_owner};
 use index_lists::unknown::unknown_at;
 use index_lists::unseen::{Unseen, unseen_at};
 use lists::leaders::{Leader, leader_at};
-use rules::whole::well_formed;
+use rules::whole::stored;
 use storage::fresh::{WrongLength, fresh};
+use storage::stored::Stored;
 use storage_bytes::layout::HISTORY_LENGTH;
 use submission::submit::submit;
 use table_rows::findings::Found;
 use units::LogIndex;
 
-// The states of a reply are numbers because callers in C read them.
+// The states of a reply are numbers: only numbers and structs of numbers go to callers in C.
 const HERE: u8 = 0;
 
 const NO_MORE: u8 = 1;
 
 const BROKEN: u8 = 12;
 
-// A reply of the readers.
+// A reply of the readers. No `Default`: a function that then sets the state would need as many impls.
 trait Stated: Copy {
     ghost nothing: { ℕ → Self };
 
@@ -36,15 +37,18 @@ trait Stated: Copy {
 }
 
 // The reply of the element that a reader gives, where the history keeps its storage rules.
-fn reply<T: Copy, R: Stated + From<T>, F: FnOnce() -> Option<T>>(history: &[u8], nth: F) -> R
-    requires { well_formed history.now ≡ true → F.pre nth }
+fn reply<T: Copy, R: Stated + From<T>, F: FnOnce(Stored<'_>) -> Option<T>>(
+    history: &[u8],
+    nth: F,
+) -> R
+    requires { F.IsAlwaysCallable nth }
     ensures broken { well_formed history.now ≡ false → result ≡ R.nothing 12 }
-    ensures given { well_formed history.now ≡ true → (x : Option T) × F.post nth x × IfSome x (λ v. R.from_gives v result) × IfNone x (result ≡ R.nothing 1) }
+    ensures given { well_formed history.now ≡ true → (lent : _) × (lent.bytes.now ≡ history.now) × (x : Option T) × F.post nth lent x × IfSome x (λ v. R.from_gives v result) × IfNone x (result ≡ R.nothing 1) }
 {
-    if !well_formed(history) {
+    let Some(history) = stored(history) else {
         return R::nothing(BROKEN);
-    }
-    match nth() {
+    };
+    match nth(history) {
         Some(x) => R::from(x),
         None => R::nothing(NO_MORE),
     }
@@ -58,6 +62,7 @@ pub fn gamiwhoru_length() -> usize
 }
 
 // A fresh history: 0, or 12 where the bytes are not as many as a history has, and then they are left as they were.
+#[tactic(auto, using(crate::proofs::Printed::made_fresh, crate::proofs::Printed::made_broken))]
 pub fn gamiwhoru_fresh(history: &mut [u8]) -> u8
     ensures { MadeFresh history.old result history.new }
 {
@@ -118,7 +123,7 @@ impl Stated for FindingReply {
 pub fn gamiwhoru_finding(history: &[u8], n: usize) -> FindingReply
     ensures { result ≡ finding_out history.now n }
 {
-    reply(history, || finding_at(history, n))
+    reply(history, |history| finding_at(history, n))
 }
 
 #[repr(C)]
@@ -157,7 +162,7 @@ impl Stated for LeaderReply {
 pub fn gamiwhoru_leader(history: &[u8], n: usize) -> LeaderReply
     ensures { result ≡ leader_out history.now n }
 {
-    reply(history, || leader_at(history, n))
+    reply(history, |history| leader_at(history, n))
 }
 
 #[repr(C)]
@@ -196,7 +201,7 @@ impl Stated for UnseenReply {
 pub fn gamiwhoru_unseen(history: &[u8], n: usize) -> UnseenReply
     ensures { result ≡ unseen_out history.now n }
 {
-    reply(history, || unseen_at(history, n))
+    reply(history, |history| unseen_at(history, n))
 }
 
 #[repr(C)]
@@ -229,7 +234,7 @@ impl Stated for UnknownReply {
 pub fn gamiwhoru_unknown(history: &[u8], n: usize) -> UnknownReply
     ensures { result ≡ unknown_out history.now n }
 {
-    reply(history, || unknown_at(history, n))
+    reply(history, |history| unknown_at(history, n))
 }
 
 #[repr(C)]
@@ -241,19 +246,20 @@ pub struct CommittedReply {
 }
 
 // The committed prefix: its length and its owner, 0 and 0 where there is none.
+#[tactic(auto, using(crate::proofs::Printed::committed_here, crate::proofs::Printed::committed_broken))]
 pub fn gamiwhoru_committed(history: &[u8]) -> CommittedReply
     ensures { result ≡ committed_out history.now }
 {
-    if well_formed(history) {
+    let Some(history) = stored(history) else {
         return CommittedReply {
-            state: HERE,
-            length: committed_length(history),
-            owner: committed_owner(history),
+            state: BROKEN,
+            length: 0,
+            owner: 0,
         };
-    }
+    };
     CommittedReply {
-        state: BROKEN,
-        length: 0,
-        owner: 0,
+        state: HERE,
+        length: committed_length(history),
+        owner: committed_owner(history),
     }
 }

@@ -13,7 +13,7 @@ use sheet_pieces::split::move_down;
 use sheet_text::taking::{SOME, put_cut, take_some};
 use std::io;
 use std::io::{Read, Write};
-use storage_bytes::layout::{HISTORY_LENGTH, part};
+use storage_bytes::layout::{HISTORY_LENGTH, History, part};
 
 // No recording has so many records, and none takes so many blocks.
 const LAST: u64 = 18446744073709551000;
@@ -42,7 +42,7 @@ fn flush<W: Write>(writer: &mut W, sheet: &Sheet<'_>) -> io::Result<()>
 // The whole pieces of a block in turn, their lines written some at a time: how far it came.
 fn take_block<W: Write>(
     writer: &mut W,
-    history: &mut [u8],
+    history: &mut History,
     block: &[u8],
     out: &mut [u8; OUTPUT],
     first: u64,
@@ -53,13 +53,10 @@ fn take_block<W: Write>(
     let mut from = 0;
     // the number goes on by as many as were taken, and is told in the sheet: no index is counted
     while number < LAST {
-        let mut sheet = Sheet {
-            out: &mut out[..],
-            end: 0,
-        };
-        let p = take_some(&mut history[..], block, &mut sheet, number, from);
+        let mut sheet = Sheet { out, end: 0 };
+        let p = take_some(history, block, &mut sheet, number, from);
         flush(writer, &sheet)?;
-        number = p.number;
+        number += p.count as u64;
         from = p.from;
         if p.count < SOME {
             break;
@@ -87,7 +84,7 @@ fn end_of_input<W: Write>(
 fn take_input<R: Read, W: Write>(
     reader: &mut R,
     writer: &mut W,
-    history: &mut [u8],
+    history: &mut History,
     input: &mut [u8; INPUT],
     out: &mut [u8; OUTPUT],
 ) -> io::Result<()> {
@@ -99,9 +96,9 @@ fn take_input<R: Read, W: Write>(
             return end_of_input(writer, out, number, rest);
         }
         let to = rest + got;
-        let block = part(&input[..], 0, to);
-        let p = take_block(writer, &mut history[..], block, out, number)?;
-        rest = move_down(&mut input[..], p.from, to);
+        let block = part(input, 0, to);
+        let p = take_block(writer, history, block, out, number)?;
+        rest = move_down(input, p.from, to);
         number = p.number;
     }
     Ok(())

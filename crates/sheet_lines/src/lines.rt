@@ -1,4 +1,5 @@
-// The lines of the sheet, each put behind the one before it.
+// The lines of the sheet, each put behind the one before it. They are put by hand and not by `write!`, which answers a Result: a line
+// that has its room cannot fail.
 ghost use Rattle.std.specs.Prelude.{◌+◌, ◌≤◌, ◌++◌, length};
 ghost use Rattle.sheet_numbers.specs.Filled.{Filled};
 ghost use Rattle.sheet_lines.specs.Lines.{field, line_end, outcome, record_line, finding_line, leader_line, unseen_line, unknown_line, committed_line};
@@ -35,6 +36,7 @@ fn put_pair(sheet: &mut Sheet<'_>, v: u64, w: u64)
     put_last(sheet, w);
 }
 
+// The refusal is a number: a Reply is what callers in C read, and any Reply can be printed.
 fn put_outcome(sheet: &mut Sheet<'_>, refusal: u8)
     requires { sheet.old.end + 21 ≤ length sheet.old.out.now }
     ensures { Filled 21 sheet.old (outcome refusal) sheet.new }
@@ -46,7 +48,7 @@ fn put_outcome(sheet: &mut Sheet<'_>, refusal: u8)
     }
 }
 
-// Number, kind, `ok` or refusal, value, node.
+// Number, kind, `ok` or refusal, value, node. The kind is four bits of the record as it came: one of no known kind has its line too.
 pub fn put_record(sheet: &mut Sheet<'_>, number: u64, kind: u8, r: Reply)
     requires { sheet.old.end + 105 ≤ length sheet.old.out.now }
     ensures { Filled 105 sheet.old (record_line number kind r) sheet.new }
@@ -67,6 +69,7 @@ pub fn put_finding(sheet: &mut Sheet<'_>, f: Found)
     put_pair(sheet, f.index.0 as u64, u64::from(f.term.0));
 }
 
+// The named lines differ in their word: one function would take it at each call, where its name stands now.
 pub fn put_leader(sheet: &mut Sheet<'_>, term: Term, leader: NodeId)
     requires { sheet.old.end + 49 ≤ length sheet.old.out.now }
     ensures { Filled 49 sheet.old (leader_line term.0 leader.0) sheet.new }

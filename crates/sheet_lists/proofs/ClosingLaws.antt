@@ -46,21 +46,21 @@ joined_map line [] = refl
 joined_map line (x ∷ xs) = ap (λ (l : Bytes). line x ++ l) (joined_map line xs)
 
 -- the five parts of the closing, put one after another
-pub closed_right : (h : Bytes) (s a b c d s' : Sheet) → well_formed h ≡ true
-    → Filled 22528 s (joined (map of_finding (finding_list (decode h)))) a
-    → Filled 12544 a (joined (map of_leader (leader_list (decode h)))) b
-    → Filled 12544 b (joined (map of_unseen (unseen_list (decode h)))) c
-    → Filled 7424 c (joined (map unknown_line (unknown_list (decode h)))) d
-    → (n o : ℕ) → n ≡ committed_end h → o ≡ owner_in h → Filled 52 d (committed_line n o) s' → Filled 55092 s (closing_of h) s'
+pub closed_right : (b h : Bytes) (s p q r u s' : Sheet) → b ≡ h → well_formed b ≡ true
+    → Filled 22528 s (joined (map of_finding (finding_list (decode b)))) p
+    → Filled 12544 p (joined (map of_leader (leader_list (decode b)))) q
+    → Filled 12544 q (joined (map of_unseen (unseen_list (decode b)))) r
+    → Filled 7424 r (joined (map unknown_line (unknown_list (decode b)))) u
+    → (n o : ℕ) → n ≡ committed_end b → o ≡ owner_in b → Filled 52 u (committed_line n o) s' → Filled 55092 s (closing_of h) s'
 unfolding closing
-closed_right h s a b c d s' w p q r u n o en eo v =
-    let x = decode h in
-    let st = stand h w in
-    filled_as (filled_then (filled_then (filled_then (filled_then p q) r) u) v) _
+closed_right b h s p q r u s' e w fp fq fr fu n o en eo fc =
+    let x = decode b in
+    let st = stand b w in
+    filled_as (filled_then (filled_then (filled_then (filled_then fp fq) fr) fu) fc) _
     ((λ i.
     joined_map of_finding (finding_list x) i ++ joined_map of_leader (leader_list x) i ++ joined_map of_unseen (unseen_list x) i
-    ++ joined_map unknown_line (unknown_list x) i ++ committed_line ((en ∙ end_is h x st) i) ((eo ∙ owner_told h x st) i))
-    ∙ sym (cond_true (well_formed h) _ [] w))
+    ++ joined_map unknown_line (unknown_list x) i ++ committed_line ((en ∙ end_is b x st) i) ((eo ∙ owner_told b x st) i))
+    ∙ sym (cond_true (well_formed b) _ [] w) ∙ ap closing_of e)
     (omega arith)
 
 pub closed_broken : (h : Bytes) (s : Sheet) → well_formed h ≡ false → Filled 55092 s (closing_of h) s

@@ -1,9 +1,8 @@
 // The lists of a history, put into a sheet: findings, leaders, unseen, unknown, committed.
-ghost use Rattle.std.specs.Prelude.{◌≡◌, ℕ, true, ◌+◌, ◌*◌, ◌≤◌, List, map, length, slice_get};
+ghost use Rattle.std.specs.Prelude.{◌≡◌, ℕ, ◌+◌, ◌*◌, ◌≤◌, List, map, length, slice_get};
 ghost use Rattle.std.specs.Option.{option_map};
 ghost use Rattle.model.specs.Lists.{finding_list, leader_list, unseen_list, unknown_list};
 ghost use Rattle.model.specs.Sizes.{Bytes};
-ghost use Rattle.storage.specs.Rules.{well_formed};
 ghost use Rattle.storage.specs.Decode.{decode};
 ghost use Rattle.sheet_numbers.specs.Filled.{Filled};
 ghost use Rattle.sheet_lines.specs.Lines.{finding_line, leader_line, unseen_line, unknown_line};
@@ -14,9 +13,10 @@ use index_lists::committed::{committed_length, committed_owner};
 use index_lists::unknown::unknown_at;
 use index_lists::unseen::{Unseen, unseen_at};
 use lists::leaders::{Leader, leader_at};
-use rules::whole::well_formed;
+use rules::whole::stored;
 use sheet_lines::lines::{put_committed, put_finding, put_leader, put_unknown, put_unseen};
 use sheet_numbers::decimal::Sheet;
+use storage::stored::Stored;
 use table_rows::findings::Found;
 use units::LogIndex;
 
@@ -34,9 +34,8 @@ trait Listed: Copy {
     ghost line: { Self → Bytes };
 
     // The n-th element, counted from 0.
-    fn nth(history: &[u8], n: usize) -> Option<Self>
-        requires { well_formed history.now ≡ true }
-        ensures { option_map line result ≡ slice_get (lines history.now) n };
+    fn nth(history: Stored<'_>, n: usize) -> Option<Self>
+        ensures { option_map line result ≡ slice_get (lines history.entry.bytes.now) n };
 
     fn put(self, sheet: &mut Sheet<'_>)
         requires { sheet.old.end + width ≤ length sheet.old.out.now }
@@ -50,7 +49,8 @@ impl Listed for Found {
 
     ghost line = { λ f. finding_line f.name f.node.0 f.index.0 f.term.0 };
 
-    fn nth(history: &[u8], n: usize) -> Option<Found> {
+    #[tactic(auto, using(crate::proofs::ClosingLaws::finding_nth))]
+    fn nth(history: Stored<'_>, n: usize) -> Option<Found> {
         finding_at(history, n)
     }
 
@@ -66,7 +66,8 @@ impl Listed for Leader {
 
     ghost line = { λ l. leader_line l.term.0 l.leader.0 };
 
-    fn nth(history: &[u8], n: usize) -> Option<Leader> {
+    #[tactic(auto, using(crate::proofs::ClosingLaws::leader_nth))]
+    fn nth(history: Stored<'_>, n: usize) -> Option<Leader> {
         leader_at(history, n)
     }
 
@@ -82,7 +83,8 @@ impl Listed for Unseen {
 
     ghost line = { λ u. unseen_line u.node.0 u.index.0 };
 
-    fn nth(history: &[u8], n: usize) -> Option<Unseen> {
+    #[tactic(auto, using(crate::proofs::ClosingLaws::unseen_nth))]
+    fn nth(history: Stored<'_>, n: usize) -> Option<Unseen> {
         unseen_at(history, n)
     }
 
@@ -99,7 +101,8 @@ impl Listed for LogIndex {
 
     ghost line = { λ i. unknown_line i.0 };
 
-    fn nth(history: &[u8], n: usize) -> Option<LogIndex> {
+    #[tactic(auto, using(crate::proofs::ClosingLaws::unknown_nth))]
+    fn nth(history: Stored<'_>, n: usize) -> Option<LogIndex> {
         unknown_at(history, n)
     }
 
@@ -109,11 +112,10 @@ impl Listed for LogIndex {
 }
 
 // The lines of a list, one after another.
-fn put_list<T: Listed>(history: &[u8], sheet: &mut Sheet<'_>)
-    requires history_value { well_formed history.now ≡ true }
+fn put_list<T: Listed>(history: Stored<'_>, sheet: &mut Sheet<'_>)
     requires start_in_bounds { sheet.old.end + 256 * T.width ≤ length sheet.old.out.now }
-    requires short { length (T.lines history.now) ≤ 256 }
-    ensures { Filled (256 * T.width) sheet.old (joined (T.lines history.now)) sheet.new }
+    requires short { length (T.lines history.bytes.now) ≤ 256 }
+    ensures { Filled (256 * T.width) sheet.old (joined (T.lines history.entry.bytes.now)) sheet.new }
 {
     for n in 0..MOST {
         let Some(x) = T::nth(history, n) else {
@@ -129,9 +131,9 @@ pub fn put_lists(history: &[u8], sheet: &mut Sheet<'_>)
     requires { sheet.old.end + 55092 ≤ length sheet.old.out.now }
     ensures { Filled 55092 sheet.old (closing_of history.now) sheet.new }
 {
-    if !well_formed(history) {
+    let Some(history) = stored(history) else {
         return;
-    }
+    };
     put_list::<Found>(history, sheet);
     put_list::<Leader>(history, sheet);
     put_list::<Unseen>(history, sheet);

@@ -6,7 +6,7 @@ ghost use Rattle.sheet_numbers.specs.Filled.{Filled};
 use itoa::Buffer;
 use storage_bytes::words::put_bytes;
 
-// Lent bytes, and where the next ones go.
+// Lent bytes, and where the next ones go. Each function asks for its room there: that the place lies inside would not spare it.
 #[derive(Drop)]
 pub struct Sheet<'a> {
     pub out: &'a mut [u8],

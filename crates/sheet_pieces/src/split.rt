@@ -4,7 +4,7 @@ ghost use Rattle.sheet_pieces.specs.Pieces.{Split, Moved};
 
 use storage_bytes::words::get16;
 
-// What the bytes from a place on begin with.
+// What the bytes from a place on begin with. Three outcomes and no Option: its contract says whether bytes are left over.
 #[derive(Clone, Copy)]
 pub enum Piece {
     // A record, perhaps of no bytes: where it begins, and its length.

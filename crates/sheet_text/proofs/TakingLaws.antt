@@ -61,17 +61,16 @@ next_at_lem (p ∷ ps) (suc k) x rest e =
 -- ---- the loop
 
 -- k of the pieces from `start` on are taken
-pub record Taking (h block : Bytes) (t : Sheet) (first start k number from : ℕ) (h' : Bytes) (t' : Sheet) : Type 0 where
+pub record Taking (h block : Bytes) (t : Sheet) (first start k from : ℕ) (h' : Bytes) (t' : Sheet) : Type 0 where
   pub lines : Filled (k * 105) t (record_lines first h (take k (pieces (drop start block)))) t'
   pub history : h' ≡ bytes_through h (take k (pieces (drop start block)))
   pub rest : pieces (drop from block) ≡ drop k (pieces (drop start block))
   pub joined : (more : Bytes) → pieces (drop start block ++ more) ≡ take k (pieces (drop start block)) ++ pieces (drop from block ++ more)
-  pub numbered : number ≡ first + k
   pub within : from ≤ length block
   pub on : start + k ≤ from
 
 module _ (h block : Bytes) (t : Sheet) (first start : ℕ) where
-  pub taking_none : start ≤ length block → Taking h block t first start 0 first start h t
+  pub taking_none : start ≤ length block → Taking h block t first start 0 start h t
   unfolding record_lines bytes_through
   taking_none l =
       record {
@@ -79,15 +78,14 @@ module _ (h block : Bytes) (t : Sheet) (first start : ℕ) where
         history = refl;
         rest = refl;
         joined = λ more. refl;
-        numbered = omega arith;
         within = l;
         on = omega arith;
       }
 
-  pub taking_next : (k number from body size : ℕ) (h' h'' s : Bytes) (t' t'' : Sheet) (p : code.Piece)
-      → Taking h block t first start k number from h' t' → Split block from p → p ≡ code.Piece.Whole body size → s ≡ part block body size
-      → HandedOver h' s t' number h'' t'' → Taking h block t first start (k + 1) (number + 1) (body + size) h'' t''
-  taking_next k number from body size h' h'' s t' t'' p g split is sp o =
+  pub taking_next : (k from body size : ℕ) (h' h'' s : Bytes) (t' t'' : Sheet) (p : code.Piece)
+      → Taking h block t first start k from h' t' → Split block from p → p ≡ code.Piece.Whole body size → s ≡ part block body size
+      → HandedOver h' s t' (first + k) h'' t'' → Taking h block t first start (k + 1) (body + size) h'' t''
+  taking_next k from body size h' h'' s t' t'' p g split is sp o =
       let ps = pieces (drop start block) in
       let w = whole_within block from body size p split is in
       let d : drop k ps ≡ whole (part block body size) ∷ pieces (drop (body + size) block)
@@ -95,7 +93,7 @@ module _ (h block : Bytes) (t : Sheet) (first start : ℕ) where
       let n = next_at_lem ps k (whole (part block body size)) (pieces (drop (body + size) block)) d in
       let more : take (k + 1) ps ≡ take k ps ++ (whole s ∷ [])
       = ap (λ (j : ℕ). take j ps) (add-one k) ∙ n.through ∙ ap (λ (b : Bytes). take k ps ++ (whole b ∷ [])) (sym sp) in
-      let count : first + length (take k ps) ≡ number = ap (λ (j : ℕ). first + j) n.long ∙ sym g.numbered in
+      let count : first + length (take k ps) ≡ first + k = ap (λ (j : ℕ). first + j) n.long in
       record {
         lines =
             filled_as (filled_then g.lines o.line) _
@@ -111,21 +109,19 @@ module _ (h block : Bytes) (t : Sheet) (first start : ℕ) where
             ∙ ap (λ (l : List Piece). take k ps ++ l) (piece_joined block more from body size w)
             ∙ sym (append_assoc (take k ps) (whole (part block body size) ∷ []) _)
             ∙ ap (λ (l : List Piece). l ++ pieces (drop (body + size) block ++ more)) (sym (ap (λ (j : ℕ). take j ps) (add-one k) ∙ n.through));
-        numbered = omega (arith, g.numbered);
         within = w.ends;
         on = omega (arith, g.on, w.begins);
       }
 
-  pub taking_ends : (k number from : ℕ) (h' : Bytes) (t' : Sheet) → Taking h block t first start k number from h' t' → k ≤ 600
+  pub taking_ends : (k from : ℕ) (h' : Bytes) (t' : Sheet) → Taking h block t first start k from h' t' → k ≤ 600
       → (k < 600 → (body size : ℕ) → piece_at block from ≡ code.Piece.Whole body size → ⊥)
-      → Taken h block t first start (record { count = k; number = number; from = from }) h' t'
-  taking_ends k number from h' t' g l stop =
+      → Taken h block t first start (record { count = k; from = from }) h' t'
+  taking_ends k from h' t' g l stop =
       record {
         lines = filled_as g.lines _ refl (omega arith);
         history = g.history;
         rest = g.rest;
         joined = g.joined;
-        number = g.numbered;
         within = g.within;
         on = g.on;
         most = l;

@@ -15,11 +15,10 @@ use submission::submit::submit;
 // So many records are taken at a time: their lines have room in the sheet.
 pub const SOME: usize = 600;
 
-// How far the records are taken: how many, the number of the next, and where it begins in the block.
+// How far the records are taken: how many, and where the next begins in the block.
 #[derive(Clone, Copy)]
 pub struct Progress {
     pub count: usize,
-    pub number: u64,
     pub from: usize,
 }
 
@@ -57,24 +56,14 @@ pub fn take_some(
     requires { (start ≤ length block.now) × (sheet.old.end + 63000 ≤ length sheet.old.out.now) × (first + 600 ≤ 18446744073709551615) }
     ensures { Taken history.old block.now sheet.old first start result history.new sheet.new }
 {
-    let mut number = first;
     let mut from = start;
     for count in 0..SOME {
         let Piece::Whole { body, size } = piece_at(block, from) else {
-            return Progress {
-                count,
-                number,
-                from,
-            };
+            return Progress { count, from };
         };
         let s = part(block, body, size);
-        hand_over(&mut history[..], s, sheet, number);
+        hand_over(&mut history[..], s, sheet, first + count as u64);
         from = body + size;
-        number += 1;
     }
-    Progress {
-        count: SOME,
-        number,
-        from,
-    }
+    Progress { count: SOME, from }
 }

@@ -9,10 +9,9 @@ use history::exports::gamiwhoru_committed;
 use input_blocks::fill;
 use std::io;
 use std::io::Write;
+use storage_bytes::layout::HISTORY_LENGTH;
 
-const LENGTH: usize = 24137;
-
-// The bytes of input that are read, and those that hold the history.
+// The bytes of input that are read, and those that hold the history. Memory is fixed: arrays, and no Vec.
 const ROOM: usize = 65536;
 
 // A piece of a line: the number that its digits make, and where it ends.
@@ -23,7 +22,8 @@ struct Piece {
 }
 
 // The piece from `from` on, up to the first byte below `least`. Its number is of its last five digits, each the low half
-// of its byte. Without a digit it is 90000, which is no place: so a comment does nothing.
+// of its byte. Without a digit it is 90000, which is no place: so a comment does nothing. An Option would be no plainer: a value may have
+// no digit too, and then it is a byte like any other.
 fn up_to(s: &[u8], from: usize, least: u8) -> Piece
     ensures { (from ≤ result.end) × (result.end ≤ from + length s.now) }
 {
@@ -37,12 +37,10 @@ fn up_to(s: &[u8], from: usize, least: u8) -> Piece
 }
 
 // The text, and what a reader of the library answers. The byte behind the history is 1 where its last byte is left out.
-fn say<W: Write>(writer: &mut W, history: &[u8], text: &[u8]) -> io::Result<()>
-    requires { 24138 ≤ length history.now }
-{
+fn say<W: Write>(writer: &mut W, history: &[u8; ROOM], text: &[u8]) -> io::Result<()> {
     writer.write_all(text)?;
-    let end = LENGTH - (history[LENGTH] % 2) as usize;
-    let reply = gamiwhoru_committed(&history[0..end]);
+    let end = HISTORY_LENGTH - usize::from(history[HISTORY_LENGTH] % 2);
+    let reply = gamiwhoru_committed(&history[..end]);
     if reply.state == 0 {
         writeln!(writer, " accepted")
     } else {
@@ -54,29 +52,27 @@ fn say<W: Write>(writer: &mut W, history: &[u8], text: &[u8]) -> io::Result<()>
 // One byte is set. Where there is a text, behind a space, it and the answer are written, and the byte is put back.
 fn put<W: Write>(
     writer: &mut W,
-    history: &mut [u8],
+    history: &mut [u8; ROOM],
     at: usize,
     value: usize,
     text: &[u8],
-) -> io::Result<()>
-    requires { 24138 ≤ length history.old }
-{
+) -> io::Result<()> {
     if history.len() <= at {
         return Ok(());
     }
     let kept = history[at];
     history[at] = (value % 256) as u8;
-    if 0 < text.len() {
-        let said = say(writer, history, &text[1..]);
-        history[at] = kept;
-        return said;
-    }
-    Ok(())
+    let Some((_, text)) = text.split_first() else {
+        return Ok(());
+    };
+    let said = say(writer, history, text);
+    history[at] = kept;
+    said
 }
 
 // All lines. One that does not end is passed over.
-fn run<W: Write>(writer: &mut W, s: &[u8], history: &mut [u8]) -> io::Result<()>
-    requires { (length s.now ≤ 65536) × (24138 ≤ length history.old) }
+fn run<W: Write>(writer: &mut W, s: &[u8], history: &mut [u8; ROOM]) -> io::Result<()>
+    requires { length s.now ≤ 65536 }
 {
     let mut at = 0;
     // a line begins where the one before it ends: no index is counted
@@ -89,13 +85,7 @@ fn run<W: Write>(writer: &mut W, s: &[u8], history: &mut [u8]) -> io::Result<()>
         if s.len() <= end {
             return Ok(());
         }
-        put(
-            writer,
-            &mut history[..],
-            place.number,
-            value.number,
-            &s[text..end],
-        )?;
+        put(writer, history, place.number, value.number, &s[text..end])?;
         at = end + 1;
     }
     Ok(())

@@ -1,8 +1,7 @@
 -- `sheet::take_input` meets its contract.
 -- Assumes nothing.
-use Rattle.std.proofs.Common.{length, ◌≡◌, ◌≤◌}
+use Rattle.std.proofs.Common.{◌≤◌}
 use Rattle.sheet.proofs.take_input.Given as goal
 
 abbrev pub invariant-loop : goal.invariant-loop
-invariant-loop g l =
-    (length l.history ≡ length l.initial.history) × (l.rest ≤ 131072)
+invariant-loop g l = l.rest ≤ 131072

@@ -6,7 +6,7 @@ use Rattle.sheet_lists.proofs.ClosingLaws.{put_none, put_next, put_all, put_end,
 use Rattle.sheet_lists.proofs.closing.put_list.Goals as goal
 
 pub loop-n-init : goal.loop-n-init
-loop-n-init g c = (put_none g.T.Listed.width (g.T.Listed.lines c.args.history.now) _, omega arith)
+loop-n-init g c = (put_none g.T.Listed.width (g.T.Listed.lines c.args.history.bytes.now) _, omega arith)
 
 pub returns-in_default : goal.returns-in_default
 returns-in_default g c = put_end _ _ _ _ _ c.loop-n.invariant.0 c.loop-n.invariant.1 c.in_default.ensures

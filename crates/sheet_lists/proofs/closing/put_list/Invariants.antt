@@ -6,4 +6,4 @@ use Rattle.sheet_lists.proofs.closing.put_list.Given as goal
 
 abbrev pub invariant-loop-n : goal.invariant-loop-n
 invariant-loop-n g l =
-    Filled_to g.T.Listed.width (g.T.Listed.lines l.history) l.initial.sheet l.n l.sheet × (l.n ≤ 256)
+    Filled_to g.T.Listed.width (g.T.Listed.lines l.history.bytes.now) l.initial.sheet l.n l.sheet × (l.n ≤ 256)

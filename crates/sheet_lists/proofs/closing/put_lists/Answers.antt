@@ -1,13 +1,13 @@
 -- `sheet_lists::closing::put_lists` meets its contract.
 -- Assumes nothing.
-use mathlib.Core.Path.{sym, ◌∙◌}
 use Rattle.sheet_lists.proofs.ClosingLaws.{closed_right}
 use Rattle.sheet_lists.proofs.closing.put_lists.Goals as goal
 
 pub returns : goal.returns
 returns c =
-    closed_right _ _ _ _ _ _ _
-    (sym c.well_formed-2.ensures ∙ c.if-not-well_formed.false)
+    closed_right _ _ _ _ _ _ _ _
+    c.in-Some.ensures
+    c.in-Some.history.formed
     c.put_list.ensures
     c.put_list-2.ensures
     c.put_list-3.ensures

@@ -17,7 +17,7 @@ pub piece_at-requires : goal.piece_at-requires
 piece_at-requires c = c.loop-count.invariant.0.within
 
 pub returns-in_default : goal.returns-in_default
-returns-in_default c = taking_ends _ _ _ _ _ _ _ _ _ _ c.loop-count.invariant.0 c.loop-count.invariant.1 (λ l body size e.
+returns-in_default c = taking_ends _ _ _ _ _ _ _ _ _ c.loop-count.invariant.0 c.loop-count.invariant.1 (λ l body size e.
     let tag = ap (tag_of the_type) (c.piece_at.ensures.answer ∙ e) in
     ⊎_elim (λ one. omega arith) (λ two. omega arith) (opened c.in_default.in_default-own.keys2))
 
@@ -27,12 +27,9 @@ part-s-requires c = (whole_within _ _ _ _ _ c.piece_at.ensures c.in-Whole.is).en
 pub overflow_add-from : goal.overflow_add-from
 overflow_add-from c = let w = whole_within _ _ _ _ _ c.piece_at.ensures c.in-Whole.is in omega (arith, w.ends)
 
-pub overflow_add-number : goal.overflow_add-number
-overflow_add-number c = omega (arith, c.loop-count.invariant.0.numbered)
-
 pub loop-count-preserved : goal.loop-count-preserved
 loop-count-preserved c = (
-  taking_next _ _ _ _ _ _ _ _ _ _ _ _ _ _ _ _
+  taking_next _ _ _ _ _ _ _ _ _ _ _ _ _ _ _
       c.loop-count.invariant.0
       c.piece_at.ensures
       c.in-Whole.is
@@ -45,5 +42,5 @@ loop-count-preserved c = (
 pub returns : goal.returns
 returns c =
     let full : c.loop-count.count ≡ 600 = omega (arith, c.loop-count.invariant.1) in
-    let t = taking_ends _ _ _ _ _ _ _ _ _ _ c.loop-count.invariant.0 c.loop-count.invariant.1 (λ l. absurd (omega arith)) in
+    let t = taking_ends _ _ _ _ _ _ _ _ _ c.loop-count.invariant.0 c.loop-count.invariant.1 (λ l. absurd (omega arith)) in
     rw full at t
