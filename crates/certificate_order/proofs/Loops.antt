@@ -1,15 +1,13 @@
--- The turns of the searches among the certificates held: the place, how many right before it are of the term, and whether one of
--- them has a number.
+-- The turns of the searches among the certificates held: the place, and how many right before it are of the term.
 -- Assumes nothing.
 use Prim.Native.Nat.{ℕ, zero, suc, ◌+◌, ◌-◌, ◌≤◌, ◌<◌}
 use native.Mathlib.Omega.{arith}
 use mathlib.Core.Path.{◌≡◌, refl, ap, sym, ◌∙◌, subst}
-use mathlib.Core.Bool.{Bool, true, false, ◌||◌}
 use lib.Dec.{leb, eqb}
 use borrow.Author.Tests.{le-leb, lt-leb, eq-eqb, ne_eqb}
 use Rattle.model.proofs.Tests.{cond_cases, cond_true, cond_false}
 use Rattle.storage.specs.Tables.{CertificateRow}
-use Rattle.certificate_order.specs.Order.{place_from, held_before, taken_from}
+use Rattle.certificate_order.specs.Order.{place_from, held_before}
 
 module _ (row : ℕ → CertificateRow) (t : ℕ) where
   -- ---- the place
@@ -89,32 +87,3 @@ module _ (row : ℕ → CertificateRow) (t : ℕ) where
     held_none h =
         let a : held_before row t k ≡ 0 = ap (held_before row t) (let e : k ≡ 0 = omega arith in e) ∙ held_zero in
         omega (arith, inv)
-
--- ---- taken
-
-module _ (row : ℕ → CertificateRow) (m : ℕ) where
-  pub taken_more : (k n : ℕ) → ((row k).number ≡ m → ⊥) → taken_from row m k (suc n) ≡ taken_from row m (k + 1) n
-  unfolding taken_from
-  taken_more k n l = ap (λ (b : Bool). b || taken_from row m (k + 1) n) (ne_eqb (row k).number m l)
-
-  pub taken_here : (k n : ℕ) → (row k).number ≡ m → taken_from row m k (suc n) ≡ true
-  unfolding taken_from
-  taken_here k n l = ap (λ (b : Bool). b || taken_from row m (k + 1) n) (eq-eqb (row k).number m l)
-
-  pub taken_zero : (k : ℕ) → taken_from row m k 0 ≡ false
-  unfolding taken_from
-  taken_zero k = refl
-
-  module _ {b : Bool} (p k : ℕ) (inv : b ≡ taken_from row m k (p - k)) where
-    rest : k < p → p - k ≡ suc (p - (k + 1))
-    rest h = omega arith
-
-    module _ (h : k < p) (x : ℕ) (e : x ≡ (row k).number) where
-      pub taken_next : (x ≡ m → ⊥) → b ≡ taken_from row m (k + 1) (p - (k + 1))
-      taken_next l = inv ∙ ap (taken_from row m k) (rest h) ∙ taken_more k _ (λ z. l (e ∙ z))
-
-      pub taken_stop : x ≡ m → true ≡ b
-      taken_stop l = sym (inv ∙ ap (taken_from row m k) (rest h) ∙ taken_here k _ (sym e ∙ l))
-
-    pub taken_none : p ≤ k → false ≡ b
-    taken_none h = sym (inv ∙ ap (taken_from row m k) (let e : p - k ≡ 0 = omega arith in e) ∙ taken_zero k)

@@ -10,13 +10,13 @@ use mathlib.Core.Bool.{Bool, true, false, cond, ◌&&◌, ◌||◌}
 use lib.Dec.{ltb, eqb}
 use borrow.Author.Tests.{eqb-true, ltb-true, lt-ltb, le-ltb, eq-eqb, ne_eqb}
 use Rattle.model.proofs.Tests.{cond_true, cond_false}
-use Rattle.storage_bytes.specs.Lists.{tabulate}
+use Rattle.storage_bytes.specs.Lists.{tabulate, some}
 use Rattle.storage.specs.Tables.{CertificateRow}
 use Rattle.storage.specs.Rules.{follows, numbered_after, numbered}
 use Rattle.storage.specs.Order.{place_of, held_of}
 use Rattle.storage_bytes.proofs.ListLaws.{both}
-use Rattle.certificate_order.specs.Order.{place_from, held_before, taken_from, taken_before, taken_of}
-use Rattle.certificate_order.proofs.Loops.{place_here, place_back, place_zero, place_within, held_more, held_end, held_within, taken_zero}
+use Rattle.certificate_order.specs.Order.{place_from, held_before, taken_before, taken_of}
+use Rattle.certificate_order.proofs.Loops.{place_here, place_back, place_zero, place_within, held_more, held_end, held_within}
 
 -- ---- the order
 
@@ -183,18 +183,26 @@ module _ (row : ℕ → CertificateRow) where
         unfolding taken_of tabulate
         none i = refl
 
-        more : (i j : ℕ) → j ≡ suc (p - (i + 1)) → (eqb (row i).number x || taken_from row x (i + 1) (p - (i + 1))) ≡ taken_from row x i j
-        unfolding taken_from
-        more i j e = ap (taken_from row x i) (sym e)
+        -- a row of those from i to p has the number
+        abbrev Taken : ℕ → ℕ → Bool
+        Taken i m = some (λ c. eqb c.number x) (tabulate row i m)
+
+        more : (i j : ℕ) → j ≡ suc (p - (i + 1)) → (eqb (row i).number x || Taken (i + 1) (p - (i + 1))) ≡ Taken i j
+        unfolding some tabulate
+        more i j e = ap (Taken i) (sym e)
+
+        no_more : (i j : ℕ) → j ≡ 0 → Taken i j ≡ false
+        unfolding some tabulate
+        no_more i j e = ap (Taken i) e
 
         taken_after : (m i : ℕ) → i + m ≡ n → p ≤ i → taken_of t x (tabulate row i m) ≡ false
         taken_after zero i e b = none i
         taken_after (suc m) i e b =
             pass i m (λ y. omega (arith, high i b (omega arith))) ∙ taken_after m (i + 1) (omega arith) (omega arith)
 
-        taken_in : (m i : ℕ) → i + m ≡ n → a ≤ i → i ≤ p → taken_of t x (tabulate row i m) ≡ taken_from row x i (p - i)
+        taken_in : (m i : ℕ) → i + m ≡ n → a ≤ i → i ≤ p → taken_of t x (tabulate row i m) ≡ Taken i (p - i)
         taken_in zero i e b c =
-            none i ∙ sym (ap (taken_from row x i) (let z : p - i ≡ 0 = omega arith in z) ∙ taken_zero row x i)
+            none i ∙ sym (no_more i (p - i) (omega arith))
         taken_in (suc m) i e b c =
             elim (dec_lt i p) [
               | yes q ↦
@@ -203,18 +211,18 @@ module _ (row : ℕ → CertificateRow) where
                   ∙ more i (p - i) (omega arith)
               | no q ↦
                   taken_after (suc m) i e (omega arith)
-                  ∙ sym (ap (taken_from row x i) (let z : p - i ≡ 0 = omega arith in z) ∙ taken_zero row x i)
+                  ∙ sym (no_more i (p - i) (omega arith))
             ]
 
-        taken_all : (m i : ℕ) → i + m ≡ n → i ≤ a → taken_of t x (tabulate row i m) ≡ taken_from row x a (p - a)
+        taken_all : (m i : ℕ) → i + m ≡ n → i ≤ a → taken_of t x (tabulate row i m) ≡ Taken a (p - a)
         taken_all zero i e b =
-            subst (λ (k : ℕ). taken_of t x (tabulate row i 0) ≡ taken_from row x k (p - k)) (let z : i ≡ a = omega arith in z)
+            subst (λ (k : ℕ). taken_of t x (tabulate row i 0) ≡ Taken k (p - k)) (let z : i ≡ a = omega arith in z)
             (taken_in zero i e (omega arith) (omega arith))
         taken_all (suc m) i e b =
             elim (dec_lt i a) [
               | yes q ↦ pass i m (λ y. omega (arith, low i q)) ∙ taken_all m (i + 1) (omega arith) (omega arith)
               | no q ↦
-                  subst (λ (k : ℕ). taken_of t x (tabulate row i (suc m)) ≡ taken_from row x k (p - k)) (let z : i ≡ a = omega arith in z)
+                  subst (λ (k : ℕ). taken_of t x (tabulate row i (suc m)) ≡ Taken k (p - k)) (let z : i ≡ a = omega arith in z)
                   (taken_in (suc m) i e (omega arith) (omega arith))
             ]
 
@@ -230,8 +238,8 @@ module _ (row : ℕ → CertificateRow) where
       within : place ≤ n
       within = place_within row t n
 
-      some : held ≤ place
-      some = held_within row t place
+      room : held ≤ place
+      room = held_within row t place
 
       short : Ordered place
       unfolding Ordered
@@ -248,9 +256,9 @@ module _ (row : ℕ → CertificateRow) where
       pub held_is : held ≡ held_of t (tabulate row 0 n)
       held_is =
           let e = held_from (place - held) place n (omega arith) within low (of_term place) (later n) n 0 (omega arith) in
-          omega (arith, some)
+          omega (arith, room)
 
       pub taken_is : (x : ℕ) → taken_before row x place held ≡ taken_of t x (tabulate row 0 n)
       taken_is x =
-          ap (taken_from row x (place - held)) (let e : held ≡ place - (place - held) = omega (arith, some) in e)
+          ap (λ (m : ℕ). some (λ (c : CertificateRow). eqb c.number x) (tabulate row (place - held) m)) (let e : held ≡ place - (place - held) = omega (arith, room) in e)
           ∙ sym (taken_all (place - held) place n (omega arith) within low (of_term place) (later n) x n 0 (omega arith) (omega arith))

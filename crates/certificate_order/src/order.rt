@@ -38,7 +38,7 @@ pub fn held_of(certificates: &Certificates, place: usize, term: Term) -> usize
 }
 
 // Whether one of the `held` right before the place has the number.
-#[tactic(auto, using(crate::proofs::Loops::taken_stop, crate::proofs::Loops::taken_next, crate::proofs::Loops::taken_none))]
+#[tactic(auto, using(storage_bytes::proofs::ListLaws::some_next, storage_bytes::proofs::ListLaws::some_stop, storage_bytes::proofs::ListLaws::some_none))]
 pub fn is_taken(certificates: &Certificates, place: usize, held: usize, number: usize) -> bool
     requires { (held ≤ place) × (place ≤ 64) }
     ensures { result ≡ taken_before (certificate_row certificates.now) number place held }

@@ -6,11 +6,12 @@ use Rattle.storage_bytes.specs.Words.{word_at}
 use Rattle.storage.specs.Tables.{CertificateRow, certificate_row, certificates_part}
 use Rattle.election_judging.specs.declared.judging.Numbering.{Numbering}
 use Rattle.election_judging.specs.declared.judging.NumberTaken.{NumberTaken}
-use Rattle.certificate_order.specs.Order.{place_from, held_before, taken_from, taken_before}
+use Rattle.storage_bytes.specs.Lists.{some}
+use Rattle.certificate_order.specs.Order.{place_from, held_before, taken_before}
 
 -- the place and the number of a new certificate of term t behind n rows, or that its number is taken
 unfoldable pub numbering_of : (ℕ → CertificateRow) → ℕ → ℕ → Result Numbering NumberTaken
-unfolding place_from held_before taken_from
+unfolding place_from held_before some
 numbering_of row t n =
     let place = place_from row t n in
     let number = held_before row t place in

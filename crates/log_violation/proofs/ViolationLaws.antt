@@ -17,7 +17,7 @@ use Rattle.model.specs.Entry.{with, with_all}
 use Rattle.model.specs.History.{Finding, same_finding, noted}
 use Rattle.model.proofs.Tests.{tf, either, cond_cases, cond_true, cond_false, and_left, and_right, and_both}
 use Rattle.model.proofs.Members.{with_there, with_fresh, with_longer}
-use Rattle.storage_bytes.specs.Lists.{tabulate}
+use Rattle.storage_bytes.specs.Lists.{tabulate, some}
 use Rattle.storage_bytes.specs.Words.{word_at, put_bytes, word_bytes}
 use Rattle.storage.specs.Tables.{finding_row, finding_rows, findings_part}
 use Rattle.storage.specs.Rules.{well_formed}
@@ -29,7 +29,7 @@ use Rattle.storage.proofs.WellFormed.{formed}
 use Rattle.storage.proofs.WriteLaws.{part_written}
 use Rattle.storage.proofs.RowLaws.{rows_append, finding_own, finding_length, finding_back}
 use Rattle.log_violation.specs.declared.violation.FindingsFull.{FindingsFull}
-use Rattle.log_violation.specs.Violation.{same_numbers, noted_from, is_noted, note_held, note_bytes, held_all, bytes_all, NotedAll, note_where, findings_written, fits_answer, room_for, room_answer, noted_in}
+use Rattle.log_violation.specs.Violation.{same_numbers, is_noted, note_held, note_bytes, held_all, bytes_all, NotedAll, note_where, findings_written, fits_answer, room_for, room_answer, noted_in}
 
 -- ---- whether the findings fit
 
@@ -64,47 +64,30 @@ finding_same f g e =
     (and_both _ _ (eq-eqb _ _ (ap (λ (x : Finding). x.node) e)) (eq-eqb _ _ (ap (λ (x : Finding). x.name) e))))
 
 module _ (t : Bytes) (f : Finding) where
+  abbrev Listed : ℕ → ℕ → Bool
+  Listed n k = some (λ g. same_numbers g f) (tabulate (finding_row t) k n)
+
   -- the row at place k is the finding, or the rest decides
-  noted_here : (n k : ℕ) → same_numbers (finding_row t k) f ≡ true → noted_from t k (suc n) f ≡ true
-  unfolding noted_from
-  noted_here n k e = ap (λ (b : Bool). b || noted_from t (k + 1) n f) e
+  noted_first : (n k : ℕ) (b : Bool) → same_numbers (finding_row t k) f ≡ b → Listed (suc n) k ≡ (b || Listed n (k + 1))
+  unfolding some tabulate
+  noted_first n k b e = ap (λ (v : Bool). v || Listed n (k + 1)) e
 
-  noted_later : (n k : ℕ) → same_numbers (finding_row t k) f ≡ false → noted_from t k (suc n) f ≡ noted_from t (k + 1) n f
-  unfolding noted_from
-  noted_later n k e = ap (λ (b : Bool). b || noted_from t (k + 1) n f) e
-
-  noted_in_lem : (n k : ℕ) → noted_from t k n f ≡ true → Memᴰ f (tabulate (finding_row t) k n)
+  noted_in_lem : (n k : ℕ) → Listed n k ≡ true → Memᴰ f (tabulate (finding_row t) k n)
   unfolding tabulate
-  noted_in_lem zero k e = absurd (tf (sym e ∙ (unfold noted_from in refl)))
+  noted_in_lem zero k e = absurd (tf (sym e ∙ (unfold some in refl)))
   noted_in_lem (suc n) k e =
-      ⊎_elim (λ a. Memᴰ.head (sym (same_finding_lem (finding_row t k) f a))) (λ a. Memᴰ.tail (noted_in_lem n (k + 1) (sym (noted_later n k a) ∙ e)))
+      ⊎_elim (λ a. Memᴰ.head (sym (same_finding_lem (finding_row t k) f a))) (λ a. Memᴰ.tail (noted_in_lem n (k + 1) (sym (noted_first n k false a) ∙ e)))
       (either (same_numbers (finding_row t k) f))
 
-  noted_out : (n k : ℕ) → noted_from t k n f ≡ false → Memᴰ f (tabulate (finding_row t) k n) → ⊥
+  noted_out : (n k : ℕ) → Listed n k ≡ false → Memᴰ f (tabulate (finding_row t) k n) → ⊥
   unfolding tabulate
   noted_out zero k e m = Memᴰ.not-nil m
   noted_out (suc n) k e m =
-      ⊎_elim (λ a. tf (sym (noted_here n k a) ∙ e))
+      ⊎_elim (λ a. tf (sym (noted_first n k true a) ∙ e))
       (λ a.
-      ⊎_elim (λ q. tf (sym (finding_same (finding_row t k) f (sym q)) ∙ a)) (λ q. noted_out n (k + 1) (sym (noted_later n k a) ∙ e) q)
+      ⊎_elim (λ q. tf (sym (finding_same (finding_row t k) f (sym q)) ∙ a)) (λ q. noted_out n (k + 1) (sym (noted_first n k false a) ∙ e) q)
       (Memᴰ.cases_cons m))
       (either (same_numbers (finding_row t k) f))
-
--- ---- the turns of the search, from place k on, before place n
-
-module _ (t : Bytes) (f : Finding) (k n : ℕ) {r : Bool} (inv : r ≡ noted_from t k (n - k) f) where
-  more : k < n → r ≡ noted_from t k (suc (n - (k + 1))) f
-  more h = inv ∙ ap (λ (m : ℕ). noted_from t k m f) (let e : n - k ≡ suc (n - (k + 1)) = omega arith in e)
-
-  pub noted_stop : k < n → same_numbers (finding_row t k) f ≡ true → true ≡ r
-  noted_stop h e = sym (more h ∙ noted_here t f (n - (k + 1)) k e)
-
-  pub noted_next : k < n → same_numbers (finding_row t k) f ≡ false → r ≡ noted_from t (k + 1) (n - (k + 1)) f
-  noted_next h e = more h ∙ noted_later t f (n - (k + 1)) k e
-
-  pub noted_none : n ≤ k → false ≡ r
-  unfolding noted_from
-  noted_none h = sym (inv ∙ ap (λ (m : ℕ). noted_from t k m f) (let e : n - k ≡ 0 = omega arith in e))
 
 -- the table stands for the findings fs, or there are too many of them
 abbrev pub Holds : Bytes → ℕ → List Finding → Type 0

@@ -5,6 +5,7 @@ use Rattle.std.specs.Prelude.{ℕ, zero, suc, ◌+◌, ◌*◌, ◌≡◌, Bool,
 use Rattle.log_violation.specs.declared.violation.FindingsFull.{FindingsFull}
 use Rattle.model.specs.Sizes.{Bytes}
 use Rattle.model.specs.History.{Finding}
+use Rattle.storage_bytes.specs.Lists.{tabulate, some}
 use Rattle.storage_bytes.specs.Words.{word_at, put_bytes, word_bytes}
 use Rattle.storage.specs.Tables.{finding_row, findings_part}
 use Rattle.storage.specs.Writes.{finding_bytes}
@@ -13,24 +14,18 @@ unfoldable pub same_numbers : Finding → Finding → Bool
 same_numbers f g =
     eqb f.index g.index && (eqb f.term g.term && (eqb f.node g.node && eqb f.name g.name))
 
--- one of n rows, from place k on, is the finding
-unfoldable pub noted_from : Bytes → ℕ → ℕ → Finding → Bool
-unfolding same_numbers
-noted_from t k zero f = false
-noted_from t k (suc n) f = same_numbers (finding_row t k) f || noted_from t (k + 1) n f
-
 -- the finding is among the first n
 abbrev pub is_noted : Bytes → ℕ → Finding → Bool
-is_noted t n f = noted_from t 0 n f
+is_noted t n f = some (λ g. same_numbers g f) (tabulate (finding_row t) 0 n)
 
 -- how many are held after the finding is noted among n
 unfoldable pub note_held : Bytes → ℕ → Finding → ℕ
-unfolding noted_from
+unfolding same_numbers some
 note_held t n f = cond (ltb 128 n) n (cond (is_noted t n f) n (n + 1))
 
 -- the table after it
 unfoldable pub note_bytes : Bytes → ℕ → Finding → Bytes
-unfolding noted_from
+unfolding same_numbers some
 note_bytes t n f = cond (leb 128 n) t (cond (is_noted t n f) t (put_bytes t (n * 8) (finding_bytes f)))
 
 -- one after the other

@@ -36,6 +36,7 @@ fn is_same(x: Found, f: Found) -> bool
 }
 
 // The finding is among the first n.
+#[tactic(auto, using(storage_bytes::proofs::ListLaws::some_next, storage_bytes::proofs::ListLaws::some_stop, storage_bytes::proofs::ListLaws::some_none))]
 fn is_noted(findings: &[u8], n: usize, f: Found) -> bool
     requires { (n ≤ 128) × (length findings.now ≡ 1024) }
     ensures { result ≡ is_noted findings.now n (finding_value f) }

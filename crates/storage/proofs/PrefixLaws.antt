@@ -10,6 +10,7 @@ use lib.Dec.{eqb}
 use lib.ListN.{length, drop}
 use borrow.Author.Tests.{eqb-true}
 use Rattle.model.specs.Sizes.{Bytes}
+use Rattle.storage_bytes.specs.Lists.{some}
 use Rattle.storage.specs.Tables.{PrefixRow}
 use Rattle.storage.specs.Decode.{prefix_at, entry_of, extended, resolve}
 use Rattle.storage.specs.Rules.{same_row, is_among, prefix_right}
@@ -53,7 +54,7 @@ found_first s r ss false q e later =
 
 -- the search finds only rows that are there
 pub among_found : (r : PrefixRow) (rows : List PrefixRow) (a : ℕ) → is_among r (drop a rows) ≡ true → Found r rows a
-unfolding is_among
+unfolding some
 among_found r [] zero e = absurd (let z : ◌≡◌ {A = ℕ} 0 1 = cc in omega arith)
 among_found r [] (suc a) e = absurd (let z : ◌≡◌ {A = ℕ} 0 1 = cc in omega arith)
 among_found r (s ∷ ss) zero e = found_first s r ss (same_row s r) refl e (λ q. among_found r ss 0 q)

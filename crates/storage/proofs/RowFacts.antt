@@ -17,6 +17,7 @@ use lib.Seq.{get_or_at, append_snoc}
 use borrow.Author.Tests.{leb-true, eqb-true, le-leb, eq-eqb, not-true}
 use Rattle.model.specs.Sizes.{Bytes}
 use Rattle.model.specs.Entry.{Entry, Prefix}
+use Rattle.storage_bytes.specs.Lists.{some}
 use Rattle.storage.specs.Tables.{PrefixRow, prefix_row, rows_of_prefixes}
 use Rattle.storage_bytes.specs.Words.{bytes_at, word_at, same_bytes}
 use Rattle.storage.specs.Decode.{prefix_at, entry_of, extended, resolve_from, resolve}
@@ -164,7 +165,7 @@ same_row_true s r p t z c =
     rw (eq-eqb s.parent r.parent p, eq-eqb s.term r.term t, eq-eqb s.size r.size z, c) (same_bytes_refl r.content)
 
 among_at : (r : PrefixRow) (rows : List PrefixRow) (a j : ℕ) → a ≤ j → j < length rows → same_row (row_at rows j) r ≡ true → is_among r (drop a rows) ≡ true
-unfolding is_among
+unfolding some
 among_at r [] a j h l e = absurd (not-suc-le-zero l)
 among_at r (s ∷ ss) zero zero h l e = ap (λ (b : Bool). b || is_among r ss) e
 among_at r (s ∷ ss) zero (suc j) h l e =

@@ -14,7 +14,7 @@
 use Rattle.std.specs.Prelude.{ℕ, ◌+◌, Bool, true, false, cond, not, ◌&&◌, ◌||◌, List, [], ◌∷◌, ◌++◌, map, leb, ltb, eqb, length, get_or, drop}
 use Rattle.model.specs.Sizes.{Bytes, index_limit, content_limit, prefix_limit, certificate_limit, finding_limit}
 use Rattle.model.specs.History.{Finding}
-use Rattle.storage_bytes.specs.Lists.{every}
+use Rattle.storage_bytes.specs.Lists.{every, some}
 use Rattle.storage_bytes.specs.Words.{same_bytes}
 use Rattle.storage_bytes.specs.Layout.{history_length}
 use Rattle.storage.specs.Tables.{PrefixRow, NodeRow, CertificateRow, Tables, tables_in, tables_of}
@@ -82,14 +82,12 @@ same_row s r =
     && (eqb s.term r.term && (eqb s.size r.size && same_bytes s.content r.content))
 
 -- one of the rows stores the same prefix as r
-unfoldable pub is_among : PrefixRow → List PrefixRow → Bool
-unfolding same_row
-is_among r [] = false
-is_among r (s ∷ ss) = same_row s r || is_among r ss
+abbrev pub is_among : PrefixRow → List PrefixRow → Bool
+is_among r rows = some (λ s. same_row s r) rows
 
 -- The rows that extend the same prefix come after it, so only those after the parent are looked at.
 unfoldable pub prefix_right : List PrefixRow → PrefixRow → Bool
-unfolding is_among
+unfolding same_row some
 prefix_right before r =
     extends before r
     && (is_index r.index && (leb r.size content_limit && not (is_among r (drop r.parent before))))

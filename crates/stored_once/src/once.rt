@@ -27,7 +27,7 @@ fn same_row(prefixes: &PrefixTable, j: usize, k: usize) -> bool
 }
 
 // One of the rows from `start` on, before k, stores the same prefix as k.
-#[tactic(auto, using(crate::proofs::Turns::among_next, crate::proofs::Turns::among_stop, crate::proofs::Turns::among_none))]
+#[tactic(auto, using(storage_bytes::proofs::ListLaws::some_next, storage_bytes::proofs::ListLaws::some_stop, storage_bytes::proofs::ListLaws::some_none))]
 pub fn is_among(prefixes: &PrefixTable, start: usize, k: usize) -> bool
     requires { (start ≤ k) × (k < 512) }
     ensures { result ≡ is_among (prefix_row prefixes.now k) (tabulate (prefix_row prefixes.now) start (k - start)) }
