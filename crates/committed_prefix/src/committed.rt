@@ -20,10 +20,7 @@ pub fn committed_prefix(history: &[u8]) -> Option<LogPrefixWitness>
     ensures { result ≡ stored_of (word_at history.now 4 2) }
 {
     let p = committed(history);
-    if p == LogPrefixWitness::EMPTY {
-        return None;
-    }
-    Some(p)
+    (p != LogPrefixWitness::EMPTY).then_some(p)
 }
 
 // The node's unseen mark is set, or cleared; its view stays.

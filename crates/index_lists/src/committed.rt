@@ -15,17 +15,14 @@ pub struct Committed {
     pub owner: NodeId,
 }
 
-#[tactic(auto, using(storage::proofs::WellFormed::formed), unfolding(crate::specs::Committed::committed_answer))]
+#[tactic(auto, using(storage::proofs::WellFormed::formed, model::proofs::Tests::unless_zero), unfolding(crate::specs::Committed::committed_answer))]
 pub fn committed_prefix(history: Stored<'_>) -> Option<Committed>
     ensures { result ≡ committed_answer history.entry.bytes.now }
 {
     let length = committed_end(history);
-    if length == LogIndex::ZERO {
-        return None;
-    }
     let bytes = history.bytes;
     let owner = owner(bytes);
-    Some(Committed { length, owner })
+    (length != LogIndex::ZERO).then_some(Committed { length, owner })
 }
 
 // As it is printed and as callers in C read it.

@@ -3,10 +3,13 @@
 use Prim.Native.Nat.{ℕ, ◌≤◌, min}
 use native.Mathlib.Omega.{arith}
 use mathlib.Core.Path.{◌≡◌, refl, sym, ◌∙◌, ap}
-use mathlib.Core.Bool.{Bool, true, false, cond, ◌&&◌, ◌||◌}
+use mathlib.Core.Bool.{Bool, true, false, cond, not, ◌&&◌, ◌||◌}
 use mathlib.Core.Logic.{◌⊎◌, inl, inr}
+use lib.Dec.{eqb}
 use lib.ListN.{length, take}
 use lib.Seq.{take_all}
+use Rattle.std.specs.Bool.{then_some}
+use Rattle.std.specs.Prelude.{Some, None}
 use Rattle.model.specs.Entry.{Prefix, holds, same, prefixes, begins, agree}
 
 -- ---- tests
@@ -30,6 +33,14 @@ cond_true false x y e = absurd (tf (sym e))
 pub cond_false {ℓ} : {C : Type ℓ} (b : Bool) (x y : C) → b ≡ false → cond b x y ≡ y
 cond_false true x y e = absurd (tf e)
 cond_false false x y e = refl
+
+-- none where a number is zero
+pub unless_zero : {A : Type 0} (n : ℕ) (b : Bool) (x : A) → b ≡ not (eqb n 0) → then_some b x ≡ cond (eqb n 0) None (Some x)
+unless_zero n b x e = ap (λ (v : Bool). then_some v x) e ∙ told (eqb n 0)
+  where
+    told : (z : Bool) → then_some (not z) x ≡ cond z None (Some x)
+    told true = refl
+    told false = refl
 
 pub and_left : (a b : Bool) → a && b ≡ true → a ≡ true
 and_left true b e = refl

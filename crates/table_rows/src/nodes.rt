@@ -76,14 +76,11 @@ pub fn node_of(history: &History, node: NodeId) -> Node
 }
 
 // The unseen mark of node k alone.
-#[tactic(auto, using(crate::proofs::TermSearchLaws::index_none))]
+#[tactic(auto, unfolding(crate::specs::TermSearch::found_index))]
 pub fn mark_at(nodes: &[u8], k: usize) -> Option<LogIndex>
     requires { (k < 64) × (length nodes.now ≡ 384) }
     ensures { result ≡ found_index (row_of_node nodes.now k).unseen }
 {
     let mark = LogIndex::read(nodes, k * NODE_WIDTH + 4);
-    if mark == LogIndex::ZERO {
-        return None;
-    }
-    Some(mark)
+    (mark != LogIndex::ZERO).then_some(mark)
 }

@@ -1,12 +1,10 @@
 -- `committed_prefix::committed::committed_prefix` meets its contract.
 -- Assumes nothing.
-use mathlib.Core.Path.{sym, ◌∙◌}
-use borrow.Author.Tests.{eqb-true, eqb-false}
-use Rattle.prefix_lookup.proofs.StoredLaws.{stored_none, stored_read}
+use mathlib.Core.Path.{◌∙◌, ap}
+use Rattle.model.proofs.Tests.{unless_zero}
+use Rattle.prefix_lookup.specs.Prefix.{stored_of}
 use Rattle.committed_prefix.proofs.committed.committed_prefix.Goals as goal
 
-pub returns-then-eq : goal.returns-then-eq
-returns-then-eq c = stored_none _ (sym c.committed-p.ensures.is ∙ eqb-true _ _ (sym c.if-eq.ensures))
-
 pub returns : goal.returns
-returns c = stored_read _ _ c.committed-p.ensures.is (eqb-false _ _ (sym c.if-eq.ensures))
+unfolding stored_of
+returns c = c.then_some.ensures ∙ unless_zero _ _ _ c.ne.ensures ∙ ap stored_of c.committed-p.ensures.is

@@ -1,9 +1,10 @@
 -- `table_rows::nodes::mark_at` meets its contract.
 -- Assumes nothing.
-use mathlib.Core.Path.{sym, ◌∙◌}
-use borrow.Author.Tests.{eqb-false}
-use Rattle.table_rows.proofs.TermSearchLaws.{index_found}
+use mathlib.Core.Path.{◌∙◌, ap}
+use Rattle.model.proofs.Tests.{unless_zero}
+use Rattle.table_rows.specs.TermSearch.{found_index}
 use Rattle.table_rows.proofs.nodes.mark_at.Goals as goal
 
 pub returns : goal.returns
-returns c = index_found _ _ c.read-mark.ensures.is (eqb-false _ 0 (sym c.eq.ensures ∙ c.if-eq.false))
+unfolding found_index
+returns c = c.then_some.ensures ∙ unless_zero _ _ _ c.ne.ensures ∙ ap found_index c.read-mark.ensures.is
