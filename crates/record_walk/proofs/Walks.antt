@@ -1,16 +1,18 @@
 -- Laws for the loops of callers: the entries of a readable view and the rows, one after the other.
 -- Assumes nothing.
 use Prim.Native.Nat.{ℕ, ◌+◌, ◌-◌, ◌≤◌, ◌<◌}
-use mathlib.Core.Path.{◌≡◌, sym, ◌∙◌}
+use mathlib.Core.Path.{◌≡◌, sym, ap, ◌∙◌}
 use mathlib.Core.List.{[], ◌∷◌}
 use native.Mathlib.Omega.{arith}
 use lib.ListN.{length, take, replicate, length-append, length-replicate}
 use lib.Seq.{take_at}
+use Rattle.std.specs.Prelude.{Some}
 use Rattle.model.specs.Sizes.{Bytes}
 use Rattle.model.specs.Record.{last_from}
 use Rattle.model.specs.Reading.{shown, row}
 use Rattle.record_scan.specs.Places.{index_of, node_of, shown_at, next_at, entries_at, index_at, length_at, content_at, row_at, after_row, rows_at, Walk, RowWalk}
-use Rattle.record_walk.specs.Values.{shown_entry, Here, RowHere}
+use Rattle.record_walk.specs.declared.walk.ShownEntry.{ShownEntry}
+use Rattle.record_walk.specs.Values.{shown_entry, Here, RowHere, EntryTaken}
 use Rattle.bit_fields.proofs.Widths.{bytes_length}
 use Rattle.record_scan.proofs.Given.{Entered, Rowed, shown_is, row_is}
 use Rattle.record_scan.proofs.Scanned.{entry_stands, row_stands}
@@ -40,6 +42,24 @@ module _ (s : Bytes) (k n : ℕ) where
   here w h =
       let e = walk_entered w h in
       record { near = omega (arith, w.near); short = e.short; whole = e.whole }
+
+-- what an iterator of entries took from the bytes s, at bit k with n left
+pub record Taken (s : Bytes) (k n : ℕ) (e : ShownEntry) (t : Bytes) (j m : ℕ) : Type 0 where
+  pub some : 0 < n
+  pub is : e ≡ shown_entry s k
+  pub bytes : t ≡ s
+  pub next : j ≡ e.next
+  pub left : m ≡ n - 1
+
+pub entry_taken : {s b : Bytes} (same : b ≡ s) {k n j m : ℕ} {e : ShownEntry} {t : Bytes} → EntryTaken b k n (Some e) t j m → Taken s k n e t j m
+entry_taken same {k} took =
+    record {
+      some = omega (arith, took.3);
+      is = took.0 ∙ ap (λ (x : Bytes). shown_entry x k) same;
+      bytes = took.1 ∙ same;
+      next = took.2 ∙ sym (ap (λ (x : ShownEntry). x.next) took.0);
+      left = omega (arith, took.3);
+    }
 
 -- the model's content is the first `length` bytes of the array
 pub entry_content : (s : Bytes) (k : ℕ) → take (length_at s k) (shown_entry s k).content ≡ (shown_at s k).entry.content

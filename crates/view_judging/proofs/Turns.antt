@@ -20,14 +20,17 @@ use Rattle.record_walk.proofs.Walks.{next_walk, walk_entered, here, entry_conten
 use Rattle.storage.specs.Tables.{PrefixRow, prefix_row}
 use Rattle.storage.proofs.RowLaws.{bytes_take}
 use Rattle.prefix_lookup.specs.Table.{entry_value}
-use Rattle.log_violation.specs.Violation.{held_all, bytes_all, NotedAll}
+use Rattle.table_rows.specs.declared.findings.Found.{Found}
+use Rattle.table_rows.specs.Values.{finding_value}
+use Rattle.log_violation.specs.declared.violation.Notes.{Notes}
+use Rattle.log_violation.specs.Violation.{held_all, bytes_all, NotedAll, note_where}
 use Rattle.prefix_lookup.specs.Prefix.{witness, stored_of, first}
 use Rattle.units.specs.declared.LogPrefixWitness.{LogPrefixWitness}
 use Rattle.log_comparison.specs.Comparison.{same_from}
 use Rattle.view_judging.specs.Judging.{differs, other, is_remembered, note_of, lack_notes, next_number, place_at, front_at, Stand, ends_at, place_from, stored_notes, ReachedAs, LackingAs}
 use Rattle.view_judging.specs.declared.judging.Place.{Place}
 use Rattle.prefix_lookup.proofs.StoredLaws.{stored_number, stored_nothing}
-use Rattle.log_violation.proofs.ViolationLaws.{held_then, bytes_then}
+use Rattle.log_violation.proofs.ViolationLaws.{where_not, where_noted, held_then, bytes_then}
 use Rattle.view_judging.proofs.Places.{front_suc, front_cut, front_zero, ends_gap, ends_lost, goes_on, place_stays, place_goes, stored_stays, stored_goes, stand_next, first_stands}
 use Rattle.std.specs.Prelude.{Option, Some, None, is_some}
 
@@ -117,6 +120,19 @@ module _ (s : Bytes) (at left i : ℕ) (w : Walk s at left) (h : 0 < left) (e : 
   -- another index than the next: the front ends
   pub front_gap : (e.index.0 ≡ i → ⊥) → front_from i (entries_at s at left) ≡ []
   front_gap g = front_stop s at left i h (λ x. g (ap (λ (y : ShownEntry). y.index.0) q ∙ x))
+
+-- ---- LG-03 noted where it is told
+
+module _ (b : Bool) (f : Finding) (old new : Notes) where
+  pub told : b ≡ true → (x : Found) → finding_value x ≡ f → (u : Notes) → new ≡ u → NotedAll old.rows old.held (finding_value x ∷ []) u.held u.rows
+      → NotedAll old.rows old.held (note_where b f) new.held new.rows
+  told t x e u s w =
+      subst (λ (v : Notes). NotedAll old.rows old.held (note_where b f) v.held v.rows) (sym s)
+      (where_noted b f old.rows old.held t _ _ (subst (λ (g : Finding). NotedAll old.rows old.held (g ∷ []) u.held u.rows) e w))
+
+  pub untold : b ≡ false → new ≡ old → NotedAll old.rows old.held (note_where b f) new.held new.rows
+  untold t s =
+      subst (λ (v : Notes). NotedAll old.rows old.held (note_where b f) v.held v.rows) (sym s) (where_not b f old.rows old.held t)
 
 -- ---- the walk along the stored prefixes
 

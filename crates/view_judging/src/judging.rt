@@ -4,8 +4,8 @@ ghost use Rattle.std.specs.Prelude.{◌≡◌, ◌+◌, ◌-◌, ◌≤◌};
 ghost use Rattle.record_scan.specs.Places.{first_entry};
 ghost use Rattle.storage.specs.Tables.{prefix_row};
 ghost use Rattle.prefix_lookup.specs.Table.{Table};
-ghost use Rattle.log_violation.specs.Violation.{NotedAll};
-ghost use Rattle.view_judging.specs.Judging.{other, note_of, place_at, Stand, ReachedAs, LackingAs, ViewJudged};
+ghost use Rattle.table_rows.specs.Values.{finding_value};
+ghost use Rattle.view_judging.specs.Judging.{other, lg03, place_at, Stand, ReachedAs, LackingAs, ViewJudged};
 
 use log_comparison::comparison::same_prefix;
 use log_violation::violation::Notes;
@@ -70,18 +70,15 @@ fn is_other(prefixes: Prefixes<'_>, index: LogIndex, term: Term, p: LogPrefixWit
     !same_prefix(prefixes.rows, remembered, p)
 }
 
-// LG-03 of an entry is noted where another prefix is remembered for it.
-#[tactic(auto, unfolding(log_violation::specs::Violation::held_all, log_violation::specs::Violation::bytes_all))]
-fn note_lg03(notes: &mut Notes, differs: bool, node: NodeId, e: ShownEntry)
-    ensures { NotedAll notes.old.rows notes.old.held (note_of differs node.0 e.index.0 e.term.0) notes.new.held notes.new.rows }
+// LG-03 of an entry.
+fn lg03(node: NodeId, e: ShownEntry) -> Found
+    ensures { finding_value result ≡ lg03 node.0 e.index.0 e.term.0 }
 {
-    if differs {
-        notes.note(Found {
-            name: LG_03,
-            node,
-            index: e.index,
-            term: e.term,
-        });
+    Found {
+        name: LG_03,
+        node,
+        index: e.index,
+        term: e.term,
     }
 }
 
@@ -101,8 +98,9 @@ fn judge_stored(prefixes: Prefixes<'_>, view: View<'_>, notes: &mut Notes) -> Pl
         let Some(next) = prefixes.find_extension(here.prefix, e) else {
             break;
         };
-        let differs = is_other(prefixes, e.index, e.term, next);
-        note_lg03(notes, differs, view.node, e);
+        if is_other(prefixes, e.index, e.term, next) {
+            notes.note(lg03(view.node, e));
+        }
         here = place_after(here, e.next, next);
     }
     here
@@ -124,8 +122,9 @@ fn judge_missing(prefixes: Prefixes<'_>, view: View<'_>, rest: Place, notes: &mu
         if e.index.0 != rest.index.0 + missing {
             break;
         }
-        let differs = prefixes.first_of(e.index, e.term).is_some();
-        note_lg03(notes, differs, view.node, e);
+        if prefixes.first_of(e.index, e.term).is_some() {
+            notes.note(lg03(view.node, e));
+        }
         missing += 1;
     }
     missing

@@ -1,31 +1,29 @@
 -- `view_judging::judging::judge_missing` meets its contract.
 -- Assumes nothing.
-use Prim.Native.Nat.{◌+◌, ◌-◌}
-use mathlib.Core.Path.{◌≡◌, sym, ap, ◌∙◌}
+use Prim.Native.Nat.{◌+◌}
+use mathlib.Core.Path.{◌≡◌, ap, ◌∙◌}
 use native.Mathlib.Omega.{arith}
 use borrow.Author.Rules.{rules}
 use Rattle.std.specs.Prelude.{is_some}
-use Rattle.record_walk.specs.declared.walk.ShownEntry.{ShownEntry}
-use Rattle.record_walk.specs.Values.{shown_entry}
+use Rattle.record_walk.proofs.Walks.{entry_taken}
 use Rattle.view_judging.specs.Judging.{place_at}
-use Rattle.view_judging.proofs.Turns.{remembered_is, lacking_next, lacking_ends, front_none, front_gap}
+use Rattle.view_judging.proofs.Turns.{told, untold, remembered_is, lacking_next, lacking_ends, front_none, front_gap}
 use Rattle.view_judging.proofs.judging.judge_missing.Goals as goal
+use Rattle.view_judging.proofs.judging.judge_missing.Goals.{then-is_some, else-is_some}
 
 pub loop-e-preserved : goal.loop-e-preserved
 loop-e-preserved c =
     let l = c.loop-e in
-    let w = l.e-iterator in
-    let t = c.next.new.self in
-    let e = c.in-Some.e in
-    let took = c.in-Some.ensures.steps in
-    let is : e ≡ shown_entry c.args.view.bytes.now w.next = rw l.invariant.0 at took.0 in
-    let next : t.next ≡ e.next = took.2 ∙ sym (ap (λ (x : ShownEntry). x.next) took.0) in
-    let left : t.left ≡ w.left - 1 = omega (arith, took.3) in
+    let took = entry_taken l.invariant.0 c.in-Some.ensures.steps in
     let index : c.args.rest.index.0 + (l.missing + 1) ≡ c.args.rest.index.0 + l.missing + 1 = omega arith in
-    let known : c.is_some-differs.result ≡ is_some c.first_of.result = search rules in (
-      took.1 ∙ l.invariant.0,
-      lacking_next _ _ _ _ _ _ _ _ _ _ _ l.invariant.1 (omega (arith, took.3)) e is c.if-e-rest.false _ (known ∙ ap is_some c.first_of.ensures ∙ remembered_is _ _ _ _) _ _ c.note_lg03.ensures
-          _ (λ i. place_at (next i) (left i) (index i) c.args.rest.prefix.0),
+    let known : c.is_some.result ≡ is_some c.first_of.result = search rules in (
+      took.bytes,
+      lacking_next _ _ _ _ _ _ _ _ _ _ _ l.invariant.1 took.some _ took.is c.if-e-rest.false _ (known ∙ ap is_some c.first_of.ensures ∙ remembered_is _ _ _ _) _ _
+          (elim c.if-is_some.branch [
+            | then-is_some w ↦ told _ _ _ _ w.if-is_some.true _ w.lg03.ensures _ w.notes-is w.note.ensures
+            | else-is_some w ↦ untold _ _ _ _ w.if-is_some.false w.notes-is
+          ])
+          _ (λ i. place_at (took.next i) (took.left i) (index i) c.args.rest.prefix.0),
     )
 
 pub returns-in-None : goal.returns-in-None
@@ -35,7 +33,6 @@ returns-in-None c =
 
 pub returns-then-e-rest : goal.returns-then-e-rest
 returns-then-e-rest c =
-    let took = c.in-Some.ensures.steps in
+    let took = entry_taken c.loop-e.invariant.0 c.in-Some.ensures.steps in
     lacking_ends _ _ _ _ _ _ _ _ _ _ _ c.loop-e.invariant.1
-    (front_gap c.args.view.bytes.now c.loop-e.e-iterator.next c.loop-e.e-iterator.left _ c.loop-e.invariant.1.walk (omega (arith, took.3)) _
-    (rw c.loop-e.invariant.0 at took.0) c.if-e-rest.true)
+    (front_gap _ _ _ _ c.loop-e.invariant.1.walk took.some _ took.is c.if-e-rest.true)

@@ -6,9 +6,10 @@ use Rattle.record_walk.proofs.Walks.{here}
 use Rattle.prefix_lookup.proofs.StoredLaws.{stored_number, stored_nothing}
 use Rattle.prefix_lookup.proofs.Loops.{are_same, are_other}
 use Rattle.view_judging.proofs.Places.{find_within}
-use Rattle.view_judging.proofs.Turns.{judging_starts, entry_short, judging_none, judging_gap, judging_lost, judging_next}
+use Rattle.view_judging.proofs.Turns.{told, untold, judging_starts, entry_short, judging_none, judging_gap, judging_lost, judging_next}
 use Rattle.record_walk.proofs.Views.{walked}
 use Rattle.view_judging.proofs.judging.judge_stored.Goals as goal
+use Rattle.view_judging.proofs.judging.judge_stored.Goals.{then-is_other, else-is_other}
 
 pub loop-here-init : goal.loop-here-init
 loop-here-init c =
@@ -23,8 +24,8 @@ find_extension-requires c = (
   entry_short _ _ _ 0 c.loop-here.invariant.stands.walk c.loop-here-test.true _ c.entry_at-e.ensures,
 )
 
-pub is_other-differs-requires : goal.is_other-differs-requires
-is_other-differs-requires c =
+pub is_other-requires : goal.is_other-requires
+is_other-requires c =
     let x = stored_number _ _ c.find_extension.ensures _ c.in-Some.is in (
       c.requires,
       subst (λ (y : ℕ). 1 ≤ y) (sym (are_same c.if-ne.ensures)) c.loop-here.invariant.stands.positive,
@@ -35,7 +36,12 @@ pub loop-here-preserved : goal.loop-here-preserved
 loop-here-preserved c =
     let x = stored_number _ _ c.find_extension.ensures _ c.in-Some.is in
     judging_next _ _ _ _ _ _ _ _ _ _ c.loop-here.invariant
-    c.loop-here-test.true _ c.entry_at-e.ensures (are_same c.if-ne.ensures) _ x.0 x.1 _ c.is_other-differs.ensures _ _ c.note_lg03.ensures _ c.place_after-here.ensures
+    c.loop-here-test.true _ c.entry_at-e.ensures (are_same c.if-ne.ensures) _ x.0 x.1 _ c.is_other.ensures _ _
+    (elim c.if-is_other.branch [
+      | then-is_other w ↦ told _ _ _ _ w.if-is_other.true _ w.lg03.ensures _ w.notes-is w.note.ensures
+      | else-is_other w ↦ untold _ _ _ _ w.if-is_other.false w.notes-is
+    ])
+    _ c.place_after-here.ensures
 
 pub returns-after-loop-here : goal.returns-after-loop-here
 returns-after-loop-here c =

@@ -1,9 +1,9 @@
 -- `view_writing::writing::store` meets its contract.
 -- Assumes nothing.
-use Prim.Native.Nat.{◌+◌, ◌-◌}
-use mathlib.Core.Path.{◌≡◌, refl, sym, ap, ◌∙◌}
+use Prim.Native.Nat.{◌+◌}
+use mathlib.Core.Path.{refl}
 use native.Mathlib.Omega.{arith}
-use Rattle.record_walk.specs.declared.walk.ShownEntry.{ShownEntry}
+use Rattle.record_walk.proofs.Walks.{entry_taken}
 use Rattle.log_prefix.proofs.Written.{answer_longer, answer_stays}
 use Rattle.view_judging.specs.Judging.{place_at}
 use Rattle.view_writing.proofs.WritingTurns.{writing_starts, writing_ends, writing_gap, writing_asks, writing_next}
@@ -15,22 +15,18 @@ loop-e-init c = rw c.into_iter-e-iterator.ensures.into_iter_gives (c.args.rest.i
 pub extend-requires : goal.extend-requires
 extend-requires c =
     let inv = c.loop-e.invariant in
-    let took = c.in-Some.ensures.steps in
-    writing_asks _ _ _ _ inv.2.storing (omega (arith, took.3)) _ (rw inv.1 at took.0)
+    let took = entry_taken inv.1 c.in-Some.ensures.steps in
+    writing_asks _ _ _ _ inv.2.storing took.some _ took.is
 
 pub loop-e-preserved : goal.loop-e-preserved
 loop-e-preserved c =
     let l = c.loop-e in
     let inv = l.invariant in
-    let w = l.e-iterator in
-    let t = c.next.new.self in
-    let took = c.in-Some.ensures.steps in
-    let next : t.next ≡ c.in-Some.e.next = took.2 ∙ sym (ap (λ (x : ShownEntry). x.next) took.0) in
-    let left : t.left ≡ w.left - 1 = omega (arith, took.3) in (
+    let took = entry_taken inv.1 c.in-Some.ensures.steps in (
       inv.0 + 1,
-      took.1 ∙ inv.1,
-      writing_next _ _ _ _ _ _ _ inv.2 (omega (arith, took.3)) _ (rw inv.1 at took.0) _ _
-          (answer_longer l.history l.n l.front.0 _ _ _ c.extend.ensures _ c.in-Some-extend.is) _ (λ i. place_at (next i) (left i) (inv.0 + 1) c.in-Some-extend.x.prefix.0),
+      took.bytes,
+      writing_next _ _ _ _ _ _ _ inv.2 took.some _ took.is _ _
+          (answer_longer l.history l.n l.front.0 _ _ _ c.extend.ensures _ c.in-Some-extend.is) _ (λ i. place_at (took.next i) (took.left i) (inv.0 + 1) c.in-Some-extend.x.prefix.0),
     )
 
 pub returns-in-None : goal.returns-in-None
@@ -40,6 +36,6 @@ returns-in-None c =
 pub returns-in_default : goal.returns-in_default
 returns-in_default c =
     let inv = c.loop-e.invariant in
-    let took = c.in-Some.ensures.steps in
+    let took = entry_taken inv.1 c.in-Some.ensures.steps in
     let o = answer_stays c.loop-e.history c.loop-e.n c.loop-e.front.0 _ _ _ c.extend.ensures c.in_default.is in
-    writing_gap _ _ _ _ _ _ _ inv.2 (omega (arith, took.3)) _ (rw inv.1 at took.0) o.0 _ o.1
+    writing_gap _ _ _ _ _ _ _ inv.2 took.some _ took.is o.0 _ o.1
