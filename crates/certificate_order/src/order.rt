@@ -38,15 +38,9 @@ pub fn held_of(certificates: &Certificates, place: usize, term: Term) -> usize
 }
 
 // Whether one of the `held` right before the place has the number.
-#[tactic(auto, using(storage_bytes::proofs::ListLaws::some_next, storage_bytes::proofs::ListLaws::some_stop, storage_bytes::proofs::ListLaws::some_none))]
 pub fn is_taken(certificates: &Certificates, place: usize, held: usize, number: usize) -> bool
     requires { (held ≤ place) × (place ≤ 64) }
     ensures { result ≡ taken_before (certificate_row certificates.now) number place held }
 {
-    for k in place - held..place {
-        if number_at(certificates, k) == number {
-            return true;
-        }
-    }
-    false
+    (place - held..place).any(|k| number_at(certificates, k) == number)
 }

@@ -1,11 +1,13 @@
 -- The turns of the search for the n-th finding in printed order.
 -- Assumes nothing.
-use Prim.Native.Nat.{ℕ, ◌+◌, ◌-◌, ◌<◌, ◌≤◌}
+use Prim.Native.Nat.{ℕ, zero, suc, ◌+◌, ◌-◌, ◌<◌, ◌≤◌}
 use native.Mathlib.Omega.{arith}
 use mathlib.Core.Path.{◌≡◌, refl, sym, ◌∙◌, ap}
-use mathlib.Core.Bool.{Bool, true, false, cond, ◌&&◌, ◌||◌}
+use mathlib.Core.Bool.{Bool, true, false, not, cond, ◌&&◌, ◌||◌}
 use mathlib.Core.List.{List, ◌∷◌}
 use lib.Dec.{ltb, eqb}
+use lib.ListN.{length}
+use Rattle.std.specs.List.{filter, range_with_len}
 use borrow.Author.Tests.{eq-eqb, ne_eqb, lt-ltb, le-ltb}
 use Rattle.model.specs.History.{Finding}
 use Rattle.model.proofs.Tests.{cond_true, cond_false}
@@ -30,22 +32,17 @@ key_same a b c e = rw (eq-eqb a b e, le-ltb a b (omega arith))
 
 -- ---- counting
 
-module _ (f : Finding) (row : ℕ → Finding) {r : ℕ} (count j m : ℕ) where
-  pub count_next : r ≡ count + count_first f (tabulate row j (m - j)) → j < m → {count' : ℕ} → count' ≡ count + cond (comes_before f (row j)) 0 1
-      → r ≡ count' + count_first f (tabulate row (j + 1) (m - (j + 1)))
-  count_next inv h e =
-      inv
-      ∙ ap (λ (l : List Finding). count + count_first f l) (tabulate_cons row j m h)
-      ∙ count_cons
-      ∙ ap (λ (c : ℕ). c + count_first f (tabulate row (j + 1) (m - (j + 1)))) (sym e)
+module _ (f : Finding) (row : ℕ → Finding) where
+  -- those of a range that f does not come before
+  pub count_range : (i n : ℕ) → length (filter (λ j. not (comes_before f (row j))) (range_with_len i n)) ≡ count_first f (tabulate row i n)
+  unfolding tabulate count_first
+  count_range i zero = refl
+  count_range i (suc n) = one (comes_before f (row i)) ∙ ap (λ (c : ℕ). cond (comes_before f (row i)) 0 1 + c) (count_range (i + 1) n)
     where
-      count_cons : count + count_first f (row j ∷ tabulate row (j + 1) (m - (j + 1)))
-          ≡ count + cond (comes_before f (row j)) 0 1 + count_first f (tabulate row (j + 1) (m - (j + 1)))
-      count_cons = unfold count_first in omega arith
-
-  pub count_done : r ≡ count + count_first f (tabulate row j (m - j)) → m ≤ j → r ≡ count
-  unfolding count_first
-  count_done inv h = inv ∙ ap (λ (l : List Finding). count + count_first f l) (tabulate_none row j m h) ∙ (let e : count + 0 ≡ count = omega arith in e)
+      one : (b : Bool) → length (cond (not b) (i ∷ filter (λ j. not (comes_before f (row j))) (range_with_len (i + 1) n)) (filter (λ j. not (comes_before f (row j))) (range_with_len (i + 1) n)))
+          ≡ cond b 0 1 + length (filter (λ j. not (comes_before f (row j))) (range_with_len (i + 1) n))
+      one true = omega arith
+      one false = omega arith
 
 -- ---- the search
 

@@ -25,13 +25,9 @@ fn count_first(findings: &Findings, k: usize, m: usize, f: Found) -> usize
     requires { m ≤ 128 }
     ensures { result ≡ count_first (finding_value f) (tabulate (finding_row findings.now) k (m - k)) }
 {
-    let mut count = 0;
-    for j in k..m {
-        if !comes_before(f, Found::at(findings, j)) {
-            count += 1;
-        }
-    }
-    count
+    (k..m)
+        .filter(|j| !comes_before(f, Found::at(findings, *j)))
+        .count()
 }
 
 // The n-th of the first m rows in printed order, counted from 0.

@@ -36,17 +36,11 @@ fn is_same(x: Found, f: Found) -> bool
 }
 
 // The finding is among the first n.
-#[tactic(auto, using(storage_bytes::proofs::ListLaws::some_next, storage_bytes::proofs::ListLaws::some_stop, storage_bytes::proofs::ListLaws::some_none))]
 fn is_noted(findings: &[u8], n: usize, f: Found) -> bool
     requires { (n ≤ 128) × (length findings.now ≡ 1024) }
     ensures { result ≡ is_noted findings.now n (finding_value f) }
 {
-    for k in 0..n {
-        if is_same(Found::at(findings, k), f) {
-            return true;
-        }
-    }
-    false
+    (0..n).any(|k| is_same(Found::at(findings, k), f))
 }
 
 // The finding is noted among n, once; how many are held then. One more than the limit: there are too many.

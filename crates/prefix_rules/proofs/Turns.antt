@@ -1,20 +1,21 @@
--- The rules of the prefixes in the order in which the code tests them. Laws of a loop take what it holds so far first.
+-- The rules of the prefixes in the order in which the code tests them.
 -- Assumes nothing.
-use Prim.Native.Nat.{ℕ, ◌+◌, ◌-◌, ◌*◌, ◌≤◌, ◌<◌}
+use Prim.Native.Nat.{ℕ, zero, suc, ◌+◌, ◌-◌, ◌*◌, ◌≤◌, ◌<◌}
 use native.Mathlib.Nat.{zero-add}
-use mathlib.Core.Path.{◌≡◌, ap, sym, ◌∙◌}
+use mathlib.Core.Path.{◌≡◌, refl, ap, ◌∙◌}
 use mathlib.Core.Bool.{Bool, true, false, not, ◌&&◌}
 use mathlib.Core.List.{List, [], ◌∷◌, ◌++◌}
 use lib.Dec.{leb, eqb}
 use lib.ListN.{drop}
 use borrow.Author.Tests.{le-leb, lt-leb}
+use Rattle.std.specs.List.{range_with_len, list_all}
 use Rattle.model.specs.Sizes.{Bytes}
 use Rattle.storage_bytes.specs.Lists.{tabulate}
 use Rattle.storage_bytes.specs.Words.{word_at}
 use Rattle.storage.specs.Tables.{PrefixRow, prefix_row, rows_of_prefixes}
 use Rattle.storage.specs.Rules.{is_among, prefix_right, prefixes_right_after}
 use Rattle.storage.specs.Values.{number_index}
-use Rattle.storage_bytes.proofs.ListLaws.{tabulate_length, tabulate_cons, tabulate_none, tabulate_snoc, tabulate_drop}
+use Rattle.storage_bytes.proofs.ListLaws.{tabulate_length, tabulate_snoc, tabulate_drop}
 use Rattle.storage.proofs.RuleLaws.{index_among_lem}
 
 -- ---- one row of prefixes
@@ -41,23 +42,13 @@ module _ (t : Bytes) (k : ℕ) where
 
 -- ---- all rows of prefixes
 
-module _ (f : ℕ → PrefixRow) {b : Bool} (k n : ℕ) where
-  step_rows : b ≡ prefixes_right_after (tabulate f 0 k) (tabulate f k (n - k)) → k < n
-      → b ≡ (prefix_right (tabulate f 0 k) (f k) && prefixes_right_after (tabulate f 0 (k + 1)) (tabulate f (k + 1) (n - (k + 1))))
-  unfolding prefixes_right_after
-  step_rows inv h =
-      let s : tabulate f 0 k ++ (f k ∷ []) ≡ tabulate f 0 (k + 1)
-      = sym (tabulate_snoc f 0 k ∙ ap (λ (q : ℕ). tabulate f 0 k ++ (f q ∷ [])) (zero-add k)) in
-      inv ∙ ap (prefixes_right_after (tabulate f 0 k)) (tabulate_cons f k n h)
-      ∙ ap (λ (l : List PrefixRow). prefix_right (tabulate f 0 k) (f k) && prefixes_right_after l (tabulate f (k + 1) (n - (k + 1)))) s
-
-  pub rows_next : b ≡ prefixes_right_after (tabulate f 0 k) (tabulate f k (n - k)) → k < n → prefix_right (tabulate f 0 k) (f k) ≡ true
-      → b ≡ prefixes_right_after (tabulate f 0 (k + 1)) (tabulate f (k + 1) (n - (k + 1)))
-  rows_next inv h e = step_rows inv h ∙ ap (λ (v : Bool). v && prefixes_right_after (tabulate f 0 (k + 1)) (tabulate f (k + 1) (n - (k + 1)))) e
-
-  pub rows_stop : b ≡ prefixes_right_after (tabulate f 0 k) (tabulate f k (n - k)) → k < n → prefix_right (tabulate f 0 k) (f k) ≡ false → b ≡ false
-  rows_stop inv h e = step_rows inv h ∙ ap (λ (v : Bool). v && prefixes_right_after (tabulate f 0 (k + 1)) (tabulate f (k + 1) (n - (k + 1)))) e
-
-  pub rows_none : b ≡ prefixes_right_after (tabulate f 0 k) (tabulate f k (n - k)) → n ≤ k → b ≡ true
-  unfolding prefixes_right_after
-  rows_none inv h = inv ∙ ap (prefixes_right_after (tabulate f 0 k)) (tabulate_none f k n h)
+module _ (f : ℕ → PrefixRow) where
+  -- each held against those before it, from row i on
+  pub all_rows_right : (i n : ℕ) → list_all (λ k. prefix_right (tabulate f 0 k) (f k)) (range_with_len i n) ≡ prefixes_right_after (tabulate f 0 i) (tabulate f i n)
+  unfolding tabulate prefixes_right_after
+  all_rows_right i zero = refl
+  all_rows_right i (suc n) =
+      let s : tabulate f 0 (i + 1) ≡ tabulate f 0 i ++ (f i ∷ [])
+      = tabulate_snoc f 0 i ∙ ap (λ (q : ℕ). tabulate f 0 i ++ (f q ∷ [])) (zero-add i) in
+      ap (λ (b : Bool). prefix_right (tabulate f 0 i) (f i) && b)
+      (all_rows_right (i + 1) n ∙ ap (λ (l : List PrefixRow). prefixes_right_after l (tabulate f (i + 1) n)) s)

@@ -32,15 +32,9 @@ fn prefix_right(prefixes: &PrefixTable, k: usize) -> bool
 }
 
 // The storage rules of every one of n rows.
-#[tactic(auto, using(crate::proofs::Turns::rows_next, crate::proofs::Turns::rows_stop, crate::proofs::Turns::rows_none), unfolding(storage_bytes::specs::Lists::tabulate))]
 pub fn prefixes_right(prefixes: &PrefixTable, n: usize) -> bool
     requires { n ≤ 512 }
     ensures { result ≡ prefixes_right_after [] (rows_of_prefixes prefixes.now n) }
 {
-    for k in 0..n {
-        if !prefix_right(prefixes, k) {
-            return false;
-        }
-    }
-    true
+    (0..n).all(|k| prefix_right(prefixes, k))
 }

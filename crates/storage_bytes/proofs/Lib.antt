@@ -1,4 +1,5 @@
 pub mod ListLaws
+pub mod RangeLaws
 pub mod WordLaws
 pub mod PartLaws
 pub mod ByteTurns

@@ -27,15 +27,9 @@ fn same_row(prefixes: &PrefixTable, j: usize, k: usize) -> bool
 }
 
 // One of the rows from `start` on, before k, stores the same prefix as k.
-#[tactic(auto, using(storage_bytes::proofs::ListLaws::some_next, storage_bytes::proofs::ListLaws::some_stop, storage_bytes::proofs::ListLaws::some_none))]
 pub fn is_among(prefixes: &PrefixTable, start: usize, k: usize) -> bool
     requires { (start ≤ k) × (k < 512) }
     ensures { result ≡ is_among (prefix_row prefixes.now k) (tabulate (prefix_row prefixes.now) start (k - start)) }
 {
-    for j in start..k {
-        if same_row(prefixes, j, k) {
-            return true;
-        }
-    }
-    false
+    (start..k).any(|j| same_row(prefixes, j, k))
 }
