@@ -6,6 +6,7 @@ ghost use Rattle.storage.specs.Rules.{certificate_right, follows as followsRow, 
 ghost use Rattle.certificate_rows.specs.Values.{certificate_value};
 
 use certificate_rows::certificates::Certificate;
+use std::cmp::Ordering;
 use storage::rows::{StoredRow, all_rows};
 use storage_bytes::layout::Certificates;
 use units::{LogIndex, NodeId};
@@ -40,16 +41,11 @@ pub fn certificates_right(certificates: &Certificates, m: usize, n: usize) -> bo
 fn follows(c: Certificate, d: Certificate) -> bool
     ensures { result ≡ followsRow (certificate_value c) (certificate_value d) }
 {
-    if d.term == c.term {
-        if d.number == 0 {
-            return false;
-        }
-        return d.number - 1 == c.number;
+    match d.term.cmp(&c.term) {
+        Ordering::Less => false,
+        Ordering::Equal => d.number != 0 && d.number - 1 == c.number,
+        Ordering::Greater => d.number == 0,
     }
-    if d.term < c.term {
-        return false;
-    }
-    d.number == 0
 }
 
 // The certificates of each term are numbered 0, 1, .. unbroken.

@@ -19,18 +19,27 @@ pub struct Leader {
     pub leader: NodeId,
 }
 
+// The leader that a finding tells of.
+impl From<Found> for Leader {
+    ghost from_gives = { λ f l. (l.term ≡ f.term) × (l.leader ≡ f.node) };
+
+    fn from(f: Found) -> Leader {
+        Leader {
+            term: f.term,
+            leader: f.node,
+        }
+    }
+}
+
 // The lesser of the best so far and the finding's leader.
 #[tactic(auto, unfolding(crate::specs::Leaders::lesser, crate::specs::Leaders::is_below))]
 fn lesser(f: Found, best: Option<Leader>) -> Option<Leader>
     ensures { result ≡ lesser_of (finding_value f) best }
 {
-    let found = Leader {
-        term: f.term,
-        leader: f.node,
-    };
+    let found = Leader::from(f);
     match best {
-        Some(b) if b < found => best,
-        _ => Some(found),
+        Some(b) => Some(b.min(found)),
+        None => Some(found),
     }
 }
 
@@ -39,11 +48,7 @@ fn lesser(f: Found, best: Option<Leader>) -> Option<Leader>
 fn better(f: Found, last: Option<Leader>, best: Option<Leader>) -> Option<Leader>
     ensures { result ≡ better_of (after last) (finding_value f) best }
 {
-    let found = Leader {
-        term: f.term,
-        leader: f.node,
-    };
-    if f.name != LG_05 || Some(found) <= last {
+    if f.name != LG_05 || Some(Leader::from(f)) <= last {
         return best;
     }
     lesser(f, best)
