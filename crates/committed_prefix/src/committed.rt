@@ -15,6 +15,7 @@ use table_rows::nodes::{Node, node_of};
 use units::{LogIndex, LogPrefixWitness, NodeId};
 
 // The committed prefix, where one is kept.
+#[tactic(auto, using(model::proofs::Tests::unless_zero), unfolding(prefix_lookup::specs::Prefix::stored_of))]
 pub fn committed_prefix(history: &[u8]) -> Option<LogPrefixWitness>
     requires { 9 ≤ length history.now }
     ensures { result ≡ stored_of (word_at history.now 4 2) }

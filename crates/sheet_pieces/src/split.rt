@@ -34,6 +34,7 @@ pub fn piece_at(s: &[u8], at: usize) -> Piece
 }
 
 // The bytes from `from` to `to` moved to the front: how many they are.
+#[tactic(auto, using(crate::proofs::SplitLaws::moved_front))]
 pub fn move_down(t: &mut [u8], from: usize, to: usize) -> usize
     requires from_le_to { from ≤ to }
     requires to_in_bounds { to ≤ length t.old }

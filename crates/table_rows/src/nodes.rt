@@ -76,7 +76,7 @@ pub fn node_of(history: &History, node: NodeId) -> Node
 }
 
 // The unseen mark of node k alone.
-#[tactic(auto, unfolding(crate::specs::TermSearch::found_index))]
+#[tactic(auto, using(model::proofs::Tests::unless_zero), unfolding(crate::specs::TermSearch::found_index))]
 pub fn mark_at(nodes: &[u8], k: usize) -> Option<LogIndex>
     requires { (k < 64) × (length nodes.now ≡ 384) }
     ensures { result ≡ found_index (row_of_node nodes.now k).unseen }
