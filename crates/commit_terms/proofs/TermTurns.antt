@@ -95,68 +95,80 @@ module _ (h : Bytes) (k t : ℕ) (q : Bytes) (eq : q ≡ terms_part h) (x : ℕ)
   unfolding replace_bytes
   replace_so f u w = w ∙ sym (cond_true (is_replaced t (term_in h k)) _ h (test_is ∙ f))
 
--- ---- the search; k is the place that is looked at next
+-- ---- the search; i is the index that is looked at next
 
--- one more place of those left
-left_more : (new k : ℕ) → k < new → new - k ≡ suc (new - (k + 1))
-left_more new k h = omega arith
-
--- the place of the index after k
-place_is : (k : ℕ) → k + 1 - 1 ≡ k
-place_is k = omega arith
+-- one more index of those left
+left_more : (new i : ℕ) → i < new + 1 → new + 1 - i ≡ suc (new + 1 - (i + 1))
+left_more new i h = omega arith
 
 module _ (row : ℕ → ℕ) (t old new : ℕ) where
-  abbrev pub Searching : ℕ → Type 0
-  Searching k = first_replaced row t old (new - old) ≡ first_replaced row t k (new - k)
+  pub record Searching (i : ℕ) : Type 0 where
+    pub low : 1 ≤ i
+    pub same : first_replaced row t old (new - old) ≡ first_replaced row t (i - 1) (new + 1 - i)
+
+  pub searching_starts : Searching (old + 1)
+  searching_starts = record {
+    low = omega arith;
+    same = λ j. first_replaced row t (let e : old ≡ old + 1 - 1 = omega arith in e j) (let e : new - old ≡ new + 1 - (old + 1) = omega arith in e j);
+  }
 
   abbrev Found : Option LogIndex → Type 0
   Found r = r ≡ found_index (first_replaced row t old (new - old))
 
-  module _ (k : ℕ) (w : Searching k) where
-    pub searching_none : new ≤ k → Found None
+  module _ (i : ℕ) (w : Searching i) where
+    pub searching_none : new + 1 ≤ i → Found None
     unfolding first_replaced
-    searching_none l = index_none _ (sym (w ∙ ap (first_replaced row t k) (let e : new - k ≡ 0 = omega arith in e)))
+    searching_none l = index_none _ (sym (w.same ∙ ap (first_replaced row t (i - 1)) (let e : new + 1 - i ≡ 0 = omega arith in e)))
 
-    module _ (l : k < new) (x : ℕ) (e : x ≡ row (k + 1 - 1)) (b : Bool) (eb : b ≡ is_replaced t x) where
-      look : is_replaced t (row k) ≡ b
-      look = ap (is_replaced t) (sym (e ∙ ap row (place_is k))) ∙ sym eb
+    module _ (l : i < new + 1) (x : ℕ) (e : x ≡ row (i - 1)) (b : Bool) (eb : b ≡ is_replaced t x) where
+      look : is_replaced t (row (i - 1)) ≡ b
+      look = ap (is_replaced t) (sym e) ∙ sym eb
 
-      pub searching_found : b ≡ true → Found (Some (record { 0 = k + 1 }))
+      pub searching_found : b ≡ true → Found (Some (record { 0 = i }))
       unfolding first_replaced
       searching_found f =
           index_found _ _
-          (sym (w ∙ ap (first_replaced row t k) (left_more new k l) ∙ cond_true (is_replaced t (row k)) (k + 1) _ (look ∙ f)))
-          (λ z. omega arith)
+          (sym (w.same ∙ ap (first_replaced row t (i - 1)) (left_more new i l) ∙ cond_true (is_replaced t (row (i - 1))) (i - 1 + 1) _ (look ∙ f)
+          ∙ (let e : i - 1 + 1 ≡ i = omega (arith, w.low) in e)))
+          (λ z. omega (arith, w.low))
 
-      pub searching_next : b ≡ false → Searching (k + 1)
+      pub searching_next : b ≡ false → Searching (i + 1)
       unfolding first_replaced
-      searching_next f =
-          w ∙ ap (first_replaced row t k) (left_more new k l) ∙ cond_false (is_replaced t (row k)) (k + 1) _ (look ∙ f)
+      searching_next f = record {
+        low = omega arith;
+        same =
+            w.same ∙ ap (first_replaced row t (i - 1)) (left_more new i l) ∙ cond_false (is_replaced t (row (i - 1))) (i - 1 + 1) _ (look ∙ f)
+            ∙ ap (λ (j : ℕ). first_replaced row t j (new + 1 - (i + 1))) (let e : i - 1 + 1 ≡ i + 1 - 1 = omega (arith, w.low) in e);
+      }
 
--- ---- replacing; k is the place that is replaced next
+-- ---- replacing; i is the index whose place is replaced next
 
-pub record Replacing (h₀ : Bytes) (start new t : ℕ) (h : Bytes) (k : ℕ) : Type 0 where
-  pub bytes : replace_all h₀ t start (new - start) ≡ replace_all h t k (new - k)
+pub record Replacing (h₀ : Bytes) (first new t : ℕ) (h : Bytes) (i : ℕ) : Type 0 where
+  pub low : 1 ≤ i
+  pub bytes : replace_all h₀ t (first - 1) (new + 1 - first) ≡ replace_all h t (i - 1) (new + 1 - i)
 
 module _ (h₀ : Bytes) (first new t : ℕ) where
-  pub replacing_starts : Replacing h₀ (first - 1) new t h₀ (first - 1)
-  replacing_starts = record { bytes = refl }
+  pub replacing_starts : 1 ≤ first → Replacing h₀ first new t h₀ first
+  replacing_starts s = record { low = s; bytes = refl }
 
-  module _ (h : Bytes) (k : ℕ) (w : Replacing h₀ (first - 1) new t h k) where
-    pub replacing_next : k < new → (u : Bytes) → u ≡ replace_bytes h (k + 1 - 1) t → Replacing h₀ (first - 1) new t u (k + 1)
+  module _ (h : Bytes) (i : ℕ) (w : Replacing h₀ first new t h i) where
+    pub replacing_next : i < new + 1 → (u : Bytes) → u ≡ replace_bytes h (i - 1) t → Replacing h₀ first new t u (i + 1)
     unfolding replace_all
-    replacing_next l u e =
-        let q = e ∙ ap (λ (j : ℕ). replace_bytes h j t) (place_is k) in
-        record {
-          bytes = w.bytes ∙ ap (replace_all h t k) (left_more new k l) ∙ ap (λ (z : Bytes). replace_all z t (k + 1) (new - (k + 1))) (sym q);
-        }
+    replacing_next l u e = record {
+      low = omega arith;
+      bytes =
+          w.bytes ∙ ap (replace_all h t (i - 1)) (left_more new i l)
+          ∙ (λ j. replace_all (sym e j) t (let q : i - 1 + 1 ≡ i + 1 - 1 = omega (arith, w.low) in q j) (new + 1 - (i + 1)));
+    }
 
-    pub replacing_ends : 1 ≤ first → new ≤ k → h ≡ replace_all h₀ t (first - 1) (new + 1 - first)
+    pub replacing_ends : new + 1 ≤ i → h ≡ replace_all h₀ t (first - 1) (new + 1 - first)
     unfolding replace_all
-    replacing_ends s l =
-        sym
-        (ap (replace_all h₀ t (first - 1)) (let e : new + 1 - first ≡ new - (first - 1) = omega arith in e)
-        ∙ w.bytes ∙ ap (replace_all h t k) (let e : new - k ≡ 0 = omega arith in e))
+    replacing_ends l = sym (w.bytes ∙ ap (replace_all h t (i - 1)) (let e : new + 1 - i ≡ 0 = omega arith in e))
+
+  -- the last place
+  module _ (h : Bytes) (i : ℕ) (w : Replacing h₀ first new t h i) where
+    pub replacing_last : i ≤ new → new ≤ i → (u : Bytes) → u ≡ replace_bytes h (i - 1) t → u ≡ replace_all h₀ t (first - 1) (new + 1 - first)
+    replacing_last l g u e = replacing_ends u (i + 1) (replacing_next h i w (omega arith) u e) (omega arith)
 
 -- as many certificates as before
 replace_certificates : (h : Bytes) (k t : ℕ) → word_at (replace_bytes h k t) 6 1 ≡ word_at h 6 1

@@ -52,13 +52,13 @@ fn is_replaced(x: Term, term: Term) -> bool
 }
 
 // The first index from old + 1 to new whose place the term replaces, where there is one. Nothing is written.
-#[tactic(auto, using(crate::proofs::TermTurns::searching_found, crate::proofs::TermTurns::searching_next, crate::proofs::TermTurns::searching_none))]
+#[tactic(auto, using(crate::proofs::TermTurns::searching_starts, crate::proofs::TermTurns::searching_found, crate::proofs::TermTurns::searching_next, crate::proofs::TermTurns::searching_none))]
 fn first_replaced(terms: &Terms, old: LogIndex, new: LogIndex, term: Term) -> Option<LogIndex>
     requires { (old.0 ≤ new.0) × (new.0 ≤ 256) }
     ensures { result ≡ found_index (first_replaced (term_row terms.now) term.0 old.0 (new.0 - old.0)) }
 {
-    for k in old.0..new.0 {
-        let index = LogIndex(k + 1);
+    for i in old.0 + 1..=new.0 {
+        let index = LogIndex(i);
         if is_replaced(term_of(terms, index), term) {
             return Some(index);
         }
@@ -84,8 +84,8 @@ fn replace_terms(history: &mut History, first: LogIndex, new: LogIndex, term: Te
     requires { (1 ≤ first.0) × (new.0 ≤ 256) }
     ensures { history.new ≡ replace_all history.old term.0 (first.0 - 1) (new.0 + 1 - first.0) }
 {
-    for k in first.0 - 1..new.0 {
-        replace_term(history, LogIndex(k + 1), term);
+    for i in first.0..=new.0 {
+        replace_term(history, LogIndex(i), term);
     }
 }
 

@@ -4,5 +4,5 @@ use Rattle.commit_terms.proofs.TermTurns.{Searching}
 use Rattle.storage.specs.Tables.{term_row}
 use Rattle.commit_terms.proofs.terms.first_replaced.Given as goal
 
-abbrev pub invariant-loop-k : goal.invariant-loop-k
-invariant-loop-k l = Searching (term_row l.terms) l.term.0 l.initial.k l.k-end l.k
+abbrev pub invariant-loop-i : goal.invariant-loop-i
+invariant-loop-i l = Searching (term_row l.terms) l.term.0 l.fn.old.0 l.fn.new.0 l.i

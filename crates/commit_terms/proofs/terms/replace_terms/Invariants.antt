@@ -3,5 +3,5 @@
 use Rattle.commit_terms.proofs.TermTurns.{Replacing}
 use Rattle.commit_terms.proofs.terms.replace_terms.Given as goal
 
-abbrev pub invariant-loop-k : goal.invariant-loop-k
-invariant-loop-k l = Replacing l.initial.history l.initial.k l.k-end l.term.0 l.history l.k
+abbrev pub invariant-loop-i : goal.invariant-loop-i
+invariant-loop-i l = Replacing l.initial.history l.fn.first.0 l.fn.new.0 l.term.0 l.history l.i
