@@ -36,7 +36,7 @@ impl From<Fault> for u8 {
 
 // The number in the w bits from bit `at` on: the bytes that hold them make one word, and what stands before and after the bits is
 // cut off. With the bits before them in their first byte, 57 bits are the most that a word always holds. The width is no const parameter:
-// an entry's content and the filling have one that is computed.
+// that of the filling is computed.
 pub fn bits_at(s: &[u8], at: usize, w: usize) -> u64
     requires { (w ≤ 57) × (at + w ≤ 8 * length s.now) }
     ensures { result ≡ reading.field_at s.now at w }

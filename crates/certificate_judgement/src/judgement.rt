@@ -17,8 +17,8 @@ use storage_bytes::layout::CERTIFICATES;
 use table_rows::findings::{Found, LG_05};
 use units::{LogIndex, LogPrefixWitness};
 
-// The committed prefix that certificates are held against, and its last index. That they are the history's is asked: a ghost field would want
-// the history in it.
+// The committed prefix that certificates are held against, and its last index. That they are the history's is asked: it is made at one
+// place, and a struct with the history in it would say there what two functions ask.
 #[derive(Clone, Copy)]
 pub struct Committed {
     pub prefix: LogPrefixWitness,

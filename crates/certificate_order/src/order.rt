@@ -1,6 +1,6 @@
 // The certificates held stand by term, then arrival, and a new one is mostly of the newest term: so its place is looked for
-// from the end, and its number and whether that is taken only among those of its term, right before the place. Rows are bytes: there is
-// no slice of them for a library's search.
+// from the end, row by row, and its number and whether that is taken only among those of its term, right before the place. A
+// library's search of sorted rows would begin in the middle. How many there are is asked, as the table is lent without the head.
 ghost use Rattle.std.specs.Prelude.{◌≡◌, ◌≤◌};
 ghost use Rattle.storage.specs.Tables.{certificate_row};
 ghost use Rattle.certificate_order.specs.Order.{place_from, held_before, taken_before};

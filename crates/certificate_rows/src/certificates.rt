@@ -29,9 +29,9 @@ pub struct Certificate {
     pub log: LogPrefixWitness,
     pub mark: LogIndex,
     pub leader: NodeId,
-    // Its number within its term.
+    // Its number within its term: how many that term held before it, a count.
     pub number: usize,
-    // LOG_ABSENT or LOG_PRESENT.
+    // LOG_ABSENT or LOG_PRESENT, written by `put8` as a count is.
     pub present: usize,
 }
 

@@ -12,7 +12,7 @@ use storage_bytes::layout::{CERTIFICATES, History};
 use term_marks::marks::{checked_mark, store_mark};
 use units::LogIndex;
 
-// The mark of certificate k.
+// The mark of certificate k. The certificate is read for `with_mark`, the one function that sets a mark, and only its mark is written.
 #[tactic(auto, unfolding(crate::specs::Marks::mark_moved))]
 pub fn move_mark(history: &mut History, k: usize, end: LogIndex)
     requires { k < 64 }

@@ -29,7 +29,8 @@ impl From<OldExceedsNew> for Refusal {
     }
 }
 
-// The list is lengthened with zeros to `new`: the places first, then the count, once.
+// The list is lengthened with zeros to `new`: the places first, then the count, once. The places are lent on the spot, as the table is in
+// `storage::rows::set`.
 fn lengthen(history: &mut History, new: LogIndex)
     requires { new.0 ≤ 256 }
     ensures { history.new ≡ lengthened_to history.old new.0 }

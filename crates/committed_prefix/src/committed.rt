@@ -14,7 +14,8 @@ use storage_bytes::layout::{History, PREFIXES};
 use table_rows::nodes::{Node, node_of};
 use units::{LogIndex, LogPrefixWitness, NodeId};
 
-// The committed prefix, where one is kept.
+// The committed prefix, where one is kept. The head's nine bytes are enough: the whole history's type would ask for
+// all of it.
 #[tactic(auto, using(model::proofs::Tests::unless_zero), unfolding(prefix_lookup::specs::Prefix::stored_of))]
 pub fn committed_prefix(history: &[u8]) -> Option<LogPrefixWitness>
     requires { 9 ≤ length history.now }

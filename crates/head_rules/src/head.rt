@@ -1,4 +1,5 @@
-// The storage rules of the head: its counts are within the limits, the committed prefix exists, and its owner is a node.
+// The storage rules of the head: its counts are within the limits, the committed prefix exists, and its owner is a node. The head's nine
+// bytes or more are lent: the whole history's type would ask for all of it.
 ghost use Rattle.std.specs.Prelude.{◌≡◌, ◌≤◌, length};
 ghost use Rattle.storage_bytes.specs.Words.{word_at};
 ghost use Rattle.storage.specs.Rules.{within_limits, committed_right};

@@ -2,7 +2,9 @@
 ghost use Rattle.std.specs.Prelude.{◌≡◌, ℕ, Bool, Option, Some, None, cond, ◌<◌};
 ghost use Rattle.index_lists.specs.Picked.{pick_from, Holds};
 
-// What the n-th of the first m places that hold something holds, counted from 0. `held` says what a place holds.
+// What the n-th of the first m places that hold something holds, counted from 0. `held` says what a place holds. As
+// `filter_map(held).nth(n)` it was tried, and the proof did not close: the library's law asks for what `held` answers at every number, and
+// here that is known below m.
 pub fn nth_held<T: Copy, F: Fn(usize) -> Option<T>>(m: usize, n: usize, held: F) -> Option<T>
     requires { (k : ℕ) → k < m → F.pre held k }
     ensures { (over : ℕ → Bool) (item : ℕ → T) → Holds (F.post held) m over item → result ≡ pick_from over (λ k. Some (item k)) None 0 m n }

@@ -77,7 +77,8 @@ fn first_rule(r: Row) -> Option<Rule>
     }
 }
 
-// Whether the rule comes before the one that failed so far.
+// Whether the rule comes before the one that failed so far. A failure without one yet is after every rule: `Option`'s own order has it
+// before.
 fn comes_before(rule: Rule, failed: Option<Failure>) -> bool
     ensures { result ≡ ltb (number rule) (least failed) }
 {
@@ -87,7 +88,7 @@ fn comes_before(rule: Rule, failed: Option<Failure>) -> bool
     }
 }
 
-// The first failure, with one row more.
+// The first failure, with one row more: of the same rule the earlier row stays, whichever its node, so it is no minimum by fields.
 #[tactic(auto, unfolding(crate::specs::Rules::least_from))]
 fn with_row(failed: Option<Failure>, row: Row) -> Option<Failure>
     ensures { (rs : _) → least_from (least failed) (node_in failed) (row_of row ∷ rs) ≡ least_from (least result) (node_in result) rs }
@@ -102,7 +103,7 @@ fn with_row(failed: Option<Failure>, row: Row) -> Option<Failure>
 }
 
 // The first failing row of the first failing rule, over the rows of a readable record. No rule comes before the first, so
-// a row that fails it ends the walk.
+// a row that fails it ends the walk. It is the one walk over rows: an iterator of its own would serve nothing else.
 pub fn check_commit_safety(s: &[u8], count: usize) -> Option<Failure>
     requires { places.RowWalk s.now places.first_row count }
     ensures { result ≡ verdict_for (model.verdict (places.rows_at s.now places.first_row count)) }

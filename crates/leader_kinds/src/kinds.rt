@@ -1,4 +1,6 @@
-// Kinds 4, 5 and 6: the own answer of each as an answer of the history.
+// Kinds 4, 5 and 6: the own answer of each as an answer of the history. One function for all would take the step as a closure: no plainer
+// than the two lines that each has. Kinds 4 and 5 are lent bytes to write, and ask that these keep the storage rules: no struct could hold
+// them over a write. The limit of a node is asked, as it is none of its type.
 ghost use Rattle.std.specs.Prelude.{◌≡◌, true, ◌<◌, Ok};
 ghost use Rattle.model.specs.Rows.{verdict};
 ghost use Rattle.record_scan.specs.Places as places;

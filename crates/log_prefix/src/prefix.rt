@@ -9,7 +9,8 @@ use record_walk::walk::ShownEntry;
 use storage_bytes::layout::{History, PREFIXES};
 use units::LogPrefixWitness;
 
-// An extension, and how many prefixes are stored with it: the count goes along, so that the head is not read again at each entry.
+// An extension, and how many prefixes are stored with it: the search and the new number take the count as it goes along. `append`
+// alone reads it in the head, where it writes it.
 #[derive(Clone, Copy)]
 pub struct Extended {
     pub prefix: LogPrefixWitness,

@@ -69,7 +69,8 @@ impl<'a> Prefixes<'a> {
 }
 
 // The prefix through the index: nothing beyond its end, the empty prefix at zero. Each prefix goes through one index more than the
-// one it extends, so its end is read once. How many are stored only its proof uses: a struct would hold a number that no code reads.
+// one it extends, so its end is read once. That the rows up to some number keep the storage rules, and the prefix is among them, only its
+// proof uses: `Prefixes` would have each caller read how many there are.
 pub fn slice_through(
     prefixes: &PrefixTable,
     p: LogPrefixWitness,

@@ -19,8 +19,9 @@ use storage_bytes::layout::{
 use storage_bytes::words::{Field, put_bytes, put8};
 use units::{CONTENT_LIMIT, LogIndex, LogPrefixWitness, Term};
 
-// A prefix to be stored: the one that it extends, and its last entry, whose content is the first `size` of the 32 bytes. Memory is
-// fixed, and a row is copied whole, as the entry is that it is made of.
+// A prefix to be stored: the one that it extends, and its last entry, whose content is the first `size` of the 32 bytes: a length, as
+// slices have it. Memory is fixed, and a row is copied whole, as the entry is that it is made of. That entry is no part of it: a
+// `ShownEntry` says where the record goes on, which no row has.
 #[derive(Clone, Copy)]
 pub struct PrefixRow {
     pub parent: LogPrefixWitness,

@@ -16,7 +16,7 @@ pub const FIRST_ENTRY: usize = 20;
 // Where the rows begin, in bits.
 pub const FIRST_ROW: usize = 14;
 
-// An entry of a view, with the index it was shown under. Of the content's 32 bytes the first `length` count; the others
+// An entry of a view, with the index it was shown under and the bit after it; it extends no prefix yet, as a stored row does. Of the content's 32 bytes the first `length` count; the others
 // are zero: memory is fixed, and an entry is copied whole, which the kit's ArrayVec cannot be. That they are at most 32 is asked and no
 // fact of the type: the definitions make an entry of any bits.
 #[derive(Clone, Copy)]
@@ -180,7 +180,8 @@ pub fn row_at(s: &[u8], at: usize) -> Row
     }
 }
 
-// The index of the last of `count` entries from bit `from` on, past a gap too; `before` where there is none.
+// The index of the last of `count` entries from bit `from` on, past a gap too; `before` where there is none. It reads the indexes alone:
+// `Entries` would copy each content.
 #[tactic(auto, using(crate::proofs::Walks::here, crate::proofs::Walks::last_end))]
 pub fn last_index(s: &[u8], from: usize, count: usize, before: LogIndex) -> LogIndex
     requires { places.Walk s.now from count }

@@ -61,7 +61,7 @@ fn find(s: &[u8], b: u8) -> Option<usize>
 // All cases.
 fn run<W: Write>(writer: &mut W, s: &[u8]) -> io::Result<()> {
     let mut rest = s;
-    // a line begins where the one before it ends: no index is counted
+    // a line begins where the one before it ends: no index is counted; `split_inclusive` gives lines, and a name goes on to its space
     while let Some(space) = find(rest, b' ') {
         let (name, record) = (&rest[..space], &rest[space + 1..]);
         let Some(end) = find(record, b'\n') else {

@@ -1,7 +1,7 @@
 // The head: how many rows each table holds, and the committed prefix's number and owner. It is the history's first bytes, so
-// each function takes the head or the whole history: an array's type would ask for one of them. One generic function would take a
-// field's place and type at each call, where its name stands now. A count is any number until the storage rules are tested: who goes over
-// so many rows asks that the table has them.
+// each function takes the head or the whole history: an array's type would ask for more than these nine bytes. One generic function would
+// take a field's place and type at each call, where its name stands now. A table is lent without the head, so who goes over as many of
+// its rows as are held asks that it has so many.
 ghost use Rattle.std.specs.Prelude.{◌≡◌, ◌≤◌, length};
 ghost use Rattle.storage_bytes.specs.Words.{Word, word_bytes, put_bytes};
 ghost use Rattle.storage.specs.Writes.{committed_set};

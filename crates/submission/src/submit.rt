@@ -34,7 +34,8 @@ fn dispatch(history: &mut History, s: &[u8], head: Head) -> Result<Accepted, Ref
     }
 }
 
-// One record: a refused one leaves every byte.
+// One record: a refused one leaves every byte. The length is tested to have the bytes as an array, and again in `well_formed`, which is
+// lent bytes of any length.
 pub fn submit(history: &mut [u8], s: &[u8]) -> Result<Accepted, Refusal>
     ensures { Submitted history.old s.now result history.new }
 {

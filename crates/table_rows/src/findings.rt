@@ -24,7 +24,7 @@ pub const LG_04: usize = 4;
 pub const LG_05: usize = 5;
 
 // Findings are in the order of their fields. The name is a number and no enum: a row that breaks the storage rules holds any byte
-// there.
+// there. It is a `usize`, as callers in C read it.
 #[derive(Clone, Copy, PartialEq, Eq, PartialOrd, Ord)]
 pub struct Found {
     pub name: usize,

@@ -38,12 +38,13 @@ pub struct LogIndex(pub usize);
 pub struct Term(pub u32);
 
 // A prefix of a log, by the number under which it is stored, 1 to 512, or 0 for the empty one (the Rust's witness, a chain of shared
-// nodes). Row k holds number k + 1. It is compared with counts of rows, and made of a row's place, as a number: a conversion would
-// only hide the one that the bound is about.
+// nodes). Row k holds number k + 1. Where it is compared with a count of rows, or finds its row, its number is taken out: clauses
+// bound that number, and a conversion would have the same clause.
 #[derive(Clone, Copy, PartialEq, Eq, PartialOrd, Ord)]
 pub struct LogPrefixWitness(pub usize);
 
-// The number is above its unit's limit. For callers who have a number of their own: a record's are read within their limits.
+// The number is above its unit's limit. For users of the crate: no crate here makes a unit of a number that it has not read within its
+// limit.
 #[derive(Clone, Copy, PartialEq, Eq)]
 pub struct OutOfLimit;
 
@@ -97,7 +98,8 @@ impl From<u32> for Term {
 }
 
 impl Term {
-    // The term before every election; among commit terms, "not recorded".
+    // The term before every election. Among commit terms it says "not known", and no Option does: where an election is checked, a
+    // recorded zero is a term below every other.
     pub const ZERO: Term = Term(0);
 }
 

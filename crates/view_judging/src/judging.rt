@@ -89,7 +89,7 @@ fn judge_stored(prefixes: Prefixes<'_>, view: View<'_>, notes: &mut Notes) -> Pl
     ensures { ReachedAs prefixes.entry.rows.now prefixes.entry.count view.entry.bytes.now view.entry.entries view.entry.node.0 notes.old.rows notes.old.held notes.new.held result notes.new.rows }
 {
     let mut here = first_place(view.entries);
-    // it stops before an entry that an iterator would have taken: the second walk begins there
+    // the place is the answer: the second walk and the writing begin there, by its bit, its index and what is left, and a `Peekable` tells none
     while 0 < here.left {
         let e = entry_at(view.bytes, here.at);
         if e.index != here.index {
@@ -125,7 +125,7 @@ fn judge_missing(prefixes: Prefixes<'_>, view: View<'_>, rest: Place, notes: &mu
         if prefixes.first_of(e.index, e.term).is_some() {
             notes.note(lg03(view.node, e));
         }
-        missing += 1;
+        missing += 1; // the answer, and no index
     }
     missing
 }

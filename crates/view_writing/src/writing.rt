@@ -44,7 +44,7 @@ fn replace_view(history: &mut History, node: NodeId, front: LogPrefixWitness, la
 }
 
 // An accepted view is written: its prefixes from a place on, the node's row, the findings. Its bytes and its node stand apart: a `View`
-// would ask that its entries can be walked from the first, and only those from the place on are.
+// would ask for more, that its entries can be walked from the first.
 pub fn write_view(
     history: &mut History,
     count: usize,
