@@ -1,7 +1,7 @@
 -- Noting a finding once, in a copy of the history's table, which is then written back, or in the history itself. One more than the
 -- limit means that there are too many: from then on nothing is noted.
 -- Assumes nothing.
-use Rattle.std.specs.Prelude.{ℕ, zero, suc, ◌+◌, ◌*◌, ◌≡◌, Bool, false, cond, ◌&&◌, ◌||◌, List, [], ◌∷◌, leb, ltb, eqb, Result, Ok, Err, ⊤}
+use Rattle.std.specs.Prelude.{ℕ, ◌+◌, ◌*◌, ◌≡◌, Bool, cond, ◌&&◌, List, [], ◌∷◌, leb, ltb, eqb, Result, Ok, Err, ⊤}
 use Rattle.log_violation.specs.declared.violation.FindingsFull.{FindingsFull}
 use Rattle.model.specs.Sizes.{Bytes}
 use Rattle.model.specs.History.{Finding}
