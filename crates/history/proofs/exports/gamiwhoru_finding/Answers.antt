@@ -1,5 +1,5 @@
 -- `history::exports::gamiwhoru_finding` meets its contract.
--- Assumes nothing.
+-- Assumes nothing. With the law named on the function the search was tried, and it did not find the answer.
 use Rattle.std.proofs.Common.{rules}
 use Rattle.history.proofs.Printed.{finding_here}
 use Rattle.history.proofs.exports.gamiwhoru_finding.Goals as goal

@@ -1,5 +1,5 @@
 -- `history::exports::gamiwhoru_unknown` meets its contract.
--- Assumes nothing.
+-- Assumes nothing. The law is of the form of `gamiwhoru_finding`'s, which the search does not find.
 use Rattle.std.proofs.Common.{rules}
 use Rattle.history.proofs.Printed.{index_here}
 use Rattle.history.proofs.exports.gamiwhoru_unknown.Goals as goal

@@ -1,5 +1,5 @@
 -- `sheet_lines::lines::put_leader` meets its contract.
--- Assumes nothing.
+-- Assumes nothing. With the law named on the function the search was tried, and it did not find the answer.
 use Rattle.sheet_lines.specs.Lines.{leader_line}
 use Rattle.sheet_lines.proofs.Joins.{pair_then}
 use Rattle.sheet_lines.proofs.lines.put_leader.Goals as goal

@@ -1,5 +1,5 @@
 -- `sheet_lines::lines::put_unknown` meets its contract.
--- Assumes nothing.
+-- Assumes nothing. With the law named on the function the search was tried, and it did not find the answer.
 use Rattle.sheet_lines.specs.Lines.{unknown_line}
 use Rattle.sheet_lines.proofs.Joins.{last_then}
 use Rattle.sheet_lines.proofs.lines.put_unknown.Goals as goal

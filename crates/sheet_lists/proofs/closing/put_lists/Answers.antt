@@ -1,5 +1,5 @@
 -- `sheet_lists::closing::put_lists` meets its contract.
--- Assumes nothing.
+-- Assumes nothing. With the law named on the function the search was tried, and it did not find the answer.
 use Rattle.sheet_lists.proofs.ClosingLaws.{closed_right}
 use Rattle.sheet_lists.proofs.closing.put_lists.Goals as goal
 

@@ -1,5 +1,5 @@
 -- `view_writing::writing::write_view` meets its contract.
--- Assumes nothing.
+-- Assumes nothing. With the law named on the function the search was tried, and it did not find the answer.
 use Rattle.view_writing.proofs.Whole.{view_written_lem}
 use Rattle.view_writing.proofs.writing.write_view.Goals as goal
 
