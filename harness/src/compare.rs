@@ -3,6 +3,7 @@
 
 use crate::ledger::Ledger;
 use crate::record::{read, write, Record};
+use crate::state::State;
 use crate::subject::{Answer, Lists, Subject};
 
 /// Where and how the second subject parts from the first.
@@ -34,6 +35,15 @@ pub struct Counts {
     /// those of them where it was not empty.
     pub ledger_checks: u64,
     pub ledger_leaders: u64,
+    /// States compared, and those of them with a view that has a gap, with a
+    /// certificate without a log, and with a mark neither zero nor at the
+    /// committed end.
+    pub states: u64,
+    pub gaps: u64,
+    pub logless: u64,
+    pub marks_between: u64,
+    /// With a mark past it, which no history grown from fresh has.
+    pub marks_past: u64,
 }
 
 impl Counts {
@@ -52,6 +62,19 @@ impl Counts {
         }
     }
 
+    fn hold(&mut self, held: &State) {
+        let end = held.length(held.committed);
+        let certificates = &held.certificates;
+        let gap = held.views.iter().any(|v| v.last > held.length(v.front));
+        let logless = certificates.iter().any(|c| c.log.is_none());
+        let between = certificates.iter().any(|c| c.mark > 0 && c.mark < end);
+        self.states += 1;
+        self.gaps += u64::from(gap);
+        self.logless += u64::from(logless);
+        self.marks_between += u64::from(between);
+        self.marks_past += u64::from(certificates.iter().any(|c| c.mark > end));
+    }
+
     fn end(&mut self, lists: &Lists) {
         self.chains += 1;
         for name in 3..6 {
@@ -63,10 +86,10 @@ impl Counts {
     }
 }
 
-/// The answer and all lists after every record; where a record is refused,
-/// every byte that the second subject holds; at accepted checks, while all
-/// commit terms are known, the Rust's leader list with the plain ledger's; and
-/// at the end the lists in printed order.
+/// The answer, all lists and the state after every record; where a record is
+/// refused, every byte that the second subject holds; at accepted checks,
+/// while all commit terms are known, the Rust's leader list with the plain
+/// ledger's; and at the end the lists in printed order.
 pub fn compare(
     oracle: &mut dyn Subject,
     subject: &mut dyn Subject,
@@ -77,53 +100,66 @@ pub fn compare(
     subject.fresh();
     let mut before = Vec::new();
     let mut after = Vec::new();
-    let mut ledger = Ledger::default();
-    let mut expected = oracle.lists().sorted();
+    let mut ledger = oracle.grown_from_fresh().then(Ledger::default);
+    let mut expected = (oracle.lists().sorted(), oracle.state());
     for (number, record) in (1..).zip(chain) {
-        let part = |what| {
-            Some(Difference {
-                record: number,
-                what,
-            })
-        };
         subject.bytes(&mut before);
         let judged = oracle.submit(record);
         let answer = subject.submit(record);
         counts.note(record, judged);
-        if judged != answer {
-            return part(format!("the Rust answers {judged:?}, the other {answer:?}"));
-        }
-        let lists = subject.lists().sorted();
+        let mut what = answers(judged, answer);
         if judged.refusal == 0 {
-            expected = oracle.lists().sorted();
-            if let Ok(record) = read(record) {
-                let check = record == Record::Check;
-                ledger.take(record);
-                if check && ledger.known {
-                    counts.ledger_checks += 1;
-                    counts.ledger_leaders += u64::from(!expected.leaders.is_empty());
-                    let leaders = ledger.leaders();
-                    if leaders != expected.leaders {
-                        return part(format!("the ledger has {leaders:?}, the Rust {expected:?}"));
-                    }
-                }
-            }
+            expected = (oracle.lists().sorted(), oracle.state());
+            let ledger = ledger.as_mut();
+            what = what.or(ledger.and_then(|l| ledgers(l, record, &expected.0, counts)));
         } else {
             subject.bytes(&mut after);
-            if before != after {
-                return part(format!("refusal {} changed bytes", judged.refusal));
-            }
+            let refusal = judged.refusal;
+            what = what.or((before != after).then(|| format!("refusal {refusal} changed bytes")));
         }
-        if expected != lists {
-            return part(format!("the Rust has {expected:?}, the other {lists:?}"));
+        let held = (subject.lists().sorted(), subject.state());
+        let what = what.or_else(|| differing(&expected.0, &held.0));
+        if let Some(what) = what.or_else(|| expected.1.difference(&held.1)) {
+            return Some(Difference {
+                record: number,
+                what,
+            });
         }
+        counts.hold(&expected.1);
     }
-    counts.end(&expected);
-    let (expected, lists) = (oracle.lists(), subject.lists());
-    (expected != lists).then(|| Difference {
+    counts.end(&expected.0);
+    differing(&oracle.lists(), &subject.lists()).map(|what| Difference {
         record: chain.len(),
-        what: format!("the Rust prints {expected:?}, the other {lists:?}"),
+        what: format!("as printed: {what}"),
     })
+}
+
+fn answers(one: Answer, two: Answer) -> Option<String> {
+    (one != two).then(|| format!("the Rust answers {one:?}, the other {two:?}"))
+}
+
+fn differing(one: &Lists, two: &Lists) -> Option<String> {
+    (one != two).then(|| format!("the Rust has {one:?}, the other {two:?}"))
+}
+
+/// Tells the ledger of an accepted record, and holds the leader lists together at a check.
+fn ledgers(
+    ledger: &mut Ledger,
+    record: &[u8],
+    expected: &Lists,
+    counts: &mut Counts,
+) -> Option<String> {
+    let record = read(record).ok()?;
+    let check = record == Record::Check;
+    ledger.take(record);
+    if !check || !ledger.known {
+        return None;
+    }
+    counts.ledger_checks += 1;
+    counts.ledger_leaders += u64::from(!expected.leaders.is_empty());
+    let leaders = ledger.leaders();
+    (leaders != expected.leaders)
+        .then(|| format!("the ledger has {leaders:?}, the Rust {expected:?}"))
 }
 
 /// Drops records, then entries and rows, for as long as the two still part.

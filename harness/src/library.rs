@@ -19,6 +19,8 @@ pub fn subject() -> (&'static str, Box<dyn Subject>) {
 
 #[cfg(history)]
 pub mod linked {
+    use crate::decode::{decode, put_marks};
+    use crate::state::State;
     use crate::subject::{Answer, Finding, Lists, Subject};
 
     // include/gamiwhoru.h in Rust. Nothing checks either against the Rattle
@@ -172,6 +174,14 @@ pub mod linked {
                     (r.length as u32, r.owner as u32)
                 },
             }
+        }
+
+        fn state(&self) -> State {
+            decode(&self.history)
+        }
+
+        fn set_marks(&mut self, marks: &[u32]) {
+            put_marks(&mut self.history, marks);
         }
 
         fn bytes(&self, out: &mut Vec<u8>) {

@@ -8,7 +8,8 @@ use harness::compare::{compare, hex, smallest, Counts};
 use harness::figures::figures;
 use harness::library::subject;
 use harness::limits::limits;
-use harness::model::{Model, MISTAKES};
+use harness::marked::Marked;
+use harness::model::{Mistake, Model, MISTAKES};
 use harness::oracle::{hush_refusal_8, Oracle};
 use harness::subject::Subject;
 use harness::{random, sheet, small};
@@ -16,7 +17,8 @@ use harness::{random, sheet, small};
 const USAGE: &str = "harness sheet FILE              the sheet of a recording, by the Rust
 harness sheets DIR              the sheets of all DIR/*.records against DIR/*.sheet
 harness run [--seed S] [--chains N] [--from K] [--depth D]
-                                figures, limits, all chains of at most D small records, N random chains
+                                figures, limits, all chains of at most D small records, N random chains,
+                                a tenth of them from other marks as well
 harness mistakes [--seed S]     each mistake of the model on purpose, and the smallest chain that shows it
 harness write DIR [--seed S] [--chains N]
                                 recordings of the figures, the limits and N random chains, with their sheets by the Rust
@@ -98,7 +100,8 @@ fn write_recordings(directory: &str, options: &[&str]) -> Verdict {
     Ok(true)
 }
 
-/// Every recording of a folder, byte for byte, by the oracle and by the subject.
+/// Every recording of a folder, byte for byte, by the oracle and by the
+/// subject; and the two side by side, record by record.
 fn check_sheets(directory: &str) -> Verdict {
     let listing = fs::read_dir(directory).map_err(|error| format!("{directory}: {error}"))?;
     let mut names: Vec<String> = listing
@@ -108,6 +111,7 @@ fn check_sheets(directory: &str) -> Verdict {
     names.sort();
     let (other, mut subject) = subject();
     let mut wrong = 0;
+    let mut counts = Counts::default();
     for name in &names {
         let recording = bytes_of(&format!("{name}.records"))?;
         let expected = bytes_of(&format!("{name}.sheet"))?;
@@ -119,7 +123,15 @@ fn check_sheets(directory: &str) -> Verdict {
                 wrong += 1;
             }
         }
+        let records = sheet::records(&recording);
+        let (oracle, subject) = (&mut Oracle::default(), subject.as_mut());
+        let name = || name.clone();
+        wrong += u32::from(differs(oracle, subject, &name, &records, &mut counts, true));
     }
+    println!(
+        "states compared: {}, with a mark between zero and the end: {}",
+        counts.states, counts.marks_between
+    );
     println!(
         "sheets: {} recordings by the Rust and by {other}, {wrong} differences",
         names.len()
@@ -160,17 +172,31 @@ impl Runner {
     }
 
     fn chain(&mut self, name: &dyn Fn() -> String, chain: &[Vec<u8>]) {
-        let subject = self.subject.as_mut();
-        if compare(&mut self.oracle, subject, chain, &mut self.counts).is_none() {
-            return;
-        }
-        self.differences += 1;
-        if self.differences <= 5 {
-            let (chain, difference) = smallest(&mut self.oracle, subject, chain);
-            println!("DIFFERENCE at {}, record {}:", name(), difference.record);
-            println!("  {}", difference.what);
-            println!("  smallest recording: {}", hex(&sheet::recording(&chain)));
-        }
+        self.differences += u64::from(differs(
+            &mut self.oracle,
+            self.subject.as_mut(),
+            name,
+            chain,
+            &mut self.counts,
+            self.differences < 5,
+        ));
+    }
+
+    /// A random chain whose second half starts from other marks.
+    fn marked(&mut self, seed: u64, number: u64) {
+        let (start, marks, chain) = random::marked(seed, number);
+        let name = || {
+            let start = hex(&sheet::recording(&start));
+            format!("marked chain {number} of seed {seed}, after {start} and the marks {marks:?}")
+        };
+        self.differences += u64::from(differs(
+            &mut Marked::new(&mut self.oracle, &start, &marks),
+            &mut Marked::new(self.subject.as_mut(), &start, &marks),
+            &name,
+            &chain,
+            &mut self.counts,
+            self.differences < 5,
+        ));
     }
 
     fn figures(&mut self) {
@@ -203,6 +229,25 @@ impl Runner {
             }
         }
     }
+}
+
+/// Whether the two differ on a chain; tells of it with a smallest one.
+fn differs(
+    oracle: &mut dyn Subject,
+    subject: &mut dyn Subject,
+    name: &dyn Fn() -> String,
+    chain: &[Vec<u8>],
+    counts: &mut Counts,
+    tells: bool,
+) -> bool {
+    let differ = compare(oracle, subject, chain, counts).is_some();
+    if differ && tells {
+        let (chain, difference) = smallest(oracle, subject, chain);
+        println!("DIFFERENCE at {}, record {}:", name(), difference.record);
+        println!("  {}", difference.what);
+        println!("  smallest recording: {}", hex(&sheet::recording(&chain)));
+    }
+    differ
 }
 
 fn run(options: &[&str]) -> Verdict {
@@ -248,6 +293,13 @@ fn run(options: &[&str]) -> Verdict {
         "{chains} random chains of seed {seed} from number {from}: {:.1?}",
         start.elapsed()
     );
+    let start = Instant::now();
+    (from..from + chains / 10).for_each(|number| runner.marked(seed, number));
+    println!(
+        "{} of them again, from the middle and from other marks: {:.1?}",
+        chains / 10,
+        start.elapsed()
+    );
     print_counts(&runner.counts);
     println!("{} differences", runner.differences);
     Ok(runner.differences == 0)
@@ -275,6 +327,10 @@ fn print_counts(counts: &Counts) {
         counts.unseen, counts.unknown
     );
     println!(
+        "  states compared: {}, with a gap in a view: {}, a certificate without a log: {}, a mark between zero and the end: {}, past it: {}",
+        counts.states, counts.gaps, counts.logless, counts.marks_between, counts.marks_past
+    );
+    println!(
         "  leader lists held against the plain ledger: {}, not empty: {}",
         counts.ledger_checks, counts.ledger_leaders
     );
@@ -286,34 +342,48 @@ fn mistakes(options: &[&str]) -> Verdict {
     let most = option(options, "--chains", 100_000)?;
     let mut unnoticed = 0;
     for mistake in MISTAKES {
-        let mut oracle = Oracle::default();
-        let mut model = Model::with(mistake);
-        let noticed = (0..most).find_map(|number| {
-            let chain = random::chain(seed, number);
-            compare(&mut oracle, &mut model, &chain, &mut Counts::default())?;
-            Some((number, chain))
-        });
-        match noticed {
-            None => {
-                unnoticed += 1;
-                println!("{mistake:?}: NOT NOTICED");
-            }
-            Some((number, chain)) => {
-                let (chain, difference) = smallest(&mut oracle, &mut model, &chain);
-                let records: Vec<String> = chain.iter().map(|record| hex(record)).collect();
-                let shown = records.join(" ");
-                let shown = if shown.len() > 160 {
-                    format!("{}.. ({} bytes)", &shown[..150], shown.len() / 2)
-                } else {
-                    shown
-                };
-                println!(
-                    "{mistake:?}: chain {number}, record {}: {shown}",
-                    difference.record
-                );
-            }
-        }
+        // From a fresh history no mark passes the committed end, so all marks may move.
+        let shown = if mistake == Mistake::AllMarksMove {
+            notice(most, mistake, &|number| random::marked(seed, number))
+        } else {
+            let whole = |number| (Vec::new(), Vec::new(), random::chain(seed, number));
+            notice(most, mistake, &whole)
+        };
+        unnoticed += u64::from(shown.is_none());
+        println!("{mistake:?}: {}", shown.as_deref().unwrap_or("NOT NOTICED"));
     }
     println!("{} mistakes, {unnoticed} not noticed", MISTAKES.len());
     Ok(unnoticed == 0)
+}
+
+/// Records to start from, marks to set then, and the records to compare.
+type Chain = (Vec<Vec<u8>>, Vec<u32>, Vec<Vec<u8>>);
+
+/// The first chain that shows a mistake, its records made few and small.
+fn notice(most: u64, mistake: Mistake, chain: &dyn Fn(u64) -> Chain) -> Option<String> {
+    let (mut oracle, mut model) = (Oracle::default(), Model::with(mistake));
+    for number in 0..most {
+        let (start, marks, chain) = chain(number);
+        let oracle = &mut Marked::new(&mut oracle, &start, &marks);
+        let model = &mut Marked::new(&mut model, &start, &marks);
+        if compare(oracle, model, &chain, &mut Counts::default()).is_some() {
+            let (chain, difference) = smallest(oracle, model, &chain);
+            let from = match start.len() {
+                0 => String::new(),
+                length => format!(" from record {length} on, with other marks"),
+            };
+            let (record, shown) = (difference.record, shortened(&chain));
+            return Some(format!("chain {number}{from}, record {record}: {shown}"));
+        }
+    }
+    None
+}
+
+fn shortened(chain: &[Vec<u8>]) -> String {
+    let records: Vec<String> = chain.iter().map(|record| hex(record)).collect();
+    let shown = records.join(" ");
+    if shown.len() > 160 {
+        return format!("{}.. ({} bytes)", &shown[..150], shown.len() / 2);
+    }
+    shown
 }

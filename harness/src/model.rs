@@ -5,6 +5,9 @@
 //! made; what it is compared with is the Rust. It can also make one mistake on purpose: `harness
 //! mistakes` shows that the chains notice each of them.
 
+use std::sync::Arc;
+
+use crate::state::{self, remembered, Number, State, View, UNSTORED};
 use crate::subject::{Answer, Finding, Lists, Subject};
 
 /// One mistake each, `Mistake::None` being the document.
@@ -46,9 +49,16 @@ pub enum Mistake {
     RefusedCheckMovesMarks,
     RowsBeforeRules,
     LeaderTwice,
+    /// Those from here on are seen in the state alone; the next but one only
+    /// from marks past the committed end (`marked`).
+    MarkLoweredToZero,
+    AllMarksMove,
+    CertificatesKeptByArrival,
+    CheckByArrival,
+    LastIndexOfFront,
 }
 
-pub const MISTAKES: [Mistake; 33] = [
+pub const MISTAKES: [Mistake; 38] = [
     Mistake::MarkLeftUp,
     Mistake::LastEntryOnly,
     Mistake::MismatchReplaces,
@@ -82,12 +92,18 @@ pub const MISTAKES: [Mistake; 33] = [
     Mistake::RefusedCheckMovesMarks,
     Mistake::RowsBeforeRules,
     Mistake::LeaderTwice,
+    Mistake::MarkLoweredToZero,
+    Mistake::AllMarksMove,
+    Mistake::CertificatesKeptByArrival,
+    Mistake::CheckByArrival,
+    Mistake::LastIndexOfFront,
 ];
 
 #[derive(Clone, Debug, Eq, PartialEq)]
 struct Entry {
     term: u64,
-    content: Vec<u8>,
+    /// Shared, so that equality of entries that are copies is quick.
+    content: Arc<[u8]>,
 }
 
 type Prefix = Vec<Entry>;
@@ -104,8 +120,8 @@ pub struct Model {
     mistake: Mistake,
     /// Distinct nonempty prefixes of accepted fronts, in the order first seen.
     stored: Vec<Prefix>,
-    /// Node and front; one for each node that has a view.
-    fronts: Vec<(u64, Prefix)>,
+    /// Node, front and last index; one for each node that has a view.
+    views: Vec<(u64, Prefix, u64)>,
     unseen: Vec<(u64, u64)>,
     committed: Prefix,
     owner: u64,
@@ -194,16 +210,51 @@ impl Subject for Model {
         }
     }
 
+    fn state(&self) -> State {
+        let shown = self.views.iter().filter(|(_, _, last)| *last != 0);
+        let stored = self.prefixes();
+        let mut unseen: Vec<_> = self
+            .unseen
+            .iter()
+            .map(|(n, i)| (*n as u32, *i as u32))
+            .collect();
+        unseen.sort();
+        State {
+            remembered: remembered(&stored),
+            stored,
+            views: shown
+                .map(|(node, front, last)| View {
+                    node: *node as u32,
+                    front: self.number(front),
+                    last: *last as u32,
+                })
+                .collect(),
+            unseen,
+            committed: self.number(&self.committed),
+            owner: self.owner as u32,
+            terms: self.terms.iter().map(|term| *term as u32).collect(),
+            certificates: self.numbered(),
+            findings: self.findings.clone(),
+        }
+    }
+
+    fn set_marks(&mut self, marks: &[u32]) {
+        for (place, mark) in self.in_order().into_iter().zip(marks) {
+            self.certificates[place].mark = *mark as usize;
+        }
+    }
+
     /// Every part of the history, each behind its length. Stored prefixes are
     /// only ever added, so their number stands for them.
     fn bytes(&self, out: &mut Vec<u8>) {
         out.clear();
         let mut put = |number: u64| out.extend(number.to_be_bytes());
         put(self.stored.len() as u64);
-        put(self.fronts.len() as u64);
-        for (node, front) in &self.fronts {
+        put(self.views.len() as u64);
+        for (node, front, last) in &self.views {
             put(*node);
             put_prefix(&mut put, front);
+            put(*last);
         }
         for (node, index) in &self.unseen {
             put(*node);
@@ -243,9 +294,57 @@ fn put_prefix(put: &mut impl FnMut(u64), prefix: &[Entry]) {
 type Outcome = Result<(u32, u32), u32>;
 
 impl Model {
+    /// The places of certificates by term, then arrival: a stable sort.
+    fn in_order(&self) -> Vec<usize> {
+        let mut order: Vec<usize> = (0..self.certificates.len()).collect();
+        if !self.is(Mistake::CertificatesKeptByArrival) {
+            order.sort_by_key(|place| self.certificates[*place].term);
+        }
+        order
+    }
+
+    /// A prefix's place among the stored ones, from 1.
+    fn number(&self, prefix: &[Entry]) -> Number {
+        if prefix.is_empty() {
+            return 0;
+        }
+        // From the end: the one that a prefix extends mostly stands right before it.
+        let place = self.stored.iter().rposition(|stored| stored == prefix);
+        place.map_or(UNSTORED, |place| place + 1)
+    }
+
+    fn prefixes(&self) -> Vec<state::Prefix> {
+        let row = |prefix: &Prefix| {
+            let (last, parent) = prefix.split_last().expect("a prefix that is not empty");
+            state::Prefix {
+                parent: self.number(parent),
+                index: prefix.len() as u32,
+                term: last.term as u32,
+                content: Arc::clone(&last.content),
+            }
+        };
+        self.stored.iter().map(row).collect()
+    }
+
+    fn numbered(&self) -> Vec<state::Certificate> {
+        let mut all: Vec<state::Certificate> = Vec::new();
+        for place in self.in_order() {
+            let one = &self.certificates[place];
+            let term = one.term as u32;
+            all.push(state::Certificate {
+                term,
+                number: all.iter().filter(|before| before.term == term).count() as u32,
+                leader: one.leader as u32,
+                log: one.log.as_ref().map(|log| self.number(log)),
+                mark: one.mark as u32,
+            });
+        }
+        all
+    }
+
     fn front(&self, node: u64) -> &[Entry] {
-        let found = self.fronts.iter().find(|(n, _)| *n == node);
-        found.map_or(&[], |(_, front)| front.as_slice())
+        let found = self.views.iter().find(|(n, _, _)| *n == node);
+        found.map_or(&[], |(_, front, _)| front.as_slice())
     }
 
     fn same(&self, left: &[Entry], right: &[Entry]) -> bool {
@@ -275,12 +374,17 @@ impl Model {
 
     fn view(&mut self, node: u64, entries: Vec<(u64, Entry)>) -> Outcome {
         let mut front: Prefix = Vec::new();
+        let last = entries.last().map_or(0, |(index, _)| *index);
         for (index, entry) in entries {
             if index != front.len() as u64 + 1 && !self.is(Mistake::EntriesPastGapCount) {
                 break;
             }
             front.push(entry);
         }
+        let last = match self.mistake {
+            Mistake::LastIndexOfFront => front.len() as u64,
+            _ => last,
+        };
 
         let mut missing = Vec::new();
         let mut found = Vec::new();
@@ -308,7 +412,7 @@ impl Model {
             }
         }
         if self.is(Mistake::RefusedViewReplaces) {
-            self.replace_front(node, front.clone());
+            self.replace_view(node, front.clone(), last);
         }
         let more = match self.mistake {
             Mistake::SixCountsEntries => front.len(),
@@ -326,7 +430,7 @@ impl Model {
             self.unseen.retain(|(n, _)| *n != node);
         }
         if !(self.is(Mistake::ShorterViewKeptOut) && front.len() < self.front(node).len()) {
-            self.replace_front(node, front);
+            self.replace_view(node, front, last);
         }
         if self.is(Mistake::LaterViewBringsCommitIn) {
             if let Some((_, index)) = self.unseen.iter().find(|(n, _)| *n == node).copied() {
@@ -336,10 +440,10 @@ impl Model {
         Ok((0, 0))
     }
 
-    fn replace_front(&mut self, node: u64, front: Prefix) {
-        self.fronts.retain(|(n, _)| *n != node);
-        self.fronts.push((node, front));
-        self.fronts.sort_by_key(|(n, _)| *n);
+    fn replace_view(&mut self, node: u64, front: Prefix, last: u64) {
+        self.views.retain(|(n, _, _)| *n != node);
+        self.views.push((node, front, last));
+        self.views.sort_by_key(|(n, _, _)| *n);
     }
 
     fn commit(&mut self, node: u64, index: u64) -> Outcome {
@@ -417,7 +521,10 @@ impl Model {
             };
             for certificate in &mut self.certificates {
                 if certificate.term >= least && certificate.mark >= first {
-                    certificate.mark = first - 1;
+                    certificate.mark = match self.mistake {
+                        Mistake::MarkLoweredToZero => 0,
+                        _ => first - 1,
+                    };
                 }
             }
         }
@@ -468,9 +575,10 @@ impl Model {
 
     fn check(&mut self) -> Outcome {
         let end = self.committed.len();
-        let mut order: Vec<usize> = (0..self.certificates.len()).collect();
-        // A stable sort: by term, then arrival.
-        order.sort_by_key(|place| self.certificates[*place].term);
+        let order = match self.mistake {
+            Mistake::CheckByArrival => (0..self.certificates.len()).collect(),
+            _ => self.in_order(),
+        };
         let mut value = 0;
         let mut found = Vec::new();
         let mut moved = Vec::new();
@@ -508,6 +616,9 @@ impl Model {
                 .for_each(|place| self.certificates[*place].mark = end);
         }
         self.findings = self.with_findings(&found)?;
+        if self.is(Mistake::AllMarksMove) && !moved.is_empty() {
+            moved = (0..self.certificates.len()).collect();
+        }
         moved
             .iter()
             .for_each(|place| self.certificates[*place].mark = end);
@@ -594,6 +705,7 @@ fn parse(record: &[u8], mistake: Mistake) -> Result<Fields, u32> {
                 for _ in 0..length {
                     content.push(bits.take(8)? as u8);
                 }
+                let content = content.into();
                 entries.push((index, Entry { term, content }));
             }
             Fields::View(node, entries)

@@ -1,9 +1,10 @@
 //! The judge: the Rust's histories, and around them what document 01 adds.
 //!
 //! The Rust decides findings, flags, unseen, unknown, the committed prefix,
-//! refusal 8 (its panic) and 9 (its view gives no such log). The rest is this
-//! file's and `record`'s, from document 01: reading, the limits of 6, 7 and
-//! 10, the leader list and the printed order.
+//! refusal 8 (its panic) and 9 (its view gives no such log), and holds the
+//! state. The rest is this file's and `record`'s, from document 01: reading,
+//! the limits of 6, 7 and 10, the stored prefixes, the leader list and the
+//! order of findings, found and printed.
 
 use std::collections::{BTreeSet, HashMap};
 use std::panic::{self, catch_unwind, AssertUnwindSafe};
@@ -12,6 +13,8 @@ use std::sync::Arc;
 use rafter_sim::model_check::judge::{Call, Histories, RowFields, ViewEntry, Violation};
 
 use crate::record::{read, Configuration, Entry, Record, Row};
+use crate::rust_state::of_the_rust;
+use crate::state::{Number, Prefix, State, UNSTORED};
 use crate::subject::{Answer, Finding, Lists, Subject};
 
 /// Refusal 8 is the Rust's panic. It is caught, and need not be printed; any
@@ -36,7 +39,8 @@ const CERTIFICATE_LIMIT: usize = 64;
 pub struct Oracle {
     histories: Histories,
     prefixes: Prefixes,
-    findings: BTreeSet<Finding>,
+    /// In the order found.
+    findings: Vec<Finding>,
     certificates: usize,
 }
 
@@ -59,7 +63,7 @@ impl Subject for Oracle {
             .filter(|finding| finding.name == 5)
             .map(|finding| (finding.term, finding.node))
             .collect();
-        let mut findings: Vec<_> = self.findings.iter().copied().collect();
+        let mut findings = self.findings.clone();
         findings.sort_by_key(|f| (f.name, f.node, f.term, f.index));
         let unseen = self.histories.unseen();
         let unknown = self.histories.unknown();
@@ -76,6 +80,32 @@ impl Subject for Oracle {
         }
     }
 
+    fn state(&self) -> State {
+        let unseen = self.histories.unseen().into_iter();
+        let number = |parent, term: u64, content: &Arc<[u8]>| {
+            let child = self.prefixes.child(parent, term as u32, content);
+            child.unwrap_or(UNSTORED)
+        };
+        let kept = self
+            .histories
+            .kept(&|parent, entry| number(parent, entry.term.0, &entry.kind.content));
+        let front = |view: &[ViewEntry]| {
+            let front = (1..).zip(view).take_while(|(place, e)| e.index == *place);
+            front.fold(0, |parent, (_, e)| number(parent, e.term, &e.content))
+        };
+        State {
+            unseen: unseen.map(|(n, i)| (n as u32, i as u32)).collect(),
+            findings: self.findings.clone(),
+            stored: self.prefixes.stored.clone(),
+            ..of_the_rust(kept, front)
+        }
+    }
+
+    fn set_marks(&mut self, marks: &[u32]) {
+        self.histories
+            .set_marks(marks.iter().map(|mark| u64::from(*mark)));
+    }
+
     /// The oracle has no bytes; a refused record's clone is dropped.
     fn bytes(&self, out: &mut Vec<u8>) {
         out.clear();
@@ -89,7 +119,7 @@ impl Oracle {
         match record {
             Record::View { entries, .. } => {
                 let missing = self.prefixes.missing(front(&entries));
-                if self.prefixes.count + missing > PREFIX_LIMIT {
+                if self.prefixes.stored.len() + missing > PREFIX_LIMIT {
                     return Err(6);
                 }
                 next.run(&call);
@@ -130,14 +160,30 @@ impl Oracle {
     /// Keeps the clone that a record was run on: 7, and it is dropped, where
     /// the distinct findings would be too many.
     fn keep(&mut self, mut next: Histories) -> Result<(), u32> {
-        let found: Vec<Finding> = next.take_violations().into_iter().map(finding).collect();
-        let new = found.iter().filter(|f| !self.findings.contains(f)).count();
-        if self.findings.len() + new > FINDING_LIMIT {
+        let mut found: Vec<Finding> = next.take_violations().into_iter().map(finding).collect();
+        found.retain(|f| !self.findings.contains(f));
+        if self.findings.len() + found.len() > FINDING_LIMIT {
             return Err(7);
+        }
+        if found.len() > 1 {
+            self.put_in_order(&mut found);
         }
         self.findings.extend(found);
         self.histories = next;
         Ok(())
+    }
+
+    /// The order in which one record finds; the Rust puts its findings into a
+    /// set. A view's are of one node, by index; a check's come certificate by
+    /// certificate.
+    fn put_in_order(&self, found: &mut [Finding]) {
+        if found[0].name != 5 {
+            found.sort_by_key(|f| f.index);
+            return;
+        }
+        let each = self.histories.check_one_by_one().into_iter().map(finding);
+        let order: Vec<Finding> = each.collect();
+        found.sort_by_key(|f| order.iter().position(|other| other == f));
     }
 }
 
@@ -202,20 +248,21 @@ fn front(entries: &[Entry]) -> &[Entry] {
 /// keeps only the first of each index and term, so it cannot be asked.
 #[derive(Default)]
 struct Prefixes {
-    children: HashMap<(usize, u32, Arc<[u8]>), usize>,
-    count: usize,
+    children: HashMap<(Number, u32, Arc<[u8]>), Number>,
+    /// In the order first seen: the one of place k has number k + 1.
+    stored: Vec<Prefix>,
 }
 
 impl Prefixes {
-    fn child(&self, parent: usize, entry: &Entry) -> Option<usize> {
-        let key = (parent, entry.term, Arc::clone(&entry.content));
+    fn child(&self, parent: Number, term: u32, content: &Arc<[u8]>) -> Option<Number> {
+        let key = (parent, term, Arc::clone(content));
         self.children.get(&key).copied()
     }
 
     fn missing(&self, front: &[Entry]) -> usize {
         let mut at = 0;
         for (place, entry) in front.iter().enumerate() {
-            match self.child(at, entry) {
+            match self.child(at, entry.term, &entry.content) {
                 Some(child) => at = child,
                 None => return front.len() - place,
             }
@@ -226,13 +273,19 @@ impl Prefixes {
     fn store(&mut self, front: &[Entry]) {
         let mut at = 0;
         for entry in front {
-            at = match self.child(at, entry) {
+            at = match self.child(at, entry.term, &entry.content) {
                 Some(child) => child,
                 None => {
-                    self.count += 1;
+                    self.stored.push(Prefix {
+                        parent: at,
+                        index: entry.index,
+                        term: entry.term,
+                        content: Arc::clone(&entry.content),
+                    });
+                    let number = self.stored.len();
                     let key = (at, entry.term, Arc::clone(&entry.content));
-                    self.children.insert(key, self.count);
-                    self.count
+                    self.children.insert(key, number);
+                    number
                 }
             };
         }

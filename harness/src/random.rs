@@ -76,6 +76,18 @@ pub fn chain(seed: u64, number: u64) -> Vec<Vec<u8>> {
     chain
 }
 
+/// The first half of a chain, marks to set then, and the second half.
+pub fn marked(seed: u64, number: u64) -> (Vec<Vec<u8>>, Vec<u32>, Vec<Vec<u8>>) {
+    let mut start = chain(seed, number);
+    let rest = start.split_off(start.len() / 2);
+    let mut dice = Dice::new(!seed, number);
+    let marks = (0..64).map(|_| match dice.below(8) {
+        0 => dice.below(257),
+        _ => dice.below(8),
+    });
+    (start, marks.collect(), rest)
+}
+
 /// Few nodes, terms and contents, so that everything meets everything.
 fn tiny(dice: &mut Dice) -> World {
     World {

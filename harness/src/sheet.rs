@@ -32,6 +32,15 @@ fn pieces(recording: &[u8]) -> Vec<Piece<'_>> {
     pieces
 }
 
+/// The records of a recording: its pieces that are neither cut nor empty.
+pub fn records(recording: &[u8]) -> Vec<Vec<u8>> {
+    let whole = |piece: Piece| match piece {
+        Piece::Whole(record) if !record.is_empty() => Some(record.to_vec()),
+        Piece::Whole(_) | Piece::Cut => None,
+    };
+    pieces(recording).into_iter().filter_map(whole).collect()
+}
+
 /// Joins records to a recording.
 pub fn recording(chain: &[Vec<u8>]) -> Vec<u8> {
     let mut out = Vec::new();

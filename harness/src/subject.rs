@@ -1,4 +1,7 @@
-//! What is compared: something that takes records as bytes and has lists.
+//! What is compared: something that takes records as bytes, has lists and holds
+//! a state.
+
+use crate::state::State;
 
 /// What one record is answered. Refusal 0 means accepted.
 #[derive(Clone, Copy, Debug, Default, Eq, PartialEq)]
@@ -65,6 +68,14 @@ pub trait Subject {
     fn submit(&mut self, record: &[u8]) -> Answer;
     /// In printed order.
     fn lists(&self) -> Lists;
+    /// What its history holds.
+    fn state(&self) -> State;
+    /// Sets the marks of the first certificates, by term, then arrival.
+    fn set_marks(&mut self, marks: &[u32]);
+    /// What document 01's plain ledger says holds only then.
+    fn grown_from_fresh(&self) -> bool {
+        true
+    }
     /// Writes every byte of the history over `out`: a refused record must leave them all.
     fn bytes(&self, out: &mut Vec<u8>);
 }

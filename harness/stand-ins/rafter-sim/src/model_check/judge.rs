@@ -8,8 +8,8 @@
 use std::collections::BTreeMap;
 
 use rafter::{
-    BootstrapLogEntry, CommittedConfiguration, LogEntryKind, LogIndex, Node, NodeId, SharedPayload,
-    Term,
+    BootstrapLogEntry, CommittedConfiguration, LogEntry, LogEntryKind, LogIndex, Node, NodeId,
+    SharedPayload, Term,
 };
 
 use crate::Cluster;
@@ -43,6 +43,31 @@ pub struct Violation {
     pub node: u64,
     pub index: u64,
     pub term: u64,
+}
+
+/// What the three histories hold, in the Rust's own shapes; a map is a list
+/// in its order, and a prefix is its number. Violations, unseen and unknown
+/// are handed out apart.
+pub struct Kept {
+    /// `prefixes_by_index_term`: index, term, prefix.
+    pub remembered: Vec<(u64, u64, usize)>,
+    /// `last_views_by_node`: node, and all that its view showed.
+    pub views: Vec<(u64, Vec<ViewEntry>)>,
+    pub committed_prefix: Option<usize>,
+    pub committed_prefix_owner: Option<u64>,
+    pub committed_in_terms: Vec<u64>,
+    /// `elected_by_term`: a term, and its certificates.
+    pub elections: Vec<(u64, Vec<Elected>)>,
+    /// `leader_completeness_checked_through`: leader, term and number within
+    /// the term; checked through.
+    pub checked: Vec<((u64, u64, usize), u64)>,
+}
+
+/// What an election record makes of a certificate.
+pub struct Elected {
+    pub leader: u64,
+    pub term: u64,
+    pub log: Option<usize>,
 }
 
 /// The three histories that records write.
@@ -174,6 +199,44 @@ impl Histories {
         found
     }
 
+    /// The violations that a check would find, certificate by certificate in
+    /// the Rust's order of them: one is judged alone where the marks of all
+    /// others are out of reach. The histories stay.
+    pub fn check_one_by_one(&self) -> Vec<Violation> {
+        let keys = self.keys();
+        let mut found = Vec::new();
+        for one in &keys {
+            let mut alone = Self {
+                commits: self.commits.clone(),
+                ..Self::default()
+            };
+            let marks = &mut alone.commits.leader_completeness_checked_through;
+            let others = keys.iter().filter(|key| *key != one);
+            marks.extend(others.map(|key| (*key, LogIndex(u64::MAX))));
+            let _ = alone.commits.check_leaders(&self.elections);
+            found.append(&mut alone.take_violations());
+        }
+        found
+    }
+
+    /// Sets the marks of the first certificates.
+    pub fn set_marks(&mut self, marks: impl Iterator<Item = u64>) {
+        let marked = self.keys().into_iter().zip(marks.map(LogIndex));
+        self.commits
+            .leader_completeness_checked_through
+            .extend(marked);
+    }
+
+    /// The certificates, by term, then arrival, as marks name them.
+    fn keys(&self) -> Vec<(NodeId, Term, usize)> {
+        let mut keys = Vec::new();
+        for (term, certificates) in &self.elections.elected_by_term {
+            let numbered = certificates.iter().enumerate();
+            keys.extend(numbered.map(|(number, one)| (one.leader_id, *term, number)));
+        }
+        keys
+    }
+
     /// Commits that no view reached: node, index.
     pub fn unseen(&self) -> Vec<(u64, u64)> {
         let marks = &self.commits.unwitnessed_committed_prefixes;
@@ -187,6 +250,60 @@ impl Histories {
     pub fn unknown(&self) -> Vec<u64> {
         let indexes = &self.commits.unwitnessed_commit_terms;
         indexes.iter().map(|index| index.0).collect()
+    }
+
+    /// All that they hold. `child` gives a prefix's number from that of the
+    /// prefix one shorter, 0 for the empty one, and its last entry. Panics if
+    /// a part is written that no record of kinds 1 to 6 reaches, and that is
+    /// left out here.
+    pub fn kept(&self, child: &dyn Fn(usize, &LogEntry) -> usize) -> Kept {
+        let commits = &self.commits;
+        let reached = self.logs.is_of_views_alone() && commits.certificates.is_empty();
+        assert!(reached && commits.configuration_proposals.is_empty());
+        let mut numbers = self.logs.numbers(child);
+        let remembered = self.logs.prefixes_by_index_term.iter();
+        let remembered = remembered
+            .map(|((index, term), prefix)| (index.0, term.0, numbers.of(prefix)))
+            .collect();
+        let committed = commits.committed_prefix.as_ref();
+        let committed = committed.map(|prefix| numbers.of(prefix));
+        let mut elections = Vec::new();
+        for (term, certificates) in &self.elections.elected_by_term {
+            let elected = certificates.iter().map(|one| Elected {
+                leader: one.leader_id.0,
+                term: one.term.0,
+                log: one
+                    .logical_prefix_at_election
+                    .as_ref()
+                    .map(|prefix| numbers.of(prefix)),
+            });
+            elections.push((term.0, elected.collect()));
+        }
+        let checked = commits.leader_completeness_checked_through.iter();
+        let checked = checked
+            .map(|((leader, term, number), through)| ((leader.0, term.0, *number), through.0));
+        Kept {
+            remembered,
+            views: self.views(),
+            committed_prefix: committed,
+            committed_prefix_owner: commits.owner().map(|node| node.0),
+            committed_in_terms: commits.committed_in_terms.iter().map(|t| t.0).collect(),
+            elections,
+            checked: checked.collect(),
+        }
+    }
+
+    fn views(&self) -> Vec<(u64, Vec<ViewEntry>)> {
+        let mut views = Vec::new();
+        for (node, view) in self.logs.last_views() {
+            let entries = view.entries.iter().map(|(index, entry)| ViewEntry {
+                index: index.0,
+                term: entry.term.0,
+                content: entry.kind.content.clone(),
+            });
+            views.push((node.0, entries.collect()));
+        }
+        views
     }
 
     /// Length and owner of the committed prefix.
