@@ -49,10 +49,10 @@ pub enum Mistake {
     RefusedCheckMovesMarks,
     RowsBeforeRules,
     LeaderTwice,
-    /// Those from here on are seen in the state alone; the next but one only
-    /// from marks past the committed end (`marked`).
-    MarkLoweredToZero,
+    /// Seen only from marks past the committed end (`marked`).
     AllMarksMove,
+    /// These are seen in the state alone.
+    MarkLoweredToZero,
     CertificatesKeptByArrival,
     CheckByArrival,
     LastIndexOfFront,
@@ -92,8 +92,8 @@ pub const MISTAKES: [Mistake; 38] = [
     Mistake::RefusedCheckMovesMarks,
     Mistake::RowsBeforeRules,
     Mistake::LeaderTwice,
-    Mistake::MarkLoweredToZero,
     Mistake::AllMarksMove,
+    Mistake::MarkLoweredToZero,
     Mistake::CertificatesKeptByArrival,
     Mistake::CheckByArrival,
     Mistake::LastIndexOfFront,
