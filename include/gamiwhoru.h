@@ -1,8 +1,8 @@
 /* The functions of target/staticlib/libhistory.a (made by harness/library).
  *
- * The functions are proved; these declarations are checked by nobody. They
- * follow crates/history_c/src/lib.rt and crates/answers/src/numbers.rt, where
- * each function's whole promise stands. Nothing is asked of the bytes: any history and any
+ * The functions are proved, and tests/calls holds these declarations to
+ * them. They follow crates/history_c/src/lib.rt and
+ * crates/answers/src/numbers.rt, where each function's whole promise stands. Nothing is asked of the bytes: any history and any
  * record may be handed in. Each pointer must be that of `length` live bytes,
  * and a history must not overlap the record handed to it. */
 #ifndef GAMIWHORU_H

@@ -1,0 +1,299 @@
+/* Calls each function of include/gamiwhoru.h on the library that tests/calls links, and holds each field of each answer to a value
+ * written down from document 01. No contract can say in which order the fields of a struct lie, or the arguments of a function come:
+ * here the arguments of a call all differ, and so do the fields of an answer that has an element.
+ * The last line is a count; the exit status is 0 if nothing differs. */
+#include "gamiwhoru.h"
+
+#include <stdio.h>
+#include <string.h>
+
+/* Each field's place and size, and each struct's size, where a size_t has 8 bytes: a field lies at the next multiple of its own size. */
+#define FIELD(type, field, place, size)                                                                                               \
+    _Static_assert(offsetof(struct gamiwhoru_##type, field) == place, #type "." #field " lies elsewhere");                            \
+    _Static_assert(sizeof(((struct gamiwhoru_##type *)0)->field) == size, #type "." #field " has another size")
+#define SIZE(type, size) _Static_assert(sizeof(struct gamiwhoru_##type) == size, #type " has another size")
+
+FIELD(reply, refusal, 0, 1);
+FIELD(reply, value, 8, 8);
+FIELD(reply, node, 16, 1);
+SIZE(reply, 24);
+FIELD(finding_reply, state, 0, 1);
+FIELD(finding_reply, name, 8, 8);
+FIELD(finding_reply, node, 16, 1);
+FIELD(finding_reply, index, 24, 8);
+FIELD(finding_reply, term, 32, 4);
+SIZE(finding_reply, 40);
+FIELD(leader_reply, state, 0, 1);
+FIELD(leader_reply, term, 4, 4);
+FIELD(leader_reply, leader, 8, 1);
+SIZE(leader_reply, 12);
+FIELD(unseen_reply, state, 0, 1);
+FIELD(unseen_reply, node, 1, 1);
+FIELD(unseen_reply, index, 8, 8);
+SIZE(unseen_reply, 16);
+FIELD(unknown_reply, state, 0, 1);
+FIELD(unknown_reply, index, 8, 8);
+SIZE(unknown_reply, 16);
+FIELD(committed_reply, state, 0, 1);
+FIELD(committed_reply, length, 8, 8);
+FIELD(committed_reply, owner, 16, 8);
+SIZE(committed_reply, 24);
+
+_Static_assert(GAMIWHORU_HERE == 0 && GAMIWHORU_NO_MORE == 1 && GAMIWHORU_BROKEN == 12, "a state has another number");
+
+/* The bytes of a history (docs/LAYOUT.md), and some behind them that are no part of it. */
+enum { HISTORY = 24137, BEHIND = 16 };
+static uint8_t history[HISTORY + BEHIND];
+
+static unsigned compared, differ;
+
+static void same(const char *call, const char *field, uint64_t got, uint64_t wanted)
+{
+    compared++;
+    if (got != wanted) {
+        differ++;
+        printf("calls: %s: %s is %llu, not %llu\n", call, field, (unsigned long long)got, (unsigned long long)wanted);
+    }
+}
+
+/* How many of the bytes from `from` to `to` are another than `wanted`. */
+static size_t others(size_t from, size_t to, uint8_t wanted)
+{
+    size_t n = 0;
+    for (size_t i = from; i < to; i++)
+        n += history[i] != wanted;
+    return n;
+}
+
+/* A record, field by field, most significant bit first. The bytes that no field reaches are zeros. */
+struct record {
+    uint8_t bytes[2048];
+    size_t bits;
+};
+
+static void put(struct record *r, unsigned width, uint32_t value)
+{
+    while (width-- > 0) {
+        if (value >> width & 1)
+            r->bytes[r->bits / 8] |= 0x80 >> r->bits % 8;
+        r->bits++;
+    }
+}
+
+/* Hands the record in, and holds the reply to what it must be. */
+static void submit(const char *call, const struct record *r, unsigned refusal, size_t value, unsigned node)
+{
+    struct gamiwhoru_reply reply = gamiwhoru_submit(history, HISTORY, r->bytes, (r->bits + 7) / 8);
+    same(call, "refusal", reply.refusal, refusal);
+    same(call, "value", reply.value, value);
+    same(call, "node", reply.node, node);
+}
+
+/* Entries 1 to 256, that of index i of term 65536 + i and of one byte of content, which is another at the index `other`. */
+static void view(const char *call, uint32_t node, uint32_t other)
+{
+    struct record r = {{0}, 0};
+    put(&r, 4, 1);
+    put(&r, 6, node);
+    put(&r, 10, 256);
+    for (uint32_t i = 1; i <= 256; i++) {
+        put(&r, 10, i);
+        put(&r, 32, 65536 + i);
+        put(&r, 6, 1);
+        put(&r, 8, i == other ? 0xc5 : 0x3a);
+    }
+    submit(call, &r, 0, 0, 0);
+}
+
+static void commit(const char *call, uint32_t node, uint32_t index, size_t value)
+{
+    struct record r = {{0}, 0};
+    put(&r, 4, 2);
+    put(&r, 6, node);
+    put(&r, 10, index);
+    submit(call, &r, 0, value, 0);
+}
+
+static void terms(const char *call, uint32_t old, uint32_t new, uint32_t term, unsigned refusal)
+{
+    struct record r = {{0}, 0};
+    put(&r, 4, 3);
+    put(&r, 10, old);
+    put(&r, 10, new);
+    put(&r, 32, term);
+    submit(call, &r, refusal, 0, 0);
+}
+
+static void election(const char *call, uint32_t leader, uint32_t term, uint32_t present, uint32_t length, unsigned refusal)
+{
+    struct record r = {{0}, 0};
+    put(&r, 4, 4);
+    put(&r, 6, leader);
+    put(&r, 32, term);
+    put(&r, 1, present);
+    put(&r, 10, length);
+    submit(call, &r, refusal, 0, 0);
+}
+
+static void check(const char *call, size_t value)
+{
+    struct record r = {{0}, 0};
+    put(&r, 4, 5);
+    submit(call, &r, 0, value, 0);
+}
+
+/* A row: floor 1, commit 2, last index 3, both configurations present and of index 4. */
+static void put_row(struct record *r, uint32_t node, uint32_t floor_identity, uint32_t actual_identity)
+{
+    put(r, 6, node);
+    put(r, 10, 1);
+    put(r, 10, 2);
+    put(r, 10, 3);
+    put(r, 1, 1);
+    put(r, 10, 4);
+    put(r, 32, floor_identity);
+    put(r, 1, 1);
+    put(r, 10, 4);
+    put(r, 32, actual_identity);
+}
+
+/* The row of node 40 holds; that of node 41 has two identities, which is rule 3. */
+static void rows(const char *call)
+{
+    struct record r = {{0}, 0};
+    put(&r, 4, 6);
+    put(&r, 10, 2);
+    put_row(&r, 40, 5, 5);
+    put_row(&r, 41, 6, 7);
+    submit(call, &r, 0, 3, 41);
+}
+
+static void finding(const char *call, size_t length, size_t n, const struct gamiwhoru_finding_reply *wanted)
+{
+    struct gamiwhoru_finding_reply reply = gamiwhoru_finding(history, length, n);
+    same(call, "state", reply.state, wanted->state);
+    same(call, "name", reply.name, wanted->name);
+    same(call, "node", reply.node, wanted->node);
+    same(call, "index", reply.index, wanted->index);
+    same(call, "term", reply.term, wanted->term);
+}
+
+static void leader(const char *call, size_t length, size_t n, const struct gamiwhoru_leader_reply *wanted)
+{
+    struct gamiwhoru_leader_reply reply = gamiwhoru_leader(history, length, n);
+    same(call, "state", reply.state, wanted->state);
+    same(call, "term", reply.term, wanted->term);
+    same(call, "leader", reply.leader, wanted->leader);
+}
+
+static void unseen(const char *call, size_t length, size_t n, const struct gamiwhoru_unseen_reply *wanted)
+{
+    struct gamiwhoru_unseen_reply reply = gamiwhoru_unseen(history, length, n);
+    same(call, "state", reply.state, wanted->state);
+    same(call, "node", reply.node, wanted->node);
+    same(call, "index", reply.index, wanted->index);
+}
+
+static void unknown(const char *call, size_t length, size_t n, const struct gamiwhoru_unknown_reply *wanted)
+{
+    struct gamiwhoru_unknown_reply reply = gamiwhoru_unknown(history, length, n);
+    same(call, "state", reply.state, wanted->state);
+    same(call, "index", reply.index, wanted->index);
+}
+
+static void committed(const char *call, size_t length, const struct gamiwhoru_committed_reply *wanted)
+{
+    struct gamiwhoru_committed_reply reply = gamiwhoru_committed(history, length);
+    same(call, "state", reply.state, wanted->state);
+    same(call, "length", reply.length, wanted->length);
+    same(call, "owner", reply.owner, wanted->owner);
+}
+
+/* What a reader tells where it has no element: its state, and zeros. */
+#define NOTHING(type, said) (&(struct gamiwhoru_##type){.state = said})
+#define HERE(type, ...) (&(struct gamiwhoru_##type){.state = 0, __VA_ARGS__})
+
+/* A history of another length: 12 for each function, and no byte is written. */
+static void short_by_one(void)
+{
+    struct record r = {{0x50}, 4};
+    memset(history, 0xab, sizeof history);
+    same("fresh, a byte short", "answer", gamiwhoru_fresh(history, HISTORY - 1), 12);
+    struct gamiwhoru_reply reply = gamiwhoru_submit(history, HISTORY - 1, r.bytes, 1);
+    same("submit, a byte short", "refusal", reply.refusal, 12);
+    same("submit, a byte short", "value", reply.value, 0);
+    same("submit, a byte short", "node", reply.node, 0);
+    finding("finding, a byte short", HISTORY - 1, 1, NOTHING(finding_reply, 12));
+    leader("leader, a byte short", HISTORY - 1, 2, NOTHING(leader_reply, 12));
+    unseen("unseen, a byte short", HISTORY - 1, 3, NOTHING(unseen_reply, 12));
+    unknown("unknown, a byte short", HISTORY - 1, 4, NOTHING(unknown_reply, 12));
+    committed("committed, a byte short", HISTORY - 1, NOTHING(committed_reply, 12));
+    same("a byte short", "count of bytes written", others(0, sizeof history, 0xab), 0);
+}
+
+/* Fresh: zeros, as many as a history has and no more, and nothing in it. */
+static void fresh(void)
+{
+    same("length", "answer", gamiwhoru_length(), HISTORY);
+    same("fresh", "answer", gamiwhoru_fresh(history, HISTORY), 0);
+    same("fresh", "count of bytes that are not zero", others(0, HISTORY, 0), 0);
+    same("fresh", "count of bytes written behind it", others(HISTORY, sizeof history, 0xab), 0);
+    finding("finding of none", HISTORY, 0, NOTHING(finding_reply, 1));
+    leader("leader of none", HISTORY, 0, NOTHING(leader_reply, 1));
+    unseen("unseen of none", HISTORY, 0, NOTHING(unseen_reply, 1));
+    unknown("unknown of none", HISTORY, 0, NOTHING(unknown_reply, 1));
+    committed("committed of none", HISTORY, HERE(committed_reply, .length = 0, .owner = 0));
+}
+
+/* Node 12 has another entry 255, and so another prefix at 255 and 256: LG-03 at both, and LG-04 at 256. Nodes 19 and 20 show no view.
+ * Index 255 and 256 have no commit term. Both elections are without a log, and lack the last index of a lower commit term, 254. */
+static void records(void)
+{
+    view("view of 7", 7, 0);
+    view("view of 12", 12, 255);
+    commit("commit of 7", 7, 256, 0);
+    commit("commit of 12", 12, 256, 0);
+    view("view of 13", 13, 0);
+    commit("commit of 13", 13, 256, 3);
+    commit("commit of 20", 20, 256, 0);
+    commit("commit of 19", 19, 253, 0);
+    terms("terms", 0, 254, 77777, 0);
+    terms("terms from 9 to 8", 9, 8, 70000, 8);
+    election("election of 33", 33, 4000000001, 0, 0, 0);
+    election("election of 32", 32, 4000000002, 0, 0, 0);
+    election("election of 34, who has no view", 34, 4000000003, 1, 2, 9);
+    check("check", 4);
+    rows("rows");
+}
+
+/* The lists in their order, the element asked for and its neighbours. */
+static void lists(void)
+{
+    finding("finding 0", HISTORY, 0, HERE(finding_reply, .name = 3, .node = 12, .index = 255, .term = 65791));
+    finding("finding 1", HISTORY, 1, HERE(finding_reply, .name = 3, .node = 12, .index = 256, .term = 65792));
+    finding("finding 2", HISTORY, 2, HERE(finding_reply, .name = 4, .node = 12, .index = 256, .term = 0));
+    finding("finding 3", HISTORY, 3, HERE(finding_reply, .name = 5, .node = 32, .index = 254, .term = 4000000002));
+    finding("finding 4", HISTORY, 4, HERE(finding_reply, .name = 5, .node = 33, .index = 254, .term = 4000000001));
+    finding("finding 5", HISTORY, 5, NOTHING(finding_reply, 1));
+    leader("leader 0", HISTORY, 0, HERE(leader_reply, .term = 4000000001, .leader = 33));
+    leader("leader 1", HISTORY, 1, HERE(leader_reply, .term = 4000000002, .leader = 32));
+    leader("leader 2", HISTORY, 2, NOTHING(leader_reply, 1));
+    unseen("unseen 0", HISTORY, 0, HERE(unseen_reply, .node = 19, .index = 253));
+    unseen("unseen 1", HISTORY, 1, HERE(unseen_reply, .node = 20, .index = 256));
+    unseen("unseen 2", HISTORY, 2, NOTHING(unseen_reply, 1));
+    unknown("unknown 0", HISTORY, 0, HERE(unknown_reply, .index = 255));
+    unknown("unknown 1", HISTORY, 1, HERE(unknown_reply, .index = 256));
+    unknown("unknown 2", HISTORY, 2, NOTHING(unknown_reply, 1));
+    committed("committed", HISTORY, HERE(committed_reply, .length = 256, .owner = 7));
+    same("all calls", "count of bytes written behind the history", others(HISTORY, sizeof history, 0xab), 0);
+}
+
+int main(void)
+{
+    short_by_one();
+    fresh();
+    records();
+    lists();
+    printf("calls: %u fields compared, %u differ\n", compared, differ);
+    return differ == 0 ? 0 : 1;
+}
