@@ -2,11 +2,12 @@
 -- for the mistake near at hand that none of the twelve would show.
 -- A case has the records in bytes, and what document 01 says of the answers and of the history after them.
 -- Assumes nothing.
-use Prim.Native.Nat.{ℕ}
+use Prim.Native.Nat.{ℕ, suc}
 use mathlib.Core.Path.{◌≡◌, refl}
-use mathlib.Core.List.{List, [], ◌∷◌, map}
+use mathlib.Core.List.{List, [], ◌∷◌, ◌++◌, map}
 use lib.ListN.{length}
 use Rattle.model.specs.Sizes.{Bytes}
+use Rattle.model.specs.Entry.{Entry, Prefix}
 use Rattle.model.specs.Refusal.{number}
 use Rattle.model.specs.History.{numbers}
 use Rattle.model.specs.Answer.{Answer, accepted, refused}
@@ -18,7 +19,7 @@ use Rattle.model.specs.Run.{history_from, history_of, answers_from, answers_of}
 pub record Sheet : Type 0 where
   -- refusal or 0, value, node
   pub answers : List (List ℕ)
-  -- node and length of each front that is not empty
+  -- each front that is not empty: the node, then of each entry its term, the length of its content, and the content
   pub fronts : List (List ℕ)
   pub terms : List ℕ
   -- name, node, index, term
@@ -41,13 +42,23 @@ of_leader l = l.term ∷ l.leader ∷ []
 of_mark : Unseen → List ℕ
 of_mark u = u.node ∷ u.index ∷ []
 
+of_entries : List Entry → List ℕ
+of_entries [] = []
+of_entries (e ∷ es) = e.term ∷ length e.content ∷ (e.content ++ of_entries es)
+
+-- those of the nodes from n on
+of_fronts : ℕ → List Prefix → List (List ℕ)
+of_fronts n [] = []
+of_fronts n ([] ∷ ps) = of_fronts (suc n) ps
+of_fronts n ((e ∷ es) ∷ ps) = (n ∷ of_entries (e ∷ es)) ∷ of_fronts (suc n) ps
+
 unfoldable pub sheet_of : List Bytes → Sheet
-unfolding of_answer of_leader of_mark answers_from history_from marks_from finding_list leader_list unseen_list unknown_list
+unfolding of_answer of_leader of_mark of_entries of_fronts answers_from history_from marks_from finding_list leader_list unseen_list unknown_list
 sheet_of ss =
     let h = history_of ss in
     record {
       answers = map of_answer (answers_of ss);
-      fronts = map of_mark (marks_from 0 (map length h.fronts));
+      fronts = of_fronts 0 h.fronts;
       terms = h.terms;
       findings = map numbers (finding_list h);
       leaders = map of_leader (leader_list h);
@@ -78,7 +89,7 @@ P1 =
           };
     }
 
--- P2 the nine bytes of the printed sheet: node 1 has front 1
+-- P2 the nine bytes of the printed sheet: node 1 has front 1, its entry of term 1 with no content
 P2 : Case
 P2 =
     record {
@@ -86,7 +97,7 @@ P2 =
       expected =
           record {
             answers = (0 ∷ 0 ∷ 0 ∷ []) ∷ [];
-            fronts = (1 ∷ 1 ∷ []) ∷ [];
+            fronts = (1 ∷ 1 ∷ 0 ∷ []) ∷ [];
             terms = [];
             findings = [];
             leaders = [];
@@ -194,7 +205,7 @@ P8 =
       expected =
           record {
             answers = (0 ∷ 0 ∷ 0 ∷ []) ∷ (0 ∷ 0 ∷ 0 ∷ []) ∷ [];
-            fronts = (0 ∷ 1 ∷ []) ∷ [];
+            fronts = (0 ∷ 1 ∷ 0 ∷ []) ∷ [];
             terms = [];
             findings = [];
             leaders = [];
@@ -248,7 +259,7 @@ P11 =
       expected =
           record {
             answers = (0 ∷ 0 ∷ 0 ∷ []) ∷ (0 ∷ 0 ∷ 0 ∷ []) ∷ [];
-            fronts = (1 ∷ 2 ∷ []) ∷ (2 ∷ 2 ∷ []) ∷ [];
+            fronts = (1 ∷ 1 ∷ 1 ∷ 97 ∷ 2 ∷ 0 ∷ []) ∷ (2 ∷ 1 ∷ 1 ∷ 98 ∷ 2 ∷ 0 ∷ []) ∷ [];
             terms = [];
             findings = (3 ∷ 2 ∷ 1 ∷ 1 ∷ []) ∷ (3 ∷ 2 ∷ 2 ∷ 2 ∷ []) ∷ [];
             leaders = [];
@@ -266,7 +277,7 @@ P12 =
       expected =
           record {
             answers = (0 ∷ 0 ∷ 0 ∷ []) ∷ (0 ∷ 0 ∷ 0 ∷ []) ∷ (0 ∷ 0 ∷ 0 ∷ []) ∷ (0 ∷ 0 ∷ 0 ∷ []) ∷ (0 ∷ 0 ∷ 0 ∷ []) ∷ [];
-            fronts = (0 ∷ 1 ∷ []) ∷ [];
+            fronts = (0 ∷ 1 ∷ 0 ∷ []) ∷ [];
             terms = 5 ∷ [];
             findings = [];
             leaders = [];
@@ -284,7 +295,7 @@ P12_late =
       expected =
           record {
             answers = (0 ∷ 0 ∷ 0 ∷ []) ∷ (0 ∷ 0 ∷ 0 ∷ []) ∷ (0 ∷ 0 ∷ 0 ∷ []) ∷ (0 ∷ 0 ∷ 0 ∷ []) ∷ (0 ∷ 0 ∷ 0 ∷ []) ∷ (0 ∷ 0 ∷ 0 ∷ []) ∷ (0 ∷ 4 ∷ 0 ∷ []) ∷ [];
-            fronts = (0 ∷ 1 ∷ []) ∷ [];
+            fronts = (0 ∷ 1 ∷ 0 ∷ []) ∷ [];
             terms = 3 ∷ [];
             findings = (5 ∷ 1 ∷ 1 ∷ 4 ∷ []) ∷ [];
             leaders = (4 ∷ 1 ∷ []) ∷ [];
@@ -302,7 +313,7 @@ mismatch_not_kept =
       expected =
           record {
             answers = (0 ∷ 0 ∷ 0 ∷ []) ∷ (0 ∷ 0 ∷ 0 ∷ []) ∷ (0 ∷ 0 ∷ 0 ∷ []) ∷ (0 ∷ 0 ∷ 0 ∷ []) ∷ [];
-            fronts = (0 ∷ 1 ∷ []) ∷ (1 ∷ 2 ∷ []) ∷ [];
+            fronts = (0 ∷ 1 ∷ 0 ∷ []) ∷ (1 ∷ 2 ∷ 0 ∷ 2 ∷ 0 ∷ []) ∷ [];
             terms = [];
             findings = (4 ∷ 1 ∷ 1 ∷ 0 ∷ []) ∷ [];
             leaders = [];

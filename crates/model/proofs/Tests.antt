@@ -6,10 +6,11 @@ use mathlib.Core.Path.{◌≡◌, refl, sym, ◌∙◌, ap}
 use mathlib.Core.Bool.{Bool, true, false, cond, not, ◌&&◌, ◌||◌}
 use mathlib.Core.Logic.{◌⊎◌, inl, inr}
 use lib.Dec.{eqb}
+use borrow.Author.Tests.{eqb-true, eqb-false}
 use lib.ListN.{length, take}
 use lib.Seq.{take_all}
 use Rattle.std.specs.Bool.{then_some}
-use Rattle.std.specs.Prelude.{Some, None}
+use Rattle.std.specs.Prelude.{Option, Some, None, is_some, unwrap_or}
 use Rattle.model.specs.Entry.{Prefix, holds, same, prefixes, begins, agree}
 
 -- ---- tests
@@ -41,6 +42,22 @@ unless_zero n b x e = ap (λ (v : Bool). then_some v x) e ∙ told (eqb n 0)
     told : (z : Bool) → then_some (not z) x ≡ cond z None (Some x)
     told true = refl
     told false = refl
+
+-- and what such an answer tells of the number
+module _ {A : Type 0} (n : ℕ) (x : A) {r : Option A} (e : r ≡ cond (eqb n 0) None (Some x)) where
+  pub unless_none : r ≡ None → n ≡ 0
+  unless_none q = told (eqb n 0) refl (sym q ∙ e)
+    where
+      told : (z : Bool) → eqb n 0 ≡ z → None ≡ cond z None (Some x) → n ≡ 0
+      told true t w = eqb-true n 0 t
+      told false t w = absurd (tf (sym (ap is_some w)))
+
+  pub unless_some : (y : A) → r ≡ Some y → (y ≡ x) × (n ≡ 0 → ⊥)
+  unless_some y q = told (eqb n 0) refl (sym q ∙ e)
+    where
+      told : (z : Bool) → eqb n 0 ≡ z → Some y ≡ cond z None (Some x) → (y ≡ x) × (n ≡ 0 → ⊥)
+      told true t w = absurd (tf (ap is_some w))
+      told false t w = (ap (λ (o : Option A). unwrap_or o y) w, eqb-false n 0 t)
 
 pub and_left : (a b : Bool) → a && b ≡ true → a ≡ true
 and_left true b e = refl

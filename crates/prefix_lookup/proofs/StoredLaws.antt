@@ -3,14 +3,13 @@
 use Prim.Native.Nat.{ℕ, ◌+◌}
 use native.Mathlib.Omega.{arith}
 use mathlib.Core.Path.{◌≡◌, sym, ◌∙◌, ap}
-use mathlib.Core.Bool.{false, cond}
-use mathlib.Core.Logic.{⊎_elim}
+use mathlib.Core.Bool.{cond}
 use lib.Dec.{eqb}
-use borrow.Author.Tests.{eq-eqb, ne_eqb, eqb-true, eqb-false}
-use Rattle.model.proofs.Tests.{tf, either, cond_true, cond_false}
+use borrow.Author.Tests.{eq-eqb, ne_eqb}
+use Rattle.model.proofs.Tests.{cond_true, cond_false, unless_none, unless_some}
 use Rattle.units.specs.declared.LogPrefixWitness.{LogPrefixWitness}
 use Rattle.prefix_lookup.specs.Prefix.{witness, stored_of}
-use Rattle.std.specs.Prelude.{Option, Some, None, is_some, unwrap_or}
+use Rattle.std.specs.Prelude.{Option, Some, None}
 
 pub stored_some : (k r : ℕ) → r ≡ k + 1 → Some (witness (k + 1)) ≡ stored_of r
 unfolding stored_of
@@ -30,18 +29,11 @@ stored_read p r e z =
 
 -- ---- from the answer to the number
 
-of_some : (k : ℕ) → eqb k 0 ≡ false → stored_of k ≡ Some (witness k)
-unfolding stored_of
-of_some k f = cond_false (eqb k 0) None (Some (witness k)) f
-
 module _ (k : ℕ) (r : Option LogPrefixWitness) (e : r ≡ stored_of k) where
   pub stored_number : (w : LogPrefixWitness) → r ≡ Some w → (w.0 ≡ k) × (k ≡ 0 → ⊥)
-  stored_number w q =
-      ⊎_elim
-      (λ t. absurd (tf (ap is_some (sym q ∙ e ∙ sym (stored_none k (eqb-true k 0 t))))))
-      (λ f. (ap (λ (x : Option LogPrefixWitness). (unwrap_or x w).0) (sym q ∙ e ∙ of_some k f), eqb-false k 0 f))
-      (either (eqb k 0))
+  unfolding stored_of
+  stored_number w q = let p = unless_some k (witness k) e w q in (ap (λ (x : LogPrefixWitness). x.0) p.0, p.1)
 
   pub stored_nothing : r ≡ None → k ≡ 0
-  stored_nothing q =
-      ⊎_elim (λ t. eqb-true k 0 t) (λ f. absurd (tf (sym (ap is_some (sym q ∙ e ∙ of_some k f))))) (either (eqb k 0))
+  unfolding stored_of
+  stored_nothing q = unless_none k (witness k) e q

@@ -11,7 +11,7 @@
 -- Nor can a term in bytes be out of range, as every number of four bytes is one, so the code does not test it. `Bytes` here are
 -- lists of any numbers: for those the rule says it of a certificate's term (`is_term`), which a check copies into a finding.
 -- Assumes nothing.
-use Rattle.std.specs.Prelude.{ℕ, ◌+◌, Bool, true, false, cond, not, ◌&&◌, ◌||◌, List, [], ◌∷◌, ◌++◌, map, leb, ltb, eqb, length, get_or, drop}
+use Rattle.std.specs.Prelude.{ℕ, ◌+◌, Bool, true, cond, not, ◌&&◌, List, [], ◌∷◌, ◌++◌, map, leb, ltb, eqb, length, get_or, drop}
 use Rattle.model.specs.Sizes.{Bytes, index_limit, content_limit, prefix_limit, certificate_limit, finding_limit}
 use Rattle.model.specs.History.{Finding}
 use Rattle.storage_bytes.specs.Lists.{every, some}

@@ -6,8 +6,9 @@ ghost use Rattle.storage_bytes.specs.Lists.{tabulate, every};
 
 use storage_bytes::layout::{History, Region};
 
-// A row, with where its table lies, and how it is written there. A table is lent as a slice: Rattle refuses an array whose length is a
-// trait's constant, and a const parameter of the trait would stand beside the row's type in each bound. A row's place is asked to be below the table's count: loops over places would make a type of places at each step.
+// A row, with where its table lies, and how it is written there. A table is lent as a slice: Rattle refuses an array whose length
+// is a trait's constant, and a const parameter of the trait would stand beside the row's type in each bound. A row's place is
+// asked to be below the table's count: loops over places would make a type of places at each step.
 pub trait Row: Copy {
     ghost TABLE: { Place };
 

@@ -6,10 +6,10 @@ use native.Mathlib.Numerals.{add-one}
 use native.Mathlib.Omega.{arith}
 use mathlib.Core.Logic.{◌≢◌}
 use mathlib.Core.Path.{◌≡◌, refl, ap, sym, ◌∙◌}
-use mathlib.Core.Bool.{Bool, true, false, ◌&&◌, ◌||◌}
+use mathlib.Core.Bool.{Bool, true, false, ◌&&◌}
 use mathlib.Core.List.{List, [], ◌∷◌, ◌++◌, map}
 use lib.ListN.{length, get_or, set, take, drop, replicate}
-use Rattle.storage_bytes.specs.Lists.{tabulate, every, some}
+use Rattle.storage_bytes.specs.Lists.{tabulate, every}
 
 -- both halves of a test that passes
 pub both : (a b : Bool) → (a && b) ≡ true → (a ≡ true) × (b ≡ true)
@@ -117,23 +117,6 @@ module _ {A : Type 0} where
     pub every_none : b ≡ every test (tabulate f i (n - i)) → n ≤ i → b ≡ true
     unfolding every
     every_none inv h = inv ∙ ap (every test) (tabulate_none f i n h)
-
-  -- ---- a loop that looks for a row of f that passes, from i on, before n
-
-  module _ (test : A → Bool) (f : ℕ → A) {b : Bool} (i n : ℕ) where
-    step_some : b ≡ some test (tabulate f i (n - i)) → i < n → (v : Bool) → test (f i) ≡ v → b ≡ (v || some test (tabulate f (i + 1) (n - (i + 1))))
-    unfolding some
-    step_some inv h v t = inv ∙ ap (some test) (tabulate_cons f i n h) ∙ ap (λ (w : Bool). w || some test (tabulate f (i + 1) (n - (i + 1)))) t
-
-    pub some_next : b ≡ some test (tabulate f i (n - i)) → i < n → test (f i) ≡ false → b ≡ some test (tabulate f (i + 1) (n - (i + 1)))
-    some_next inv h t = step_some inv h false t
-
-    pub some_stop : b ≡ some test (tabulate f i (n - i)) → i < n → test (f i) ≡ true → b ≡ true
-    some_stop inv h t = step_some inv h true t
-
-    pub some_none : b ≡ some test (tabulate f i (n - i)) → n ≤ i → b ≡ false
-    unfolding some
-    some_none inv h = inv ∙ ap (some test) (tabulate_none f i n h)
 
   -- a weaker test passes too
   pub every_weaker : (test other : A → Bool) (xs : List A) → ((x : A) → test x ≡ true → other x ≡ true) → every test xs ≡ true → every other xs ≡ true

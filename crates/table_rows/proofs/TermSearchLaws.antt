@@ -5,11 +5,11 @@ use mathlib.Core.Path.{◌≡◌, sym, ◌∙◌, ap}
 use mathlib.Core.Logic.{⊎_elim}
 use lib.Dec.{eqb}
 use borrow.Author.Tests.{eq-eqb, ne_eqb, eqb-true, eqb-false}
-use Rattle.model.proofs.Tests.{tf, either, cond_true, cond_false}
+use Rattle.model.proofs.Tests.{either, cond_true, cond_false, unless_none, unless_some}
 use Rattle.units.specs.declared.LogIndex.{LogIndex}
 use Rattle.table_rows.specs.TermSearch.{found_index}
 use Rattle.table_rows.specs.Values.{mark_value}
-use Rattle.std.specs.Prelude.{Option, Some, None, is_some, unwrap_or}
+use Rattle.std.specs.Prelude.{Option, Some, None}
 
 of_some : (k : ℕ) → (k ≡ 0 → ⊥) → found_index k ≡ Some (record { 0 = k })
 unfolding found_index
@@ -31,11 +31,9 @@ index_back k =
 
 module _ (k : ℕ) (r : Option LogIndex) (e : r ≡ found_index k) where
   pub index_told : (i : LogIndex) → r ≡ Some i → (i.0 ≡ k) × (k ≡ 0 → ⊥)
-  index_told i q =
-      ⊎_elim (λ t. absurd (tf (ap is_some (sym q ∙ e ∙ of_none k (eqb-true k 0 t)))))
-      (λ f. let z = eqb-false k 0 f in (ap (λ (x : Option LogIndex). (unwrap_or x i).0) (sym q ∙ e ∙ of_some k z), z))
-      (either (eqb k 0))
+  unfolding found_index
+  index_told i q = let p = unless_some k (record { 0 = k }) e i q in (ap (λ (x : LogIndex). x.0) p.0, p.1)
 
   pub nothing_told : r ≡ None → k ≡ 0
-  nothing_told q =
-      ⊎_elim (λ t. eqb-true k 0 t) (λ f. absurd (tf (sym (ap is_some (sym q ∙ e ∙ of_some k (eqb-false k 0 f)))))) (either (eqb k 0))
+  unfolding found_index
+  nothing_told q = unless_none k (record { 0 = k }) e q
