@@ -17,3 +17,8 @@ refusal_of Fault.NotAbove = notAbove
 abbrev pub part_of : {A : Type 0} → Result A Fault → ℕ → Part A
 part_of (Ok v) k = got v k
 part_of (Err f) k = fault (refusal_of f)
+
+-- the number of a unit, with the bit after it, or the refusal
+abbrev pub unit_part : {A : Type 0} → (A → ℕ) → Result A Fault → ℕ → Part ℕ
+unit_part number (Ok v) k = got (number v) k
+unit_part number (Err f) k = fault (refusal_of f)

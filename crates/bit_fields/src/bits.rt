@@ -3,6 +3,9 @@ ghost use Rattle.std.specs.Prelude.{◌≡◌, ◌+◌, ◌*◌, ◌^◌, ◌<�
 ghost use Rattle.model.specs.Reading as reading;
 ghost use Rattle.model.specs.Refusal as refusal;
 ghost use Rattle.bit_fields.specs.Answers.{refusal_of, part_of};
+ghost use Rattle.bit_fields.specs.declared.bits.Fault.{Fault};
+
+use units::OutOfLimit;
 
 // Why a record is unreadable.
 #[derive(Clone, Copy, PartialEq, Eq)]
@@ -31,6 +34,15 @@ impl From<Fault> for u8 {
             Fault::OutOfLimit => 4,
             Fault::NotAbove => 5,
         }
+    }
+}
+
+// A number above its unit's limit is a field out of its limit.
+impl From<OutOfLimit> for Fault {
+    ghost from_gives = { λ _ f. f ≡ Fault.OutOfLimit };
+
+    fn from(_e: OutOfLimit) -> Fault {
+        Fault::OutOfLimit
     }
 }
 

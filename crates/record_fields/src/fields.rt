@@ -1,16 +1,27 @@
 // The fields of records, each with all its own faults in document 01's order: its bits are missing, its value is out of
 // its limit, it is not above the one before. Each takes the record and a bit: a reader that moves would ask that the bit
 // after the field is a usize, and a field asks nothing of its place.
-ghost use Rattle.std.specs.Prelude.{◌≡◌, ◌+◌, ◌<◌, ◌≤◌, IfOk};
+ghost use Rattle.std.specs.Prelude.{◌≡◌, ◌+◌, ◌<◌, ◌≤◌, IfOk, cond};
 ghost use Rattle.model.specs.Reading as reading;
 ghost use Rattle.bit_fields.specs.Answers.{part_of};
 ghost use Rattle.record_fields.specs.Limits.{at_most};
 
 use bit_fields::bits::{Fault, field};
+use units::{CONTENT_LIMIT, INDEX_LIMIT};
+
+// The greatest index; a count and a length have the same limit.
+pub const INDEX_MOST: u64 = INDEX_LIMIT as u64;
+
+// The most bytes of a content.
+pub const CONTENT_MOST: u64 = CONTENT_LIMIT as u64;
+
+// The greatest identity of a configuration: every number of 32 bits is one.
+pub const IDENTITY_MOST: u64 = 4294967295;
 
 // A field that was read, where it is at most `most`.
 pub fn within(n: Result<u64, Fault>, most: u64) -> Result<u64, Fault>
-    ensures { result ≡ at_most most n }
+    ensures is { result ≡ at_most most n }
+    ensures within { IfOk result (λ v. v ≤ most) }
 {
     let v = n?;
     if v <= most {
@@ -24,7 +35,8 @@ pub fn within(n: Result<u64, Fault>, most: u64) -> Result<u64, Fault>
 #[tactic(auto, unfolding(model::specs::Reading::limited))]
 pub fn limited(s: &[u8], at: usize, w: usize, most: u64) -> Result<u64, Fault>
     requires { w ≤ 57 }
-    ensures { reading.limited w most s.now at ≡ part_of result (at + w) }
+    ensures reads { reading.limited w most s.now at ≡ part_of result (at + w) }
+    ensures within { IfOk result (λ v. v ≤ most) }
 {
     within(field(s, at, w), most)
 }
@@ -41,7 +53,8 @@ pub fn yes_no(s: &[u8], at: usize) -> Result<bool, Fault>
 #[tactic(auto, unfolding(model::specs::Reading::governed))]
 pub fn governed(s: &[u8], at: usize, present: bool, w: usize, most: u64) -> Result<u64, Fault>
     requires { w ≤ 57 }
-    ensures { reading.governed present w most s.now at ≡ part_of result (at + w) }
+    ensures reads { reading.governed present w most s.now at ≡ part_of result (at + w) }
+    ensures within { IfOk result (λ v. v ≤ cond present most 0) }
 {
     if present {
         limited(s, at, w, most)
@@ -54,7 +67,7 @@ pub fn governed(s: &[u8], at: usize, present: bool, w: usize, most: u64) -> Resu
 pub fn index(s: &[u8], at: usize) -> Result<u64, Fault>
     ensures { reading.index s.now at ≡ part_of result (at + 10) }
 {
-    limited(s, at, 10, 256)
+    limited(s, at, 10, INDEX_MOST)
 }
 
 // An entry's index: not zero, and at least `least`, one more than the index before it.

@@ -100,6 +100,12 @@ module _ (s : Bytes) (k : ℕ) where
   governed_within true w m e = (limited_is w m e).within
   governed_within false w m e = omega (arith, (limited_is w 0 e).within)
 
+  -- zero where absent
+  pub governed_bare : (p : Bool) (w m : ℕ) {v j : ℕ} → governed p w m s k ≡ got v j → p ≡ false → v ≡ 0
+  unfolding governed
+  governed_bare true w m e z = absurd (let y : ◌≡◌ {A = ℕ} 0 1 = cc in omega arith)
+  governed_bare false w m e z = omega (arith, (limited_is w 0 e).within)
+
   -- a yes/no
   pub record Flagged (p : Bool) (j : ℕ) : Type 0 where
     pub whole : k + 1 ≤ 8 * length s
@@ -204,8 +210,13 @@ shown_is s least k e =
 
 -- ---- a row
 
+-- an absent configuration has zeros
+abbrev pub Bare : Configuration → Type 0
+Bare c = c.present ≡ false → (c.index ≡ 0) × (c.identity ≡ 0)
+
 pub record Configured (s : Bytes) (k : ℕ) (x : Configuration) (j : ℕ) : Type 0 where
   pub value : x ≡ configuration_at s k
+  pub bare : Bare (configuration_at s k)
   pub next : j ≡ k + 43
   pub whole : k + 43 ≤ 8 * length s
 
@@ -225,8 +236,10 @@ configuration_is s k e =
     let v₁ = p.value in
     let v₂ = i.value ∙ ap (λ (a : ℕ). field_at s a 10) p₁ in
     let v₃ = d.value ∙ ap (λ (a : ℕ). field_at s a 32) p₂ in
+    let v : record { present = a₁; index = a₂; identity = a₃ } ≡ configuration_at s k = λ i. record { present = v₁ i; index = v₂ i; identity = v₃ i } in
     record {
-      value = (got_same e₃).0 ∙ (λ i. record { present = v₁ i; index = v₂ i; identity = v₃ i });
+      value = (got_same e₃).0 ∙ v;
+      bare = subst Bare v (λ z. (governed_bare s k₁ a₁ 10 256 r₂ z, governed_bare s k₂ a₁ 32 (2 ^ 32 - 1) r₃ z));
       next = (got_same e₃).1 ∙ p₃;
       whole = subst (λ (j : ℕ). j ≤ 8 * length s) (sym d.next ∙ p₃) d.whole;
     })))
@@ -236,6 +249,8 @@ pub record Rowed (s : Bytes) (least k : ℕ) (x : Row) (j : ℕ) : Type 0 where
   pub value : x ≡ row_at s k
   pub next : j ≡ after_row s k
   pub above : least ≤ field_at s k 6
+  pub floor : Bare (configuration_at s (k + 36))
+  pub actual : Bare (configuration_at s (k + 79))
   pub whole : after_row s k ≤ 8 * length s
 
 pub row_is : (s : Bytes) (least k : ℕ) {x : Row} {j : ℕ} → row least s k ≡ got x j → Rowed s least k x j
@@ -271,5 +286,7 @@ row_is s least k e =
           ∙ (λ i. record { node = v₁ i; floor = v₂ i; commit = v₃ i; last = v₄ i; floor_configuration = v₅ i; actual_configuration = v₆ i });
       next = (got_same e₆).1 ∙ p₆;
       above = subst (λ (a : ℕ). least ≤ a) v₁ n.above;
+      floor = subst (λ (a : ℕ). Bare (configuration_at s a)) p₄ fc.bare;
+      actual = subst (λ (a : ℕ). Bare (configuration_at s a)) p₅ ac.bare;
       whole = subst (λ (j : ℕ). j ≤ 8 * length s) (sym ac.next ∙ p₆) ac.whole;
     }))))))

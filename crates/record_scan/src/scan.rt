@@ -7,7 +7,10 @@ ghost use Rattle.record_scan.specs.Scans.{keyed, ended, scan_part, end_part, don
 ghost use Rattle.record_scan.specs.Places.{index_of, node_of};
 
 use bit_fields::bits::{Fault, holds};
-use record_fields::fields::{entry_index, governed, index, limited, row_node, yes_no};
+use record_fields::fields::{
+    CONTENT_MOST, IDENTITY_MOST, INDEX_MOST, entry_index, governed, index, limited, row_node,
+    yes_no,
+};
 
 // An item that was passed over: its key and the bit after it.
 #[derive(Clone, Copy)]
@@ -53,7 +56,7 @@ impl Item for Entry {
             return Err(Fault::BitsMissing);
         }
         let b = a + 32;
-        let n = limited(s, b, 6, 32)?;
+        let n = limited(s, b, 6, CONTENT_MOST)?;
         let c = b + 6;
         let w = 8 * n as usize;
         if !holds(s, c, w) {
@@ -74,9 +77,9 @@ fn scan_configuration(s: &[u8], at: usize) -> Result<(), Fault>
 {
     let p = yes_no(s, at)?;
     let a = at + 1;
-    governed(s, a, p, 10, 256)?;
+    governed(s, a, p, 10, INDEX_MOST)?;
     let b = a + 10;
-    governed(s, b, p, 32, 4294967295)?;
+    governed(s, b, p, 32, IDENTITY_MOST)?;
     Ok(())
 }
 

@@ -13,7 +13,9 @@ use Rattle.model.specs.Record.{Shown, Row, Record, view, commit, terms, election
 use Rattle.model.specs.Reading.{Reading, readable, unreadable, Part, got, fault, Reader, onward, field_at, bytes_at, field, limited, yes_no, content, governed, entry_index, row_node, many, shown, configuration, row, view_fields, commit_fields, terms_fields, election_fields, rows_fields, fields_of, filled, finish, record_fields, read}
 use Rattle.bit_fields.specs.Answers.{refusal_of}
 use Rattle.records.specs.Heads.{fault_of, reading_of, head_of, Told}
-use Rattle.records.proofs.Readable.{view_read, rows_read, told}
+use Rattle.records.proofs.Readable.{view_read, rows_read, told, election_read}
+use Rattle.records.proofs.Heads.{kept_length}
+use Rattle.std.specs.Bool.{then_some}
 
 -- ---- a part is a value, or a fault of reading
 
@@ -181,7 +183,7 @@ module _ (s : Bytes) where
   back (readable (view n es)) e = ap (λ (l : List Shown). readable (view n l)) (view_read s n es e).entries
   back (readable (commit n i)) e = refl
   back (readable (terms o n t)) e = refl
-  back (readable (election l t p n)) e = refl
+  back (readable (election l t p n)) e = kept_length l t p n (election_read s l t p n e) (then_some p n) refl
   back (readable check) e = refl
   back (readable (rows rs)) e = ap (λ (l : List Row). readable (rows l)) (rows_read s rs e).values
   back (unreadable r) e = ap unreadable (sym (finish_plain (record_fields s 0) r record_plain e))

@@ -2,9 +2,9 @@
 -- rows, which are the ones in the bytes, in order, each readable.
 -- Assumes nothing.
 use Prim.Native.Nat.{ℕ, ◌≤◌}
-use Rattle.std.specs.Prelude.{Result, Ok, Err}
+use Rattle.std.specs.Prelude.{Result, Ok, Err, is_some, unwrap_or}
 use Rattle.bit_fields.specs.declared.bits.Fault.{Fault}
-use mathlib.Core.Path.{◌≡◌, refl, ap, sym, ◌∙◌}
+use mathlib.Core.Path.{◌≡◌, refl, ap, sym, subst, ◌∙◌}
 use mathlib.Core.Bool.{Bool, true, false, cond}
 use mathlib.Core.List.{List}
 use mathlib.Core.Logic.{◌⊎◌, inl, inr, ⊎_elim}
@@ -189,6 +189,21 @@ rows_read s rs e =
     rows_of : {xs ys : List Row} → ◌≡◌ {A = Record} (rows xs) (rows ys) → xs ≡ ys
     rows_of q = cc
 
+-- a readable election: an absent log has length zero
+pub election_read : (s : Bytes) (l t : ℕ) (p : Bool) (n : ℕ) → read s ≡ readable (election l t p n) → n ≤ cond p 256 0
+unfolding fields_of election_fields governed
+election_read s l t p n e =
+    let w = whole s (election l t p n) e in
+    let g₁ = went s (field 6 s 4) _ w.fields in
+    let g₂ = went s (field 32 s g₁.place) _ g₁.rest in
+    let g₃ = went s (yes_no s g₂.place) _ g₂.rest in
+    let g₄ = went s (governed g₃.value 10 256 s g₃.place) _ g₃.rest in
+    let r = same (got_same g₄.rest).0 in
+    subst (λ (q : Bool). n ≤ cond q 256 0) r.0 (omega (arith, r.1, (limited_is s g₃.place 10 (cond g₃.value 256 0) g₄.first).within))
+  where
+    same : {a b x y u v : ℕ} {p q : Bool} → ◌≡◌ {A = Record} (election a x p u) (election b y q v) → (q ≡ p) × (u ≡ v)
+    same q = (cc, cc)
+
 -- ---- the limits of each kind's fields, and what `read` tells
 
 limits : (s : Bytes) (r : Result Head Fault) → read s ≡ reading_of s r → Within r
@@ -219,7 +234,7 @@ limits s (Ok (Head.Terms x)) e =
     terms_same : {a b x y u v : ℕ} → ◌≡◌ {A = Record} (terms a x u) (terms b y v) → (a ≡ b) × (x ≡ y) × (u ≡ v)
     terms_same q = (cc, cc, cc)
 limits s (Ok (Head.Election x)) e =
-    let w = whole s (election x.leader.0 x.term.0 x.present x.length) e in
+    let w = whole s (election x.leader.0 x.term.0 (is_some x.length) (unwrap_or x.length 0)) e in
     let g₁ = went s (field 6 s 4) _ w.fields in
     let g₂ = went s (field 32 s g₁.place) _ g₁.rest in
     let g₃ = went s (yes_no s g₂.place) _ g₂.rest in

@@ -1,6 +1,7 @@
 -- What the reader answers of a whole record, in the model's words, and the model's reading as such an answer.
 -- Assumes nothing.
-use Rattle.std.specs.Prelude.{ℕ, ◌^◌, ◌≤◌, ◌<◌, ◌≡◌, cond, length, Result, Ok, Err}
+use Rattle.std.specs.Prelude.{ℕ, ◌^◌, ◌≤◌, ◌<◌, ◌≡◌, cond, length, is_some, unwrap_or, Result, Ok, Err}
+use Rattle.std.specs.Bool.{then_some}
 use Rattle.model.specs.Sizes.{Bytes}
 use Rattle.model.specs.Refusal.{Refusal, unknownKind, bitsMissing, filling, outOfLimit, notAbove, prefixesFull, findingsFull, old_exceeds_new, lengthExceedsFront, certificatesFull, numberTaken}
 use Rattle.model.specs.Record.{Record, view, commit, terms, election, check, rows}
@@ -15,7 +16,7 @@ abbrev pub reading_of : Bytes → Result Head Fault → Reading
 reading_of s (Ok (Head.View n c)) = readable (view n.0 (entries_at s first_entry c))
 reading_of s (Ok (Head.Commit n i)) = readable (commit n.0 i.0)
 reading_of s (Ok (Head.Terms x)) = readable (terms x.old.0 x.new.0 x.term.0)
-reading_of s (Ok (Head.Election x)) = readable (election x.leader.0 x.term.0 x.present x.length)
+reading_of s (Ok (Head.Election x)) = readable (election x.leader.0 x.term.0 (is_some x.length) (unwrap_or x.length 0))
 reading_of s (Ok Head.Check) = readable check
 reading_of s (Ok (Head.Rows c)) = readable (rows (rows_at s first_row c))
 reading_of s (Err f) = unreadable (refusal_of f)
@@ -47,7 +48,7 @@ abbrev pub head_of : Reading → Result Head Fault
 head_of (readable (view n es)) = Ok (Head.View (record { 0 = n }) (length es))
 head_of (readable (commit n i)) = Ok (Head.Commit (record { 0 = n }) (record { 0 = i }))
 head_of (readable (terms o n t)) = Ok (Head.Terms (record { old = record { 0 = o }; new = record { 0 = n }; term = record { 0 = t } }))
-head_of (readable (election l t p n)) = Ok (Head.Election (record { leader = record { 0 = l }; term = record { 0 = t }; present = p; length = n }))
+head_of (readable (election l t p n)) = Ok (Head.Election (record { leader = record { 0 = l }; term = record { 0 = t }; length = then_some p n }))
 head_of (readable check) = Ok Head.Check
 head_of (readable (rows rs)) = Ok (Head.Rows (length rs))
 head_of (unreadable r) = Err (fault_of r)
@@ -57,7 +58,7 @@ abbrev pub Within : Result Head Fault → Type 0
 Within (Ok (Head.View n c)) = (n.0 < 64) × (c ≤ 256)
 Within (Ok (Head.Commit n i)) = (n.0 < 64) × (i.0 ≤ 256)
 Within (Ok (Head.Terms x)) = (x.old.0 ≤ 256) × (x.new.0 ≤ 256) × (x.term.0 < 2 ^ 32)
-Within (Ok (Head.Election x)) = (x.leader.0 < 64) × (x.term.0 < 2 ^ 32) × (x.length ≤ 256)
+Within (Ok (Head.Election x)) = (x.leader.0 < 64) × (x.term.0 < 2 ^ 32) × (unwrap_or x.length 0 ≤ 256)
 Within (Ok Head.Check) = Unit {0}
 Within (Ok (Head.Rows c)) = c ≤ 256
 Within (Err f) = Unit {0}

@@ -1,14 +1,16 @@
 // A whole record, read: its kind with its plain fields, or the first fault from the left. Nothing is asked of the bytes.
 ghost use Rattle.std.specs.Prelude.{◌≡◌, ◌+◌, ◌^◌, ◌≤◌, ◌<◌, IfOk};
 ghost use Rattle.model.specs.Reading as reading;
-ghost use Rattle.bit_fields.specs.Answers.{part_of};
 ghost use Rattle.records.specs.Heads.{Reads, finished, Told};
 
 use bit_fields::bits::{Fault, field, filled};
-use record_fields::fields::{governed, index, within, yes_no};
+use record_fields::fields::INDEX_MOST;
 use record_reader::reader::RecordReader;
 use record_scan::scan::{Entry, Row, scan_items};
 use units::{LogIndex, NodeId, Term};
+
+// The bits of a kind; a record's fields come after them.
+const KIND: usize = 4;
 
 // The indexes after old, through new, were committed in a term.
 #[derive(Clone, Copy)]
@@ -18,14 +20,12 @@ pub struct CommitTerms {
     pub term: Term,
 }
 
-// A leader was elected in a term, with that many entries of its front, if its log is present. Flag and length stand apart, and in
-// no Option: the model's record and the stored certificate have both, and an Option would be made here to be taken apart there.
+// A leader was elected in a term, with that many entries of its front, or without its log.
 #[derive(Clone, Copy)]
 pub struct Election {
     pub leader: NodeId,
     pub term: Term,
-    pub present: bool,
-    pub length: usize,
+    pub length: Option<usize>,
 }
 
 // What a record says. A view's entries and the rows are walked where they are wanted (`record_walk`).
@@ -54,35 +54,16 @@ fn finish(s: &[u8], at: usize, head: Head) -> Result<Head, Fault>
     }
 }
 
-// The next index, count or length, by the reader that moves; `index` takes the bit, and asks nothing of it.
-#[tactic(auto, unfolding(model::specs::Reading::limited))]
-fn take_index(fields: &mut RecordReader) -> Result<u64, Fault>
-    requires { fields.old.next + 10 < 2 ^ 64 }
-    ensures reads { reading.index fields.old.bytes.now fields.old.next ≡ part_of result (fields.old.next + 10) }
-    ensures within { IfOk result (λ i. i ≤ 256) }
-    ensures bytes { fields.new.bytes ≡ fields.old.bytes }
-    ensures next { fields.new.next ≡ fields.old.next + 10 }
-{
-    within(fields.take(10), 256)
-}
-
 // 1 view: node, count, entries.
 #[tactic(auto, unfolding(model::specs::Reading::view_fields))]
 fn read_view(s: &[u8]) -> Result<Head, Fault>
     ensures { Reads reading.view_fields s.now result }
 {
-    let mut fields = RecordReader::new(s, 4);
-    let node = fields.take(6)?;
-    let count = take_index(&mut fields)? as usize;
-    let end = scan_items::<Entry>(s, 20, count)?;
-    finish(
-        s,
-        end,
-        Head::View {
-            node: NodeId(node as u8),
-            count,
-        },
-    )
+    let mut fields = RecordReader::new(s, KIND);
+    let node = fields.take_node()?;
+    let count = fields.take_limited(10, INDEX_MOST)? as usize;
+    let end = scan_items::<Entry>(s, fields.next, count)?;
+    finish(s, end, Head::View { node, count })
 }
 
 // 2 commit: node, commit index.
@@ -90,17 +71,10 @@ fn read_view(s: &[u8]) -> Result<Head, Fault>
 fn read_commit(s: &[u8]) -> Result<Head, Fault>
     ensures { Reads reading.commit_fields s.now result }
 {
-    let mut fields = RecordReader::new(s, 4);
-    let node = fields.take(6)?;
-    let index = take_index(&mut fields)?;
-    finish(
-        s,
-        20,
-        Head::Commit {
-            node: NodeId(node as u8),
-            index: LogIndex(index as usize),
-        },
-    )
+    let mut fields = RecordReader::new(s, KIND);
+    let node = fields.take_node()?;
+    let index = fields.take_index()?;
+    finish(s, fields.next, Head::Commit { node, index })
 }
 
 // 3 commit terms: old, new, term.
@@ -108,19 +82,12 @@ fn read_commit(s: &[u8]) -> Result<Head, Fault>
 fn read_terms(s: &[u8]) -> Result<Head, Fault>
     ensures { Reads reading.terms_fields s.now result }
 {
-    let mut fields = RecordReader::new(s, 4);
-    let old = take_index(&mut fields)?;
-    let new = take_index(&mut fields)?;
-    let term = fields.take(32)?;
-    finish(
-        s,
-        56,
-        Head::Terms(CommitTerms {
-            old: LogIndex(old as usize),
-            new: LogIndex(new as usize),
-            term: Term(term as u32),
-        }),
-    )
+    let mut fields = RecordReader::new(s, KIND);
+    let old = fields.take_index()?;
+    let new = fields.take_index()?;
+    let term = fields.take_term()?;
+    let terms = CommitTerms { old, new, term };
+    finish(s, fields.next, Head::Terms(terms))
 }
 
 // 4 election: leader, term, log present, length.
@@ -128,21 +95,17 @@ fn read_terms(s: &[u8]) -> Result<Head, Fault>
 fn read_election(s: &[u8]) -> Result<Head, Fault>
     ensures { Reads reading.election_fields s.now result }
 {
-    let mut fields = RecordReader::new(s, 4);
-    let leader = fields.take(6)?;
-    let elected_in = fields.take(32)?;
-    let present = yes_no(s, 42)?;
-    let length = governed(s, 43, present, 10, 256)?;
-    finish(
-        s,
-        53,
-        Head::Election(Election {
-            leader: NodeId(leader as u8),
-            term: Term(elected_in as u32),
-            present,
-            length: length as usize,
-        }),
-    )
+    let mut fields = RecordReader::new(s, KIND);
+    let leader = fields.take_node()?;
+    let elected_in = fields.take_term()?;
+    let present = fields.take_yes_no()?;
+    let length = fields.take_governed(present, 10, INDEX_MOST)? as usize;
+    let election = Election {
+        leader,
+        term: elected_in,
+        length: present.then_some(length),
+    };
+    finish(s, fields.next, Head::Election(election))
 }
 
 // 6 rows: count, rows.
@@ -150,22 +113,23 @@ fn read_election(s: &[u8]) -> Result<Head, Fault>
 fn read_rows(s: &[u8]) -> Result<Head, Fault>
     ensures { Reads reading.rows_fields s.now result }
 {
-    let count = index(s, 4)? as usize;
-    let end = scan_items::<Row>(s, 14, count)?;
+    let mut fields = RecordReader::new(s, KIND);
+    let count = fields.take_limited(10, INDEX_MOST)? as usize;
+    let end = scan_items::<Row>(s, fields.next, count)?;
     finish(s, end, Head::Rows { count })
 }
 
-// Any bytes: every record starts with a kind of 4 bits. Only here is a kind a number, document 01's.
+// Any bytes: every record starts with a kind of 4 bits. A kind is a number here, and where its line is printed.
 #[tactic(auto, using(crate::proofs::Readable::told, crate::proofs::Heads::finish_head), unfolding(model::specs::Reading::read, model::specs::Reading::record_fields, model::specs::Reading::fields_of))]
 pub fn read(s: &[u8]) -> Result<Head, Fault>
     ensures { Told s.now result }
 {
-    match field(s, 0, 4)? {
+    match field(s, 0, KIND)? {
         1 => read_view(s),
         2 => read_commit(s),
         3 => read_terms(s),
         4 => read_election(s),
-        5 => finish(s, 4, Head::Check),
+        5 => finish(s, KIND, Head::Check),
         6 => read_rows(s),
         _ => Err(Fault::UnknownKind),
     }

@@ -43,8 +43,7 @@ pub struct Term(pub u32);
 #[derive(Clone, Copy, PartialEq, Eq, PartialOrd, Ord)]
 pub struct LogPrefixWitness(pub usize);
 
-// The number is above its unit's limit. For users of the crate: no crate here makes a unit of a number that it has not read within its
-// limit.
+// The number is above its unit's limit.
 #[derive(Clone, Copy, PartialEq, Eq)]
 pub struct OutOfLimit;
 
