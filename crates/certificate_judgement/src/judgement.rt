@@ -6,7 +6,7 @@ ghost use Rattle.storage.specs.Values.{committed_end};
 ghost use Rattle.certificate_rows.specs.Values.{certificate_value};
 ghost use Rattle.certificate_judgement.specs.Judgement.{lacks_through, JudgedAs, JudgedAll};
 
-use certificate_rows::certificates::{Certificate, LOG_ABSENT};
+use certificate_rows::certificates::Certificate;
 use check_relevance::relevance::relevant_index;
 use committed_prefix::committed::agree_through;
 use log_violation::violation::Notes;
@@ -36,10 +36,9 @@ fn lacks_through(
     requires { (committed.0 ≡ word_at history.bytes.now 4 2) × (c.log.0 ≤ word_at history.bytes.now 0 2) }
     ensures { result ≡ lacks_through history.entry.bytes.now (certificate_value c) index.0 }
 {
-    if c.present == LOG_ABSENT {
+    let Some(log) = c.log() else {
         return true;
-    }
-    let log = c.log;
+    };
     !agree_through(history, log, committed, index)
 }
 

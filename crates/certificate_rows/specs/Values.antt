@@ -1,5 +1,7 @@
 -- The row that a certificate of the code stands for.
 -- Assumes nothing.
+use Rattle.std.specs.Prelude.{cond, eqb, Option, Some, None}
+use Rattle.units.specs.declared.LogPrefixWitness.{LogPrefixWitness}
 use Rattle.certificate_rows.specs.declared.certificates.Certificate.{Certificate}
 use Rattle.storage.specs.Tables.{CertificateRow}
 
@@ -13,3 +15,7 @@ certificate_value x =
       number = x.number;
       present = x.present;
     }
+
+-- the log of a row, where it is present
+abbrev pub log_of : CertificateRow → Option LogPrefixWitness
+log_of c = cond (eqb c.present 0) None (Some (record { 0 = c.log }))

@@ -3,7 +3,7 @@ ghost use Rattle.std.specs.Prelude.{◌≡◌, ◌+◌, ◌*◌, ◌≤◌, ◌<
 ghost use Rattle.std.proofs.Common.{lit≤};
 ghost use Rattle.storage.specs.Tables.{CertificateRow, certificate_row};
 ghost use Rattle.storage.proofs.RowLaws.{certificate_length};
-ghost use Rattle.certificate_rows.specs.Values.{certificate_value};
+ghost use Rattle.certificate_rows.specs.Values.{certificate_value, log_of};
 ghost use Rattle.storage_bytes.specs.declared.layout.TheConstants.{CERTIFICATES};
 ghost use Rattle.storage_bytes.specs.Words.{word_at, word_bytes, put_bytes};
 ghost use Rattle.storage.specs.Writes.{certificate_bytes, certificate_inserted, certificate_added};
@@ -33,6 +33,15 @@ pub struct Certificate {
     pub number: usize,
     // LOG_ABSENT or LOG_PRESENT, written by `put8` as a count is.
     pub present: usize,
+}
+
+impl Certificate {
+    // The log that the certificate keeps.
+    pub fn log(self) -> Option<LogPrefixWitness>
+        ensures { result ≡ log_of (certificate_value self) }
+    {
+        (self.present != LOG_ABSENT).then_some(self.log)
+    }
 }
 
 impl Row for Certificate {

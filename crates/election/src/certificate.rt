@@ -1,6 +1,6 @@
 // An election is judged with nothing written, then its certificate is kept (the type is that of state/election.rs): the first
 // `length` entries of the leader's front, or no log.
-ghost use Rattle.std.specs.Prelude.{◌≡◌, ◌<◌, true};
+ghost use Rattle.std.specs.Prelude.{◌≡◌, ◌<◌, true, is_some, unwrap_or};
 ghost use Rattle.storage.specs.Rules.{well_formed};
 ghost use Rattle.certificate_rows.specs.Values.{certificate_value};
 ghost use Rattle.election.specs.Certify.{refusal_of, kept, Recorded};
@@ -49,7 +49,7 @@ impl From<ElectionRefusal> for Refusal {
 
 // A new certificate: nothing of its log is checked yet.
 fn new_certificate(e: Election, number: usize, log: LogPrefixWitness) -> Certificate
-    ensures { certificate_value result ≡ kept e.leader.0 e.term.0 number e.present log.0 }
+    ensures { certificate_value result ≡ kept e.leader.0 e.term.0 number (is_some e.length) log.0 }
 {
     Certificate {
         term: e.term,
@@ -57,7 +57,11 @@ fn new_certificate(e: Election, number: usize, log: LogPrefixWitness) -> Certifi
         mark: LogIndex::ZERO,
         leader: e.leader,
         number,
-        present: if e.present { LOG_PRESENT } else { LOG_ABSENT },
+        present: if e.length.is_some() {
+            LOG_PRESENT
+        } else {
+            LOG_ABSENT
+        },
     }
 }
 
@@ -66,9 +70,10 @@ fn new_certificate(e: Election, number: usize, log: LogPrefixWitness) -> Certifi
 #[tactic(auto, using(crate::proofs::Turns::place_fits))]
 pub fn record_election(history: &mut History, e: Election) -> Result<(), ElectionRefusal>
     requires { (well_formed history.old ≡ true) × (e.leader.0 < 64) }
-    ensures { Recorded history.old e.leader.0 e.term.0 e.present e.length result history.new }
+    ensures { Recorded history.old e.leader.0 e.term.0 (is_some e.length) (unwrap_or e.length 0) result history.new }
 {
-    let Some(log) = front_through(Stored { bytes: &*history }, e.leader, LogIndex(e.length)) else {
+    let end = LogIndex(e.length.unwrap_or(0)); // an absent log is no longer than any front
+    let Some(log) = front_through(Stored { bytes: &*history }, e.leader, end) else {
         return Err(ElectionRefusal::LengthExceedsFront);
     };
     if CERTIFICATE_LIMIT <= certificate_count(history) {

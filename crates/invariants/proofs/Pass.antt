@@ -1,27 +1,57 @@
 -- The pass over the rows: from the least rule that failed so far it gives the first of the rules before that one, as the
 -- model tries them; and the laws of the loop.
 -- Assumes nothing.
-use Prim.Native.Nat.{ℕ, ◌-◌, ◌≤◌, ◌<◌}
+use Prim.Native.Nat.{ℕ, ◌+◌, ◌-◌, ◌≤◌, ◌<◌}
 use mathlib.Core.Path.{◌≡◌, refl, sym, ◌∙◌}
 use mathlib.Core.Bool.{Bool, true, false, cond}
 use mathlib.Core.List.{List, [], ◌∷◌}
 use mathlib.Core.Logic.{⊎_elim}
 use mathlib.Core.Option.{Option, none, some}
 use native.Mathlib.Omega.{arith}
-use lib.Dec.{ltb}
+use lib.Dec.{ltb, eqb}
 use borrow.Author.Tests.{ltb-true, ltb-false, lt-ltb, le-ltb}
 use Rattle.model.specs.Sizes.{Bytes}
 use Rattle.model.specs.Record as model
 use Rattle.model.specs.Rows as rows
 use Rattle.model.specs.Rows.{failing, verdict, or, rule1, rule2, rule3, rule4}
 use Rattle.model.proofs.Tests.{either}
-use Rattle.record_scan.specs.Places.{row_at, after_row, rows_at}
-use Rattle.record_walk.proofs.Walks.{rows_next, rows_none}
+use Rattle.std.specs.Bool.{then_some}
+use Rattle.model.specs.Reading.{field_at}
+use Rattle.record_scan.specs.Places.{configuration_at, row_at, after_row, rows_at, RowWalk}
+use Rattle.record_scan.proofs.Given.{Bare}
+use Rattle.record_walk.specs.Values.{configuration_value, row_value}
+use Rattle.record_walk.proofs.Walks.{rows_next, rows_none, walk_rowed}
 use Rattle.invariants.specs.declared.commit_safety.Rule.{Rule}
 use Rattle.invariants.specs.declared.commit_safety.Failure.{Failure}
 use Rattle.std.specs.Prelude.{Some, None}
 use Rattle.std.specs.Prelude as std
-use Rattle.invariants.specs.Rules.{no_rule, number, least, node_in, first_rule, verdict_at, least_from, verdict_for, verdict_of}
+use Rattle.invariants.specs.Rules.{configuration_of, row_of, no_rule, number, least, node_in, first_rule, verdict_at, least_from, verdict_for, verdict_of}
+
+-- ---- a row, as it was read
+
+-- an absent configuration has zeros, so an Option keeps all of it
+configuration_shown : (s : Bytes) (k : ℕ) → Bare (configuration_at s k) → configuration_of (configuration_value s k) ≡ configuration_at s k
+configuration_shown s k bare = go (eqb (field_at s k 1) 1) bare
+  where
+    go : (b : Bool) → Bare (record { present = b; index = field_at s (k + 1) 10; identity = field_at s (k + 11) 32 })
+        → configuration_of (then_some b (record { index = record { 0 = field_at s (k + 1) 10 }; identity = field_at s (k + 11) 32 }))
+        ≡ record { present = b; index = field_at s (k + 1) 10; identity = field_at s (k + 11) 32 }
+    go true bare = refl
+    go false bare = let z = bare refl in λ i. record { present = false; index = sym z.0 i; identity = sym z.1 i }
+
+pub row_shown : (s : Bytes) (k n : ℕ) → RowWalk s k n → 0 < n → row_of (row_value s k) ≡ row_at s k
+row_shown s k n w h =
+    let r = walk_rowed s k n w h in
+    let floor = configuration_shown s (k + 36) r.floor in
+    let actual = configuration_shown s (k + 79) r.actual in
+    λ i. record {
+      node = field_at s k 6;
+      floor = field_at s (k + 6) 10;
+      commit = field_at s (k + 16) 10;
+      last = field_at s (k + 26) 10;
+      floor_configuration = floor i;
+      actual_configuration = actual i;
+    }
 
 -- ---- the rules before rule k, as the model tries them
 

@@ -1,6 +1,6 @@
 -- The first rule that a row fails, the walk over the rows, and what the code answers, in the model's words.
 -- Assumes nothing.
-use Rattle.std.specs.Prelude.{ℕ, cond, List, [], ◌∷◌, ltb, eqb, Option, Some, None}
+use Rattle.std.specs.Prelude.{ℕ, true, false, cond, List, [], ◌∷◌, ltb, eqb, Option, Some, None}
 use Rattle.model.specs.Record as model
 use Rattle.model.specs.Rows as rows
 use Rattle.record_walk.specs.declared.walk.Row.{Row}
@@ -8,8 +8,10 @@ use Rattle.record_walk.specs.declared.walk.Configuration.{Configuration}
 use Rattle.invariants.specs.declared.commit_safety.Rule.{Rule}
 use Rattle.invariants.specs.declared.commit_safety.Failure.{Failure}
 
-abbrev pub configuration_of : Configuration → model.Configuration
-configuration_of c = record { present = c.present; index = c.index.0; identity = c.identity }
+-- the model's configuration: zeros where it is absent
+abbrev pub configuration_of : Option Configuration → model.Configuration
+configuration_of None = record { present = false; index = 0; identity = 0 }
+configuration_of (Some c) = record { present = true; index = c.index.0; identity = c.identity }
 
 -- the model's row
 abbrev pub row_of : Row → model.Row
@@ -24,7 +26,7 @@ row_of r =
     }
 
 -- a row with these configurations: rules 2 and 3 look at nothing else of it
-abbrev pub configured : Configuration → Configuration → model.Row
+abbrev pub configured : Option Configuration → Option Configuration → model.Row
 configured f a =
     record {
       node = 0;

@@ -43,18 +43,26 @@ pub struct Failure {
 }
 
 // Rule 2 fails: there was a committed configuration, and there is none now or one of a lower index.
-fn configuration_regressed(floor: Configuration, actual: Configuration) -> bool
+fn configuration_regressed(floor: Option<Configuration>, actual: Option<Configuration>) -> bool
     ensures { result ≡ model.rule2 (configured floor actual) }
 {
-    floor.present && (!actual.present || actual.index < floor.index)
+    let Some(floor) = floor else {
+        return false;
+    };
+    let Some(actual) = actual else {
+        return true;
+    };
+    actual.index < floor.index
 }
 
 // Rule 3 fails: the committed configuration has another identity at the same index.
-fn configuration_changed(floor: Configuration, actual: Configuration) -> bool
+fn configuration_changed(floor: Option<Configuration>, actual: Option<Configuration>) -> bool
     ensures { result ≡ model.rule3 (configured floor actual) }
 {
-    let both = floor.present && actual.present;
-    both && floor.index == actual.index && floor.identity != actual.identity
+    let (Some(floor), Some(actual)) = (floor, actual) else {
+        return false;
+    };
+    floor.index == actual.index && floor.identity != actual.identity
 }
 
 // The first rule that the row fails.

@@ -1,7 +1,7 @@
 // Kinds 4, 5 and 6: the own answer of each as an answer of the history. One function for all would take the step as a closure: no plainer
 // than the two lines that each has. Kinds 4 and 5 are lent bytes to write, and ask that these keep the storage rules: no struct could hold
 // them over a write. The limit of a node is asked, as it is none of its type.
-ghost use Rattle.std.specs.Prelude.{◌≡◌, true, ◌<◌, Ok};
+ghost use Rattle.std.specs.Prelude.{◌≡◌, true, ◌<◌, Ok, is_some, unwrap_or};
 ghost use Rattle.model.specs.Rows.{verdict};
 ghost use Rattle.record_scan.specs.Places as places;
 ghost use Rattle.storage.specs.Rules.{well_formed};
@@ -32,7 +32,7 @@ fn of_rows(failed: Option<Failure>) -> Accepted
 // Kind 4.
 pub fn take_election(history: &mut History, e: Election) -> Result<Accepted, Refusal>
     requires { (well_formed history.old ≡ true) × (e.leader.0 < 64) }
-    ensures { (result ≡ of_election (answer_in history.old e.leader.0 e.term.0 e.length)) × (history.new ≡ bytes_in history.old e.leader.0 e.term.0 e.present e.length) }
+    ensures { (result ≡ of_election (answer_in history.old e.leader.0 e.term.0 (unwrap_or e.length 0))) × (history.new ≡ bytes_in history.old e.leader.0 e.term.0 (is_some e.length) (unwrap_or e.length 0)) }
 {
     record_election(history, e)?;
     Ok(Accepted::with(0))

@@ -1,6 +1,7 @@
 -- The entries and rows that a walk gives, as the code's values.
 -- Assumes nothing.
 use Rattle.std.specs.Prelude.{ℕ, ◌+◌, ◌-◌, ◌*◌, ◌^◌, ◌≤◌, List, ◌++◌, eqb, length, replicate, suc, ◌≡◌, Option, Some, None}
+use Rattle.std.specs.Bool.{then_some}
 use Rattle.model.specs.Sizes.{Bytes}
 use Rattle.model.specs.Reading.{field_at}
 use Rattle.record_walk.specs.declared.walk.ShownEntry.{ShownEntry}
@@ -29,13 +30,10 @@ pub record Here (s : Bytes) (k : ℕ) : Type 0 where
   pub short : length_at s k ≤ 32
   pub whole : next_at s k ≤ 8 * length s
 
-abbrev pub configuration_value : Bytes → ℕ → Configuration
+-- the configuration at bit k, where one is present
+abbrev pub configuration_value : Bytes → ℕ → Option Configuration
 configuration_value s k =
-    record {
-      present = eqb (field_at s k 1) 1;
-      index = record { 0 = field_at s (k + 1) 10 };
-      identity = field_at s (k + 11) 32;
-    }
+    then_some (eqb (field_at s k 1) 1) (record { index = record { 0 = field_at s (k + 1) 10 }; identity = field_at s (k + 11) 32 })
 
 -- the row at bit k
 abbrev pub row_value : Bytes → ℕ → Row

@@ -16,9 +16,9 @@ pub const FIRST_ENTRY: usize = 20;
 // Where the rows begin, in bits.
 pub const FIRST_ROW: usize = 14;
 
-// An entry of a view, with the index it was shown under and the bit after it; it extends no prefix yet, as a stored row does. Of the content's 32 bytes the first `length` count; the others
-// are zero: memory is fixed, and an entry is copied whole, which the kit's ArrayVec cannot be. That they are at most 32 is asked and no
-// fact of the type: the definitions make an entry of any bits.
+// An entry of a view, with the index it was shown under and the bit after it; it extends no prefix yet, as a stored row does. Of
+// the content's 32 bytes the first `length` count; the others are zero: memory is fixed, and an entry is copied whole, which the
+// kit's ArrayVec cannot be. That they are at most 32 is asked and no fact of the type: the definitions make an entry of any bits.
 #[derive(Clone, Copy)]
 pub struct ShownEntry {
     pub index: LogIndex,
@@ -38,11 +38,9 @@ impl ShownEntry {
     }
 }
 
-// A row's configuration. An Option would lose the index and the identity that the bits of an absent one hold: a readable record has
-// zeros there, but `row_at` asks only that the bits are there, and promises them.
+// A configuration that a row has.
 #[derive(Clone, Copy)]
 pub struct Configuration {
-    pub present: bool,
     pub index: LogIndex,
     pub identity: u32,
 }
@@ -54,8 +52,8 @@ pub struct Row {
     pub floor: LogIndex,
     pub commit: LogIndex,
     pub last: LogIndex,
-    pub floor_configuration: Configuration,
-    pub actual_configuration: Configuration,
+    pub floor_configuration: Option<Configuration>,
+    pub actual_configuration: Option<Configuration>,
     pub next: usize,
 }
 
@@ -141,20 +139,20 @@ impl<'a> Iterator for Entries<'a> {
     }
 }
 
-// The configuration at bit `at`.
+// The configuration at bit `at`, where one is present.
 #[tactic(auto, using(bit_fields::proofs::Widths::field_lt))]
-fn configuration_at(s: &[u8], at: usize) -> Configuration
+fn configuration_at(s: &[u8], at: usize) -> Option<Configuration>
     requires { (at ≤ 2 ^ 33) × (at + 43 ≤ 8 * length s.now) }
     ensures { result ≡ configuration_value s.now at }
 {
     let p = bits_at(s, at, 1);
     let i = bits_at(s, at + 1, 10);
     let d = bits_at(s, at + 11, 32);
-    Configuration {
-        present: p == 1,
+    let configuration = Configuration {
         index: LogIndex(i as usize),
         identity: d as u32,
-    }
+    };
+    (p == 1).then_some(configuration)
 }
 
 // The row at bit `at`.

@@ -39,7 +39,7 @@ use Rattle.election.specs.Certify.{answer_in}
 use Rattle.election.proofs.Meaning as elections
 use Rattle.completeness.specs.Check.{check_reply, check_answer, check_bytes}
 use Rattle.completeness.proofs.Meaning as checks
-use Rattle.std.specs.Prelude.{Option as Answered, Some, None, Result, Ok, Err, ⊤}
+use Rattle.std.specs.Prelude.{Option as Answered, Some, None, is_some, unwrap_or, Result, Ok, Err, ⊤}
 use Rattle.answers.specs.declared.answer.Accepted.{Accepted}
 use Rattle.answers.specs.declared.answer.Refusal.{Refusal}
 use Rattle.answers.specs.Numbers.{node_number}
@@ -139,8 +139,8 @@ module _ (h : Bytes) (x : History) (st : Stands h x) where
       took h x s _ _ _ _ t.reading (terms_said (terms_answer c.old.0 c.new.0))
       (commit-terms.terms_mean h x c.old.0 c.new.0 c.term.0 st t.within.1 t.within.2)
   told_means s (Ok (Head.Election e)) t =
-      took h x s _ _ _ _ t.reading (election_said (answer_in h e.leader.0 e.term.0 e.length))
-      (elections.election_recorded h x st e.leader.0 e.term.0 e.present e.length t.within.0 t.within.1 _ _ (record { answer = refl; bytes = refl }))
+      took h x s _ _ _ _ t.reading (election_said (answer_in h e.leader.0 e.term.0 (unwrap_or e.length 0)))
+      (elections.election_recorded h x st e.leader.0 e.term.0 (is_some e.length) (unwrap_or e.length 0) t.within.0 t.within.1 _ _ (record { answer = refl; bytes = refl }))
   told_means s (Ok Head.Check) t =
       took h x s _ _ _ _ t.reading (check_said (check_answer h))
       (checks.check_means h x (check_answer h) (check_bytes h) st (record { is = refl; bytes = refl }))

@@ -1,7 +1,7 @@
 -- What any record is answered on the bytes of a history, and the bytes after it: 12 where they break the storage rules, else by
 -- the head that reading gives.
 -- Assumes nothing.
-use Rattle.std.specs.Prelude.{◌≡◌, cond, Result, Ok, Err}
+use Rattle.std.specs.Prelude.{◌≡◌, cond, is_some, unwrap_or, Result, Ok, Err}
 use Rattle.model.specs.Sizes.{Bytes}
 use Rattle.model.specs.Reading.{read}
 use Rattle.model.specs.Rows as rows
@@ -26,7 +26,7 @@ abbrev pub reply_to : Bytes → Bytes → Result Head Fault → Result Accepted 
 reply_to h s (Ok (Head.View n c)) = of_view (observed 512 h s c n.0)
 reply_to h s (Ok (Head.Commit n i)) = of_commit (commit_answer h n.0 i.0)
 reply_to h s (Ok (Head.Terms x)) = of_terms (terms_answer x.old.0 x.new.0)
-reply_to h s (Ok (Head.Election x)) = of_election (answer_in h x.leader.0 x.term.0 x.length)
+reply_to h s (Ok (Head.Election x)) = of_election (answer_in h x.leader.0 x.term.0 (unwrap_or x.length 0))
 reply_to h s (Ok Head.Check) = of_check (check_answer h)
 reply_to h s (Ok (Head.Rows c)) = of_rows (rows.verdict (rows_at s first_row c))
 reply_to h s (Err f) = Err (Refusal.Unreadable f)
@@ -35,7 +35,7 @@ abbrev pub bytes_to : Bytes → Bytes → Result Head Fault → Bytes
 bytes_to h s (Ok (Head.View n c)) = observed_bytes 512 h s c n.0
 bytes_to h s (Ok (Head.Commit n i)) = commit_bytes h n.0 i.0
 bytes_to h s (Ok (Head.Terms x)) = terms_bytes h x.old.0 x.new.0 x.term.0
-bytes_to h s (Ok (Head.Election x)) = bytes_in h x.leader.0 x.term.0 x.present x.length
+bytes_to h s (Ok (Head.Election x)) = bytes_in h x.leader.0 x.term.0 (is_some x.length) (unwrap_or x.length 0)
 bytes_to h s (Ok Head.Check) = check_bytes h
 bytes_to h s (Ok (Head.Rows c)) = h
 bytes_to h s (Err f) = h

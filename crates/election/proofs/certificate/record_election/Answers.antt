@@ -8,19 +8,19 @@ use Rattle.election.proofs.certificate.record_election.Goals as goal
 
 pub returns-in_default : goal.returns-in_default
 returns-in_default c =
-    beyond _ _ _ _ _ _ c.front_through.ensures c.in_default.is
+    beyond _ _ _ _ _ _ (rw c.unwrap_or.ensures at c.front_through.ensures) c.in_default.is
 
 pub returns-then-certificate_count-ge-CERTIFICATE_LIMIT : goal.returns-then-certificate_count-ge-CERTIFICATE_LIMIT
 returns-then-certificate_count-ge-CERTIFICATE_LIMIT c =
-    full _ _ _ _ _ _ c.front_through.ensures _ c.in-Some.is _ c.certificate_count.ensures.is c.if-certificate_count-ge-CERTIFICATE_LIMIT.true
+    full _ _ _ _ _ _ (rw c.unwrap_or.ensures at c.front_through.ensures) _ c.in-Some.is _ c.certificate_count.ensures.is c.if-certificate_count-ge-CERTIFICATE_LIMIT.true
 
 pub returns-in_err-next : goal.returns-in_err-next
 returns-in_err-next c =
     let p = err_from_is_err_and c.from_residual.result c.from_residual.ensures.1 in
-    taken _ _ _ _ _ _ c.front_through.ensures _ c.in-Some.is _ c.certificate_count.ensures.is c.if-certificate_count-ge-CERTIFICATE_LIMIT.false _
+    taken _ _ _ _ _ _ (rw c.unwrap_or.ensures at c.front_through.ensures) _ c.in-Some.is _ c.certificate_count.ensures.is c.if-certificate_count-ge-CERTIFICATE_LIMIT.false _
     c.number_in_term.ensures _ c.in_err-next.was _ (p.1 ∙ ap Err p.2)
 
 pub returns : goal.returns
 returns c =
-    accepted _ _ _ _ _ _ c.front_through.ensures _ c.in-Some.is _ c.certificate_count.ensures.is c.if-certificate_count-ge-CERTIFICATE_LIMIT.false _
+    accepted _ _ _ _ _ _ (rw c.unwrap_or.ensures at c.front_through.ensures) _ c.in-Some.is _ c.certificate_count.ensures.is c.if-certificate_count-ge-CERTIFICATE_LIMIT.false _
     c.number_in_term.ensures _ c.in_ok-next.was _ c.new_certificate-c.ensures _ c.add_certificate.ensures

@@ -8,7 +8,7 @@ use borrow.Author.Tests.{ltb-false}
 use Rattle.record_scan.specs.Places.{rows_at, first_row}
 use Rattle.record_walk.proofs.Walks.{row_here, next_row_walk}
 use Rattle.invariants.specs.Rules.{least, verdict_for}
-use Rattle.invariants.proofs.Pass.{walk_verdict, row_next, rows_end, rule_1_end, answered}
+use Rattle.invariants.proofs.Pass.{row_shown, walk_verdict, row_next, rows_end, rule_1_end, answered}
 use Rattle.invariants.proofs.commit_safety.check_commit_safety.Goals as goal
 
 pub loop-init : goal.loop-init
@@ -28,7 +28,7 @@ pub loop-preserved : goal.loop-preserved
 loop-preserved c =
     let l = c.loop in
     let d : c.args.count - (l.counter + 1) ≡ c.args.count - l.counter - 1 = omega arith in
-    let r = rw c.row_at-row.ensures at c.with_row-failed.ensures in
+    let r = rw (c.row_at-row.ensures, row_shown _ _ _ l.invariant.0 (omega arith)) at c.with_row-failed.ensures in
     rw (c.row_at-row.ensures, d) (next_row_walk _ _ _ l.invariant.0 (omega arith), row_next _ _ _ _ _ l.invariant.1 (omega arith) ∙ r _)
 
 pub returns : goal.returns
