@@ -13,7 +13,7 @@ use mathlib.Core.Logic.{⊎_elim}
 use Rattle.model.proofs.Tests.{cond_true, cond_false, either}
 use Rattle.storage.specs.Rules.{well_formed}
 use Rattle.storage.specs.Decode.{decode}
-use Rattle.storage.specs.Fresh.{FreshMade}
+use Rattle.storage.specs.Fresh.{FreshMade, made_number}
 use Rattle.storage.specs.declared.fresh.WrongLength.{WrongLength}
 use Rattle.storage.proofs.Meanings.{stand, end_is}
 use Rattle.index_lists.specs.Picked.{nth}
@@ -101,7 +101,7 @@ committed_broken h w = sym (cond_false (well_formed h) _ _ w)
 
 -- a fresh history, by the number of the answer
 pub made_fresh : (h h' : Bytes) → FreshMade h (Ok tt) h' → MadeFresh h 0 h'
-made_fresh h h' m = record { answer = m.number; bytes = m.leaves }
+made_fresh h h' m = record { answer = ap made_number m.answers; bytes = m.leaves }
 
 pub made_broken : (h h' : Bytes) (w : WrongLength) → FreshMade h (Err w) h' → MadeFresh h 12 h'
-made_broken h h' w m = record { answer = m.number; bytes = m.leaves }
+made_broken h h' w m = record { answer = ap made_number m.answers; bytes = m.leaves }

@@ -1,7 +1,7 @@
 -- What the exported functions give, in the model's words: for any bytes, of a history and of a record. `decode h` is the
 -- history that bytes which keep the storage rules stand for.
 -- Assumes nothing.
-use Rattle.std.specs.Prelude.{ℕ, ◌≡◌, true, false, cond, Option, Some, None}
+use Rattle.std.specs.Prelude.{ℕ, ◌≡◌, true, false, cond, Option, Some, None, Result, Ok, Err}
 use Rattle.model.specs.Sizes.{Bytes}
 use Rattle.model.specs.History.{Finding}
 use Rattle.model.specs.Leaders.{Leader}
@@ -9,7 +9,9 @@ use Rattle.model.specs.Answer.{answer, after}
 use Rattle.model.specs.Lists.{Unseen, finding_list, leader_list, unseen_list, unknown_list, committed_length, committed_owner}
 use Rattle.storage.specs.Rules.{right_length, well_formed}
 use Rattle.storage.specs.Decode.{decode}
-use Rattle.storage.specs.Fresh.{fresh_history}
+use Rattle.storage.specs.Fresh.{fresh_history, made_number}
+use Rattle.storage.specs.declared.fresh.WrongLength.{WrongLength}
+use Rattle.answers.specs.declared.answer.Refusal.{Refusal}
 use Rattle.index_lists.specs.Picked.{nth}
 use Rattle.table_rows.specs.declared.findings.Found.{Found}
 use Rattle.lists.specs.declared.leaders.Leader.{Leader as Printed}
@@ -21,14 +23,18 @@ use Rattle.history.specs.declared.exports.LeaderReply.{LeaderReply}
 use Rattle.history.specs.declared.exports.UnseenReply.{UnseenReply}
 use Rattle.history.specs.declared.exports.UnknownReply.{UnknownReply}
 use Rattle.history.specs.declared.exports.CommittedReply.{CommittedReply}
-use Rattle.answers.specs.Numbers.{refusal_in, reply_of, model_reply}
+use Rattle.answers.specs.Numbers.{number_of, refusal_in, reply_of, model_reply}
 use Rattle.submission.specs.Replies.{submit_answer, submit_bytes}
 
 -- ---- a fresh history
 
--- 0 and the fresh history, or 12 and the bytes as they were where they are not as many as a history has
+-- whether the bytes are as many as a history has
+abbrev pub made_answer : Bytes → Result Unit WrongLength
+made_answer h = cond (right_length h) (Ok tt) (Err (record {}))
+
+-- the number of that answer, and the fresh history, or the bytes as they were
 pub record MadeFresh (h : Bytes) (r : ℕ) (h' : Bytes) : Type 0 where
-  pub answer : r ≡ cond (right_length h) 0 12
+  pub answer : r ≡ made_number (made_answer h)
   pub bytes : h' ≡ cond (right_length h) fresh_history h
 
 -- ---- a record
@@ -38,8 +44,8 @@ pub record Handed (h s : Bytes) (r : Reply) (h' : Bytes) : Type 0 where
   -- for any two byte strings, as the definitions give them
   pub reply : r ≡ reply_of (submit_answer h s)
   pub bytes : h' ≡ submit_bytes h s
-  -- bytes that break the storage rules: 12, and every byte as it was
-  pub broken : well_formed h ≡ false → (r ≡ refusal_in 12) × (h' ≡ h)
+  -- bytes that break the storage rules: that refusal, and every byte as it was
+  pub broken : well_formed h ≡ false → (r ≡ refusal_in (number_of Refusal.StorageBroken)) × (h' ≡ h)
   -- others: the model's reply, and the bytes after it stand for the model's history after it
   pub meant : well_formed h ≡ true → (r ≡ model_reply (answer (decode h) s)) × (well_formed h' ≡ true) × (decode h' ≡ after (decode h) s)
   -- a refused record leaves every byte

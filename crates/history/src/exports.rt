@@ -8,7 +8,7 @@ ghost use Rattle.history.specs.Exports.{Handed, MadeFresh, no_finding, found_as,
 
 use answers::numbers::Reply;
 use finding_lists::findings::finding_at;
-use index_lists::committed::{committed_length, committed_owner};
+use index_lists::committed::printed_committed;
 use index_lists::unknown::unknown_at;
 use index_lists::unseen::{Unseen, unseen_at};
 use lists::leaders::{Leader, leader_at};
@@ -257,9 +257,10 @@ pub fn gamiwhoru_committed(history: &[u8]) -> CommittedReply
             owner: 0,
         };
     };
+    let committed = printed_committed(history);
     CommittedReply {
         state: HERE,
-        length: committed_length(history),
-        owner: committed_owner(history),
+        length: committed.length.0,
+        owner: usize::from(committed.owner.0),
     }
 }

@@ -1,38 +1,38 @@
 // The printed unknown indexes: those of the committed prefix whose commit term is zero or absent, ascending.
-ghost use Rattle.std.specs.Prelude.{◌≡◌, ◌≤◌};
+ghost use Rattle.std.specs.Prelude.{◌≡◌, ◌≤◌, ◌-◌};
 ghost use Rattle.index_lists.specs.Unknown.{is_known, index_in, unknown_answer};
 
-use crate::committed::committed_length;
+use crate::committed::printed_committed;
 use crate::pick::nth_held;
 use storage::head::last_recorded;
 use storage::stored::Stored;
 use storage_bytes::layout::{TERMS, Terms};
-use table_rows::terms::term_at;
+use table_rows::terms::term_of;
 use units::{LogIndex, Term};
 
-// The index after i has a term, of the count that are stored.
+// The index has a term, of those recorded through `last`.
 #[tactic(auto, unfolding(crate::specs::Unknown::is_known))]
-fn is_known(terms: &Terms, count: usize, i: usize) -> bool
-    requires { count ≤ 256 }
-    ensures { result ≡ is_known terms.now count i }
+fn is_known(terms: &Terms, last: LogIndex, index: LogIndex) -> bool
+    requires { (1 ≤ index.0) × (last.0 ≤ 256) }
+    ensures { result ≡ is_known terms.now last.0 (index.0 - 1) }
 {
-    if count <= i {
+    if last < index {
         return false;
     }
-    let t = term_at(terms, i);
-    t != Term::ZERO
+    term_of(terms, index) != Term::ZERO
 }
 
-// The n-th unknown index of the first m, counted from 0.
-fn index_in(terms: &Terms, count: usize, m: usize, n: usize) -> Option<LogIndex>
-    requires { (count ≤ 256) × (m ≤ 256) }
-    ensures { result ≡ index_in terms.now count m n }
+// The n-th unknown index through `end`, counted from 0.
+fn index_in(terms: &Terms, last: LogIndex, end: LogIndex, n: usize) -> Option<LogIndex>
+    requires { (last.0 ≤ 256) × (end.0 ≤ 256) }
+    ensures { result ≡ index_in terms.now last.0 end.0 n }
 {
-    nth_held(m, n, |i| {
-        if is_known(terms, count, i) {
+    nth_held(end.0, n, |i| {
+        let index = LogIndex(i + 1);
+        if is_known(terms, last, index) {
             return None;
         }
-        Some(LogIndex(i + 1))
+        Some(index)
     })
 }
 
@@ -41,8 +41,8 @@ fn index_in(terms: &Terms, count: usize, m: usize, n: usize) -> Option<LogIndex>
 pub fn unknown_at(history: Stored<'_>, n: usize) -> Option<LogIndex>
     ensures { result ≡ unknown_answer history.entry.bytes.now n }
 {
-    let m = committed_length(history);
+    let end = printed_committed(history).length;
     let bytes = history.bytes;
-    let count = last_recorded(bytes).0;
-    index_in(TERMS.array(bytes), count, m, n)
+    let last = last_recorded(bytes);
+    index_in(TERMS.array(bytes), last, end, n)
 }

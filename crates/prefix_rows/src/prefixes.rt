@@ -6,7 +6,7 @@ ghost use Rattle.storage_bytes.specs.declared.layout.TheConstants.{PREFIXES};
 ghost use Rattle.storage_bytes.specs.Words.{Word, word_at};
 ghost use Rattle.storage.specs.Writes.{prefix_appended};
 ghost use Rattle.storage.specs.Tables.{prefix_row};
-ghost use Rattle.storage.specs.Values.{Index, committed_end};
+ghost use Rattle.storage.specs.Values.{Index};
 ghost use Rattle.storage.proofs.RowLaws.{prefix_length};
 ghost use Rattle.prefix_rows.specs.Values.{row_bytes, row_appended};
 
@@ -111,15 +111,6 @@ pub fn through(prefixes: &PrefixTable, p: LogPrefixWitness) -> LogIndex
         return LogIndex::ZERO;
     }
     index_at(prefixes, p.0 - 1)
-}
-
-// The end of the committed prefix.
-#[tactic(auto, using(storage::proofs::WellFormed::formed), unfolding(storage::specs::Values::committed_end))]
-pub fn committed_end(history: Stored<'_>) -> LogIndex
-    ensures { result.0 ≡ committed_end history.entry.bytes.now }
-{
-    let bytes = history.bytes;
-    through(PREFIXES.array(bytes), committed(bytes))
 }
 
 // One more prefix.

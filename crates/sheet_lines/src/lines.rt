@@ -94,10 +94,10 @@ pub fn put_unknown(sheet: &mut Sheet<'_>, index: LogIndex)
     put_last(sheet, index.0 as u64);
 }
 
-pub fn put_committed(sheet: &mut Sheet<'_>, size: usize, owner: usize)
+pub fn put_committed(sheet: &mut Sheet<'_>, end: LogIndex, owner: NodeId)
     requires { sheet.old.end + 52 ≤ length sheet.old.out.now }
-    ensures { Filled 52 sheet.old (committed_line size owner) sheet.new }
+    ensures { Filled 52 sheet.old (committed_line end.0 owner.0) sheet.new }
 {
     sheet.put_text(b"committed");
-    put_pair(sheet, size as u64, owner as u64);
+    put_pair(sheet, end.0 as u64, u64::from(owner.0));
 }

@@ -9,7 +9,7 @@ ghost use Rattle.sheet_lines.specs.Lines.{finding_line, leader_line, unseen_line
 ghost use Rattle.sheet_lists.specs.Closing.{joined, of_finding, of_leader, of_unseen, closing_of};
 
 use finding_lists::findings::finding_at;
-use index_lists::committed::{committed_length, committed_owner};
+use index_lists::committed::printed_committed;
 use index_lists::unknown::unknown_at;
 use index_lists::unseen::{Unseen, unseen_at};
 use lists::leaders::{Leader, leader_at};
@@ -138,5 +138,6 @@ pub fn put_lists(history: &[u8], sheet: &mut Sheet<'_>)
     put_list::<Leader>(history, sheet);
     put_list::<Unseen>(history, sheet);
     put_list::<LogIndex>(history, sheet);
-    put_committed(sheet, committed_length(history), committed_owner(history));
+    let committed = printed_committed(history);
+    put_committed(sheet, committed.length, committed.owner);
 }

@@ -8,4 +8,4 @@ pub returns : goal.returns
 unfolding index_in
 returns c =
     let s = c.args in
-    c.nth_held.ensures (is_known s.terms.now s.count) (λ i. record { 0 = i + 1 }) (λ k r below p. search rules)
+    c.nth_held.ensures (is_known s.terms.now s.last.0) (λ i. record { 0 = i + 1 }) (λ k r below p. search rules)

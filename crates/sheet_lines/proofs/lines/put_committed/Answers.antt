@@ -6,4 +6,4 @@ use Rattle.sheet_lines.proofs.lines.put_committed.Goals as goal
 
 pub returns : goal.returns
 unfolding committed_line
-returns c = pair_then _ _ c.put_text.ensures c.put_pair.ensures
+returns c = pair_then _ _ c.put_text.ensures (rw c.from.ensures at c.put_pair.ensures)

@@ -14,6 +14,6 @@ returns c =
     c.put_list-4.ensures
     _
     _
-    c.committed_length.ensures
-    c.committed_owner.ensures
+    c.printed_committed-committed.ensures.length
+    c.printed_committed-committed.ensures.owner
     c.put_committed.ensures
