@@ -1,10 +1,13 @@
 // The sheet of a recording: records from standard input, each behind a 16-bit byte length, high byte first; then the lists of
-// the history. What it prints is put together by `sheet_text` and `sheet_lists`, whose functions are proved to give it; the
-// functions here, which read and write, are proved to be safe and to end. A read or a write that fails ends the program.
+// the history. What it prints is put together by `sheet_text` and `sheet_lists`, whose functions are proved to give it. What a block
+// brings about is proved here; that the blocks are those of the input is left to its reads. A read or a write that fails ends the program.
 #![tactic(auto)]
 
-ghost use Rattle.std.specs.Prelude.{◌≡◌, ◌≤◌, IfOk, OnOk, length, take};
+ghost use Rattle.std.specs.Prelude.{ℕ, ◌≡◌, ◌≤◌, ◌<◌, IfOk, OnOk, length, take};
 ghost use Rattle.std.specs.Io.KnownBytes.{Appends};
+ghost use Rattle.sheet_pieces.specs.Pieces.{piece_at};
+ghost use Rattle.sheet_pieces.specs.declared.split.Piece as code;
+ghost use Rattle.sheet.specs.Input.{BlockTaken};
 
 use input_blocks::fill;
 use sheet_lists::closing::put_lists;
@@ -47,7 +50,8 @@ fn take_block<W: Write>(
     out: &mut [u8; OUTPUT],
     first: u64,
 ) -> io::Result<Place>
-    ensures { IfOk result (λ place. place.from ≤ length block.now) }
+    ensures taken { IfOk result (λ place. BlockTaken history.old block.now first (W.contents writer.old) (W.contents writer.new) place.number place.from history.new) }
+    ensures stopped { IfOk result (λ place. place.number < 18446744073709551000 → (body size : ℕ) → piece_at block.now place.from ≡ code.Piece.Whole body size → ⊥) }
 {
     let mut number = first;
     let mut from = 0;

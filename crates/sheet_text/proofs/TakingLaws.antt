@@ -5,7 +5,7 @@ use native.Mathlib.Numerals.{add-one}
 use native.Mathlib.Omega.{arith}
 use mathlib.Core.Path.{◌≡◌, refl, ap, sym, ◌∙◌}
 use mathlib.Core.List.{List, [], ◌∷◌, ◌++◌, append_assoc, append-nil}
-use lib.ListN.{length, take, drop}
+use lib.ListN.{length, take, drop, length-append}
 use Rattle.model.specs.Sizes.{Bytes}
 use Rattle.storage_bytes.specs.Layout.{part}
 use Rattle.sheet_pieces.specs.declared.split.Piece as code
@@ -16,30 +16,38 @@ use Rattle.sheet_text.specs.Sheet.{cut_line, line_for, bytes_after, record_lines
 use Rattle.sheet_numbers.proofs.PutLaws.{filled_none, filled_then, filled_as}
 use Rattle.sheet_pieces.proofs.SplitLaws.{whole_within, piece_joined}
 
--- ---- one more piece at the end
+-- ---- more pieces behind others
 
-lines_snoc : (n : ℕ) (h : Bytes) (ps : List Piece) (s : Bytes)
-    → record_lines n h (ps ++ (whole s ∷ [])) ≡ record_lines n h ps ++ line_for (n + length ps) (bytes_through h ps) s
+pub lines_join : (n : ℕ) (h : Bytes) (ps qs : List Piece)
+    → record_lines n h (ps ++ qs) ≡ record_lines n h ps ++ record_lines (n + length ps) (bytes_through h ps) qs
 unfolding record_lines bytes_through
-lines_snoc n h [] s = append-nil _ ∙ ap (λ (k : ℕ). line_for k h s) (let e : n ≡ n + 0 = omega arith in e)
-lines_snoc n h (whole r ∷ ps) s =
+lines_join n h [] qs = ap (λ (k : ℕ). record_lines k h qs) (let e : n ≡ n + 0 = omega arith in e)
+lines_join n h (whole r ∷ ps) qs =
     ap (λ (l : Bytes). line_for n h r ++ l)
-    (lines_snoc (n + 1) (bytes_after h r) ps s
-    ∙ ap (λ (k : ℕ). record_lines (n + 1) (bytes_after h r) ps ++ line_for k (bytes_through (bytes_after h r) ps) s)
+    (lines_join (n + 1) (bytes_after h r) ps qs
+    ∙ ap (λ (k : ℕ). record_lines (n + 1) (bytes_after h r) ps ++ record_lines k (bytes_through (bytes_after h r) ps) qs)
     (let e : n + 1 + length ps ≡ n + suc (length ps) = omega arith in e))
     ∙ sym (append_assoc (line_for n h r) _ _)
-lines_snoc n h (cut ∷ ps) s =
+lines_join n h (cut ∷ ps) qs =
     ap (λ (l : Bytes). cut_line n ++ l)
-    (lines_snoc (n + 1) h ps s
-    ∙ ap (λ (k : ℕ). record_lines (n + 1) h ps ++ line_for k (bytes_through h ps) s)
+    (lines_join (n + 1) h ps qs
+    ∙ ap (λ (k : ℕ). record_lines (n + 1) h ps ++ record_lines k (bytes_through h ps) qs)
     (let e : n + 1 + length ps ≡ n + suc (length ps) = omega arith in e))
     ∙ sym (append_assoc (cut_line n) _ _)
 
-bytes_snoc : (h : Bytes) (ps : List Piece) (s : Bytes) → bytes_through h (ps ++ (whole s ∷ [])) ≡ bytes_after (bytes_through h ps) s
+pub bytes_join : (h : Bytes) (ps qs : List Piece) → bytes_through h (ps ++ qs) ≡ bytes_through (bytes_through h ps) qs
 unfolding bytes_through
-bytes_snoc h [] s = refl
-bytes_snoc h (whole r ∷ ps) s = bytes_snoc (bytes_after h r) ps s
-bytes_snoc h (cut ∷ ps) s = bytes_snoc h ps s
+bytes_join h [] qs = refl
+bytes_join h (whole r ∷ ps) qs = bytes_join (bytes_after h r) ps qs
+bytes_join h (cut ∷ ps) qs = bytes_join h ps qs
+
+one_line : (n : ℕ) (h s : Bytes) → record_lines n h (whole s ∷ []) ≡ line_for n h s
+unfolding record_lines
+one_line n h s = append-nil _
+
+one_after : (h s : Bytes) → bytes_through h (whole s ∷ []) ≡ bytes_after h s
+unfolding bytes_through
+one_after h s = refl
 
 -- a list whose k-th element is x
 record Next (ps : List Piece) (k : ℕ) (x : Piece) (rest : List Piece) : Type 0 where
@@ -66,6 +74,7 @@ pub record Taking (h block : Bytes) (t : Sheet) (first start k from : ℕ) (h' :
   pub history : h' ≡ bytes_through h (take k (pieces (drop start block)))
   pub rest : pieces (drop from block) ≡ drop k (pieces (drop start block))
   pub joined : (more : Bytes) → pieces (drop start block ++ more) ≡ take k (pieces (drop start block)) ++ pieces (drop from block ++ more)
+  pub long : length (take k (pieces (drop start block))) ≡ k
   pub within : from ≤ length block
   pub on : start + k ≤ from
 
@@ -78,6 +87,7 @@ module _ (h block : Bytes) (t : Sheet) (first start : ℕ) where
         history = refl;
         rest = refl;
         joined = λ more. refl;
+        long = refl;
         within = l;
         on = omega arith;
       }
@@ -99,16 +109,18 @@ module _ (h block : Bytes) (t : Sheet) (first start : ℕ) where
             filled_as (filled_then g.lines o.line) _
             (sym
             (ap (record_lines first h) more
-            ∙ lines_snoc first h (take k ps) s
+            ∙ lines_join first h (take k ps) (whole s ∷ [])
+            ∙ ap (λ (l : Bytes). record_lines first h (take k ps) ++ l) (one_line _ _ s)
             ∙ (λ i. record_lines first h (take k ps) ++ line_for (count i) (sym g.history i) s)))
             (omega arith);
-        history = o.history ∙ ap (λ (b : Bytes). bytes_after b s) g.history ∙ sym (ap (bytes_through h) more ∙ bytes_snoc h (take k ps) s);
+        history = o.history ∙ ap (λ (b : Bytes). bytes_after b s) g.history ∙ sym (ap (bytes_through h) more ∙ bytes_join h (take k ps) (whole s ∷ []) ∙ one_after _ s);
         rest = sym (ap (λ (j : ℕ). drop j ps) (add-one k) ∙ n.after);
         joined = λ more.
             g.joined more
             ∙ ap (λ (l : List Piece). take k ps ++ l) (piece_joined block more from body size w)
             ∙ sym (append_assoc (take k ps) (whole (part block body size) ∷ []) _)
             ∙ ap (λ (l : List Piece). l ++ pieces (drop (body + size) block ++ more)) (sym (ap (λ (j : ℕ). take j ps) (add-one k) ∙ n.through));
+        long = ap length more ∙ length-append (take k ps) (whole s ∷ []) ∙ ap (λ (j : ℕ). j + 1) n.long;
         within = w.ends;
         on = omega (arith, g.on, w.begins);
       }
@@ -122,6 +134,7 @@ module _ (h block : Bytes) (t : Sheet) (first start : ℕ) where
         history = g.history;
         rest = g.rest;
         joined = g.joined;
+        long = g.long;
         within = g.within;
         on = g.on;
         most = l;

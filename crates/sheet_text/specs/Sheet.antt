@@ -53,6 +53,7 @@ pub record Taken (h block : Bytes) (t : Sheet) (first start : ℕ) (p : Progress
   pub rest : pieces (drop p.from block) ≡ drop p.count (pieces (drop start block))
   -- whatever bytes follow the block, these pieces come first, and then those of its rest and of what follows
   pub joined : (more : Bytes) → pieces (drop start block ++ more) ≡ take p.count (pieces (drop start block)) ++ pieces (drop p.from block ++ more)
+  pub long : length (take p.count (pieces (drop start block))) ≡ p.count
   pub within : p.from ≤ length block
   pub on : start + p.count ≤ p.from
   -- at most 600, and fewer only where no whole piece is left
