@@ -193,18 +193,12 @@ impl Subject for Model {
             }
         }
         leaders.sort();
-        let mut unseen: Vec<_> = self
-            .unseen
-            .iter()
-            .map(|(n, i)| (*n as u32, *i as u32))
-            .collect();
-        unseen.sort();
         let known = |index: &usize| self.terms.get(index - 1).is_some_and(|term| *term != 0);
         let unknown = (1..=self.committed.len()).filter(|index| !known(index));
         Lists {
             findings,
             leaders,
-            unseen,
+            unseen: self.unseen_marks(),
             unknown: unknown.map(|index| index as u32).collect(),
             committed: (self.committed.len() as u32, self.owner as u32),
         }
@@ -213,12 +207,6 @@ impl Subject for Model {
     fn state(&self) -> State {
         let shown = self.views.iter().filter(|(_, _, last)| *last != 0);
         let stored = self.prefixes();
-        let mut unseen: Vec<_> = self
-            .unseen
-            .iter()
-            .map(|(n, i)| (*n as u32, *i as u32))
-            .collect();
-        unseen.sort();
         State {
             remembered: remembered(&stored),
             stored,
@@ -229,7 +217,7 @@ impl Subject for Model {
                     last: *last as u32,
                 })
                 .collect(),
-            unseen,
+            unseen: self.unseen_marks(),
             committed: self.number(&self.committed),
             owner: self.owner as u32,
             terms: self.terms.iter().map(|term| *term as u32).collect(),
@@ -311,6 +299,14 @@ impl Model {
         // From the end: the one that a prefix extends mostly stands right before it.
         let place = self.stored.iter().rposition(|stored| stored == prefix);
         place.map_or(UNSTORED, |place| place + 1)
+    }
+
+    /// Node and index, ascending.
+    fn unseen_marks(&self) -> Vec<(u32, u32)> {
+        let marks = self.unseen.iter();
+        let mut unseen: Vec<_> = marks.map(|(n, i)| (*n as u32, *i as u32)).collect();
+        unseen.sort();
+        unseen
     }
 
     fn prefixes(&self) -> Vec<state::Prefix> {
