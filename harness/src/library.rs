@@ -23,8 +23,7 @@ pub mod linked {
     use crate::state::State;
     use crate::subject::{Answer, Finding, Lists, Subject};
 
-    // include/gamiwhoru.h in Rust. Nothing checks either against the Rattle
-    // source; what the harness compares would differ.
+    // include/gamiwhoru.h in Rust: where it is wrong, what is compared differs.
 
     #[repr(C)]
     struct Reply {
