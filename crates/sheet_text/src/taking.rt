@@ -36,11 +36,11 @@ fn hand_over(history: &mut [u8], s: &[u8], sheet: &mut Sheet<'_>, number: u64)
     requires { sheet.old.end + 105 ≤ length sheet.old.out.now }
     ensures { HandedOver history.old s.now sheet.old number history.new sheet.new }
 {
-    if s.len() == 0 {
+    let Some(first) = s.first() else {
         put_cut(sheet, number);
         return;
-    }
-    let kind = s[0] / 16;
+    };
+    let kind = first / 16;
     let r = Reply::from(submit(history, s));
     put_record(sheet, number, kind, r);
 }
