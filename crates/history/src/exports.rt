@@ -245,7 +245,7 @@ pub struct CommittedReply {
     pub owner: usize,
 }
 
-// The committed prefix: its length and its owner, 0 and 0 where there is none.
+// The committed prefix: its length and its owner, 0 and 0 where there is none. So it is no reply of an element that may be missing.
 #[tactic(auto, using(crate::proofs::Printed::committed_here, crate::proofs::Printed::committed_broken))]
 pub fn gamiwhoru_committed(history: &[u8]) -> CommittedReply
     ensures { result ≡ committed_out history.now }

@@ -1,5 +1,6 @@
 // The entries of a view and the rows, looked at from the left for their first fault. Of an item that is passed over its key, the
-// entry's index or the row's node, is kept, and the bit after it; contents are not read here.
+// entry's index or the row's node, is kept, and the bit after it; contents are not read here. Each field's bit is counted from the
+// item's: a field asks nothing of its place (`record_fields`), and a reader that moves would.
 ghost use Rattle.std.specs.Prelude.{ℕ, ◌≡◌, ◌+◌, ◌*◌, ◌^◌, ◌≤◌, IfOk};
 ghost use Rattle.model.specs.Record as model;
 ghost use Rattle.model.specs.Reading as reading;

@@ -110,7 +110,8 @@ pub fn entry_at(s: &[u8], at: usize) -> ShownEntry
     }
 }
 
-// The entries of a view that are left to walk, from bit `next` on.
+// The entries of a view that are left to walk, from bit `next` on. It is made of its parts where a walk begins: a view's, or those of a
+// place along its front.
 #[derive(Drop)]
 pub struct Entries<'a> {
     pub bytes: &'a [u8],
@@ -155,7 +156,7 @@ fn configuration_at(s: &[u8], at: usize) -> Option<Configuration>
     (p == 1).then_some(configuration)
 }
 
-// The row at bit `at`.
+// The row at bit `at`. Units are made of their bits on the spot, as a readable record's are within their limits.
 #[tactic(auto, using(bit_fields::proofs::Widths::field_lt))]
 pub fn row_at(s: &[u8], at: usize) -> Row
     requires { RowHere s.now at }

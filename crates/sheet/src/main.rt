@@ -27,7 +27,8 @@ const INPUT: usize = 131072;
 // The bytes of output held, fixed as well: the lines of the records taken at a time, or all the lists.
 const OUTPUT: usize = 65536;
 
-// How far the sheet is: the number of the next record, and where it begins in the block.
+// How far the sheet is: the number of the next record, and where it begins in the block. What is read, written and handed on is lent part by
+// part: a struct of it would be generic over both ends.
 #[derive(Clone, Copy)]
 struct Place {
     number: u64,
