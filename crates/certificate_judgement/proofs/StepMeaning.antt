@@ -8,13 +8,13 @@ use mathlib.Core.List.{List}
 use lib.Dec.{ltb, eqb}
 use lib.ListN.{length, set}
 use Rattle.model.specs.Sizes.{Bytes}
-use Rattle.model.specs.History.{Finding, Certificate, History, noted}
+use Rattle.model.specs.History.{Finding, Certificate, History, noted, with_certificates}
 use Rattle.model.specs.Check.{relevant, lacking, moved}
 use Rattle.storage_bytes.specs.Words.{word_at}
 use Rattle.storage.specs.Tables.{CertificateRow, certificate_row, certificates_part}
 use Rattle.storage.specs.Decode.{certificate_in}
 use Rattle.storage.proofs.DecodeLaws.{CertificateNamed}
-use Rattle.storage.proofs.Meanings.{Stands, with_elections, end_is}
+use Rattle.storage.proofs.Meanings.{Stands, end_is}
 use Rattle.log_violation.proofs.ViolationLaws.{Holds, all_hold}
 use Rattle.storage.specs.Values.{committed_end}
 use Rattle.check_relevance.specs.Relevance.{relevant_in}
@@ -52,9 +52,9 @@ module _ (h : Bytes) (x : History) (s : Stands h x) where
   -- its mark moves to the committed end, and nothing else changes
   pub move_means : (k : ℕ) → k < word_at h 6 1
       → Stands (mark_moved h k (committed_end h))
-      (with_elections x (set x.certificates k (moved x.committed (certificate_in x.prefixes (certificate_row (certificates_part h) k)))))
+      (with_certificates x (set x.certificates k (moved x.committed (certificate_in x.prefixes (certificate_row (certificates_part h) k)))))
   unfolding moved
   move_means k l =
-      subst (λ (n : ℕ). Stands (mark_moved h k (committed_end h)) (with_elections x (set x.certificates k (raised n (certificate_in x.prefixes (certificate_row (certificates_part h) k))))))
+      subst (λ (n : ℕ). Stands (mark_moved h k (committed_end h)) (with_certificates x (set x.certificates k (raised n (certificate_in x.prefixes (certificate_row (certificates_part h) k))))))
       (end_is h x s)
       (mark_means h x s (committed_end h) (end_small h s.right) k l)

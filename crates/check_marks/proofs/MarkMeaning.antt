@@ -12,13 +12,13 @@ use lib.ListN.{length, get_or, set, length-append}
 use lib.Seq.{set-get_or, set-append_seam, get_or-append_seam, append_snoc}
 use borrow.Author.Tests.{ltb-true, ltb-false}
 use Rattle.model.specs.Sizes.{Bytes}
-use Rattle.model.specs.History.{Certificate, History}
+use Rattle.model.specs.History.{Certificate, History, with_certificates}
 use Rattle.model.specs.Terms.{with_mark}
 use Rattle.model.proofs.Tests.{either, cond_true, cond_false}
 use Rattle.storage_bytes.specs.Words.{word_at}
 use Rattle.storage.specs.Tables.{CertificateRow}
 use Rattle.storage.specs.Decode.{certificate_in}
-use Rattle.storage.proofs.Meanings.{Stands, with_elections, certificates_read}
+use Rattle.storage.proofs.Meanings.{Stands, certificates_read}
 use Rattle.term_marks.specs.Marks.{mark_set, certificate_of}
 use Rattle.term_marks.proofs.MarkLaws.{certificate_at, mark_written}
 use Rattle.check_marks.specs.Marks.{mark_moved, marks_moved}
@@ -41,11 +41,11 @@ module _ (h : Bytes) (x : History) (s : Stands h x) (end : ℕ) (small : end ≤
   old_is = certificate_at h x s k l
 
   abbrev Moved : Bytes → Type 0
-  Moved u = Stands u (with_elections x (set x.certificates k (raised end old)))
+  Moved u = Stands u (with_certificates x (set x.certificates k (raised end old)))
 
   passed : c.mark < end → Moved (mark_set h k end)
   passed b =
-      subst (λ (d : Certificate). Stands (mark_set h k end) (with_elections x (set x.certificates k d)))
+      subst (λ (d : Certificate). Stands (mark_set h k end) (with_certificates x (set x.certificates k d)))
       (ap (λ (m : ℕ). with_mark (certificate_in x.prefixes c) m) (let e : end ≡ max c.mark end = omega arith in e) ∙ ap (raised end) (sym old_is))
       (mark_written h x s k end l small)
 
@@ -53,15 +53,15 @@ module _ (h : Bytes) (x : History) (s : Stands h x) (end : ℕ) (small : end ≤
   stays b =
       let m : old.mark ≡ c.mark = ap (λ (d : Certificate). d.mark) old_is in
       let q : raised end old ≡ old = ap (λ (n : ℕ). with_mark old n) (let e : max old.mark end ≡ old.mark = omega arith in e) in
-      subst (λ (cs : List Certificate). Stands h (with_elections x cs))
+      subst (λ (cs : List Certificate). Stands h (with_certificates x cs))
       (sym (ap (set x.certificates k) q ∙ set-get_or x.certificates k (certificate_in x.prefixes c))) s
 
   -- the mark of certificate k moves, and nothing else
-  pub mark_means : Stands (mark_moved h k end) (with_elections x (set x.certificates k (raised end (certificate_in x.prefixes c))))
+  pub mark_means : Stands (mark_moved h k end) (with_certificates x (set x.certificates k (raised end (certificate_in x.prefixes c))))
   unfolding mark_moved
   mark_means =
       let u = mark_set h k end in
-      subst (λ (d : Certificate). Stands (cond (ltb c.mark end) u h) (with_elections x (set x.certificates k (raised end d)))) old_is
+      subst (λ (d : Certificate). Stands (cond (ltb c.mark end) u h) (with_certificates x (set x.certificates k (raised end d)))) old_is
       (⊎_elim (λ t. subst Moved (sym (cond_true (ltb c.mark end) u h t)) (passed (ltb-true _ _ t)))
       (λ t. subst Moved (sym (cond_false (ltb c.mark end) u h t)) (stays (ltb-false _ _ t)))
       (either (ltb c.mark end)))
@@ -71,13 +71,13 @@ module _ (h : Bytes) (x : History) (s : Stands h x) (end : ℕ) (small : end ≤
 -- the history's certificates are some whose marks have moved, and the rest
 pub marks_mean : (cs : List CertificateRow) (moved : List Certificate) (h : Bytes) (x : History) → Stands h x → (end : ℕ) → end ≤ 256
     → x.certificates ≡ moved ++ map (certificate_in x.prefixes) cs
-    → Stands (marks_moved h end (length moved) (length cs)) (with_elections x (moved ++ map (raised end) (map (certificate_in x.prefixes) cs)))
+    → Stands (marks_moved h end (length moved) (length cs)) (with_certificates x (moved ++ map (raised end) (map (certificate_in x.prefixes) cs)))
 unfolding marks_moved
-marks_mean [] moved h x s end small e = subst (λ (ds : List Certificate). Stands h (with_elections x ds)) e s
+marks_mean [] moved h x s end small e = subst (λ (ds : List Certificate). Stands h (with_certificates x ds)) e s
 marks_mean (c ∷ cs) moved h x s end small e =
     subst₂ Stands (ap (λ (n : ℕ). marks_moved (mark_moved h k end) end n (length cs)) longer)
-    (ap (with_elections x) (append_snoc moved (raised end d) (map (raised end) rest)))
-    (marks_mean cs (moved ++ (raised end d ∷ [])) (mark_moved h k end) (with_elections x after) step end small
+    (ap (with_certificates x) (append_snoc moved (raised end d) (map (raised end) rest)))
+    (marks_mean cs (moved ++ (raised end d ∷ [])) (mark_moved h k end) (with_certificates x after) step end small
     (sym (append_snoc moved (raised end d) rest)))
   where
     k : ℕ
@@ -111,8 +111,8 @@ marks_mean (c ∷ cs) moved h x s end small e =
         sym (old_is h x s end small k before) ∙ ap (λ (ds : List Certificate). get_or ds k (certificate_in x.prefixes row)) e
         ∙ get_or-append_seam moved d rest (certificate_in x.prefixes row)
 
-    step : Stands (mark_moved h k end) (with_elections x after)
+    step : Stands (mark_moved h k end) (with_certificates x after)
     step =
-        subst (λ (ds : List Certificate). Stands (mark_moved h k end) (with_elections x ds))
+        subst (λ (ds : List Certificate). Stands (mark_moved h k end) (with_certificates x ds))
         ((λ i. set (e i) k (raised end (here i))) ∙ set-append_seam moved d rest (raised end d))
         (mark_means h x s end small k before)

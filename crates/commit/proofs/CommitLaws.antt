@@ -13,12 +13,12 @@ use borrow.Author.Tests.{eqb-true, eqb-false, lt-ltb, le-ltb, le-leb, lt-leb}
 use Rattle.model.specs.Sizes.{Bytes}
 use Rattle.model.specs.Entry.{Prefix, same, agree, with_all}
 use Rattle.model.specs.Refusal.{findingsFull}
-use Rattle.model.specs.History.{Finding, History, front_of, noted}
+use Rattle.model.specs.History.{Finding, History, front_of, noted, with_findings}
 use Rattle.model.specs.Commit.{seen, unseen_mark, replaces, differences, commit_findings, commit_refusal, agreement, commit_value, commit_effect}
 use Rattle.model.proofs.Tests.{either, cond_true, cond_false, yes_same}
 use Rattle.storage_bytes.specs.Words.{word_at}
 use Rattle.storage.proofs.RuleLaws.{pass, stop}
-use Rattle.storage.proofs.Meanings.{Stands, with_noted, findings_read}
+use Rattle.storage.proofs.Meanings.{Stands, findings_read}
 use Rattle.log_violation.specs.Violation.{room_for, noted_in}
 use Rattle.prefix_lookup.specs.Prefix.{witness, stored_of, front_through}
 use Rattle.committed_prefix.specs.Prefix.{agree_in, unseen_set, keep_bytes}
@@ -217,7 +217,7 @@ module _ (x : History) (n i : ℕ) where
                     subst (Stands (unseen_set (noted_in h f) n 0))
                     (effect_is 0 x.committed x.owner fs reach
                     (sym (cond_false (replaces x.committed (seen x n i)) _ _ keeps)) (sym (cond_false (replaces x.committed (seen x n i)) _ _ keeps)) found)
-                    (unseen_written (noted_in h f) (with_noted x fs) y.stands n 0 here (omega arith));
+                    (unseen_written (noted_in h f) (with_findings x fs) y.stands n 0 here (omega arith));
               } in
               inl (0, cond_true (room_for h f) _ _ y.room, subst (Accepts 0) (sym (cond_true (room_for h f) (unseen_set (noted_in h f) n 0) h y.room)) made))
               (λ y. inr (cond_false (room_for h f) _ _ y.0, many fs found y.1, cond_false (room_for h f) _ h y.0))

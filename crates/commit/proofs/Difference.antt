@@ -12,7 +12,7 @@ use borrow.Author.Tests.{le-leb, lt-leb}
 use Rattle.std.specs.Prelude.{Result, Ok, Err, is_ok, ⊤}
 use Rattle.model.specs.Sizes.{Bytes}
 use Rattle.model.specs.Entry.{with_all}
-use Rattle.model.specs.History.{Finding, History, noted}
+use Rattle.model.specs.History.{Finding, History, noted, with_findings}
 use Rattle.model.proofs.Tests.{tf, either, cond_true, cond_false}
 use Rattle.storage_bytes.specs.Lists.{every}
 use Rattle.storage_bytes.specs.Words.{word_at}
@@ -20,7 +20,7 @@ use Rattle.storage.specs.Tables.{finding_row, finding_rows, findings_part}
 use Rattle.storage.specs.Rules.{finding_right}
 use Rattle.storage_bytes.proofs.ListLaws.{tabulate_length}
 use Rattle.storage.proofs.DecodeLaws.{FindingNamed}
-use Rattle.storage.proofs.Meanings.{Stands, with_noted, findings_stored, findings_taken, findings_right, noted_right}
+use Rattle.storage.proofs.Meanings.{Stands, findings_stored, findings_taken, findings_right, noted_right}
 use Rattle.storage.proofs.WellFormed.{formed}
 use Rattle.log_violation.specs.Violation.{note_held, note_bytes, findings_written, room_for, room_answer, noted_in}
 use Rattle.log_violation.proofs.ViolationLaws.{Holds, note_holds, note_length, findings_long}
@@ -84,7 +84,7 @@ module _ (h : Bytes) (x : History) (s : Stands h x) (n i : ℕ) (here : n < 64) 
   pub record Taken : Type 0 where
     pub room : room_for h (difference n i) ≡ true
     pub few : length fs ≤ 128
-    pub stands : Stands (noted_in h (difference n i)) (with_noted x fs)
+    pub stands : Stands (noted_in h (difference n i)) (with_findings x fs)
 
   in_room : held ≤ 128 → finding_rows table held ≡ fs → Taken
   unfolding room_for noted_in findings_written
@@ -95,8 +95,8 @@ module _ (h : Bytes) (x : History) (s : Stands h x) (n i : ℕ) (here : n < 64) 
         room = r;
         few = (let count = sym (ap length e) ∙ tabulate_length (finding_row table) 0 held in omega arith);
         stands =
-            subst (λ (u : Bytes). Stands u (with_noted x fs)) (sym (cond_true (room_for h (difference n i)) _ h r))
-            (subst (λ (gs : List Finding). Stands (findings_written h table held) (with_noted x gs)) e
+            subst (λ (u : Bytes). Stands u (with_findings x fs)) (sym (cond_true (room_for h (difference n i)) _ h r))
+            (subst (λ (gs : List Finding). Stands (findings_written h table held) (with_findings x gs)) e
             (findings_taken h x s table held long l (ap (every finding_right) e ∙ noted_fit)));
       }
 

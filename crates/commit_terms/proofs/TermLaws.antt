@@ -11,14 +11,14 @@ use lib.ListN.{length, get_or, set, take, drop, replicate, length-append, length
 use lib.Seq.{get_or_at, set_at, length-take-le}
 use borrow.Author.Tests.{ne_eqb, ltb-true, ltb-false, lt-ltb, le-ltb, le-leb, lt-leb}
 use Rattle.model.specs.Sizes.{Bytes}
-use Rattle.model.specs.History.{Certificate, History}
+use Rattle.model.specs.History.{Certificate, History, with_terms, with_certificates}
 use Rattle.model.specs.Terms.{lengthened, changes, replaced_from, recorded, first_from, first_changed, lowered, terms_effect}
 use Rattle.model.proofs.Tests.{either, cond_true, cond_false}
 use Rattle.storage_bytes.specs.Words.{word_at, word_bytes, put_bytes}
 use Rattle.storage.specs.Tables.{term_row, terms_part}
 use Rattle.storage.specs.Writes.{terms_lengthened}
 use Rattle.storage.proofs.RuleLaws.{pass}
-use Rattle.storage.proofs.Meanings.{Stands, with_commit_terms, with_elections, terms_read, certificates_read, term_read, term_written, terms_added}
+use Rattle.storage.proofs.Meanings.{Stands, terms_read, certificates_read, term_read, term_written, terms_added}
 use Rattle.term_marks.specs.Marks.{lower_back}
 use Rattle.commit_terms.specs.Terms.{lengthened_to, term_in, is_replaced, first_replaced, replace_bytes, replace_all, changed_from, record_bytes}
 use Rattle.term_marks.proofs.MarkLaws.{lower_means}
@@ -36,19 +36,19 @@ module _ (h : Bytes) (x : History) (s : Stands h x) where
 -- ---- the list lengthened
 
 lengthened_means : (h : Bytes) (x : History) (new : ℕ) → Stands h x → new ≤ 256
-    → Stands (lengthened_to h new) (with_commit_terms x (lengthened new x.terms))
+    → Stands (lengthened_to h new) (with_terms x (lengthened new x.terms))
 unfolding lengthened_to lengthened
 lengthened_means h x new s b =
     let held = terms_held h x s in
     ⊎_elim
     (λ p.
-    subst (λ (u : Bytes). Stands u (with_commit_terms x (x.terms ++ replicate (new - length x.terms) 0))) (sym (cond_true (ltb (word_at h 2 2) new) _ h p))
-    (subst (λ (n : ℕ). Stands (terms_lengthened h new) (with_commit_terms x (x.terms ++ replicate (new - n) 0))) (sym held)
+    subst (λ (u : Bytes). Stands u (with_terms x (x.terms ++ replicate (new - length x.terms) 0))) (sym (cond_true (ltb (word_at h 2 2) new) _ h p))
+    (subst (λ (n : ℕ). Stands (terms_lengthened h new) (with_terms x (x.terms ++ replicate (new - n) 0))) (sym held)
     (terms_added h x s new (let l : word_at h 2 2 < new = ltb-true _ _ p in omega arith) b)))
     (λ p.
     let none : new - length x.terms ≡ 0 = (let l : new ≤ word_at h 2 2 = ltb-false _ _ p in omega arith) in
-    subst (λ (u : Bytes). Stands u (with_commit_terms x (x.terms ++ replicate (new - length x.terms) 0))) (sym (cond_false (ltb (word_at h 2 2) new) _ h p))
-    (subst (λ (ts : List ℕ). Stands h (with_commit_terms x ts)) (sym (ap (λ (n : ℕ). x.terms ++ replicate n 0) none ∙ append-nil x.terms)) s))
+    subst (λ (u : Bytes). Stands u (with_terms x (x.terms ++ replicate (new - length x.terms) 0))) (sym (cond_false (ltb (word_at h 2 2) new) _ h p))
+    (subst (λ (ts : List ℕ). Stands h (with_terms x ts)) (sym (ap (λ (n : ℕ). x.terms ++ replicate n 0) none ∙ append-nil x.terms)) s))
     (either (ltb (word_at h 2 2) new))
 
 -- ---- the places replaced
@@ -109,37 +109,37 @@ module _ (old new t : ℕ) where
     place_read : term_in h k ≡ y
     place_read = sym (term_held h x s k place_within) ∙ ap (λ (ts : List ℕ). get_or ts k 0) e ∙ get_or_at A y B 0 k a
 
-    place_means : k < 256 → t < 4294967296 → Stands (replace_bytes h k t) (with_commit_terms x (A ++ (cond (is_replaced t y) t y ∷ B)))
+    place_means : k < 256 → t < 4294967296 → Stands (replace_bytes h k t) (with_terms x (A ++ (cond (is_replaced t y) t y ∷ B)))
     unfolding replace_bytes
     place_means l f =
         ⊎_elim
         (λ p.
         let to : set x.terms k t ≡ A ++ (t ∷ B) = ap (λ (ts : List ℕ). set ts k t) e ∙ set_at A y B t k a in
-        subst (λ (u : Bytes). Stands u (with_commit_terms x (A ++ (cond (is_replaced t y) t y ∷ B)))) (sym (cond_true (is_replaced t (term_in h k)) _ h (ap (is_replaced t) place_read ∙ p)))
-        (subst (λ (z : ℕ). Stands (put_bytes h (393 + k * 4) (word_bytes 4 t)) (with_commit_terms x (A ++ (z ∷ B)))) (sym (cond_true (is_replaced t y) t y p))
-        (subst (λ (ts : List ℕ). Stands (put_bytes h (393 + k * 4) (word_bytes 4 t)) (with_commit_terms x ts)) to (term_written h x s k t l f))))
+        subst (λ (u : Bytes). Stands u (with_terms x (A ++ (cond (is_replaced t y) t y ∷ B)))) (sym (cond_true (is_replaced t (term_in h k)) _ h (ap (is_replaced t) place_read ∙ p)))
+        (subst (λ (z : ℕ). Stands (put_bytes h (393 + k * 4) (word_bytes 4 t)) (with_terms x (A ++ (z ∷ B)))) (sym (cond_true (is_replaced t y) t y p))
+        (subst (λ (ts : List ℕ). Stands (put_bytes h (393 + k * 4) (word_bytes 4 t)) (with_terms x ts)) to (term_written h x s k t l f))))
         (λ p.
-        subst (λ (u : Bytes). Stands u (with_commit_terms x (A ++ (cond (is_replaced t y) t y ∷ B)))) (sym (cond_false (is_replaced t (term_in h k)) _ h (ap (is_replaced t) place_read ∙ p)))
-        (subst (λ (z : ℕ). Stands h (with_commit_terms x (A ++ (z ∷ B)))) (sym (cond_false (is_replaced t y) t y p))
-        (subst (λ (ts : List ℕ). Stands h (with_commit_terms x ts)) e s)))
+        subst (λ (u : Bytes). Stands u (with_terms x (A ++ (cond (is_replaced t y) t y ∷ B)))) (sym (cond_false (is_replaced t (term_in h k)) _ h (ap (is_replaced t) place_read ∙ p)))
+        (subst (λ (z : ℕ). Stands h (with_terms x (A ++ (z ∷ B)))) (sym (cond_false (is_replaced t y) t y p))
+        (subst (λ (ts : List ℕ). Stands h (with_terms x ts)) e s)))
         (either (is_replaced t y))
 
   replace_means : (n : ℕ) (B A : List ℕ) (h : Bytes) (x : History) (k : ℕ) → Stands h x → x.terms ≡ A ++ B → length A ≡ k
       → old ≤ k → k + n ≡ new → n ≤ length B → new ≤ 256 → t < 4294967296
-      → Stands (replace_all h t k n) (with_commit_terms x (A ++ replaced_from old new t (k + 1) B))
+      → Stands (replace_all h t k n) (with_terms x (A ++ replaced_from old new t (k + 1) B))
   unfolding replace_all replaced_from
   replace_means zero B A h x k s e a o m c b f =
-      subst (λ (ts : List ℕ). Stands h (with_commit_terms x (A ++ ts))) (sym (replaced_after B (k + 1) (omega arith)))
-      (subst (λ (ts : List ℕ). Stands h (with_commit_terms x ts)) e s)
+      subst (λ (ts : List ℕ). Stands h (with_terms x (A ++ ts))) (sym (replaced_after B (k + 1) (omega arith)))
+      (subst (λ (ts : List ℕ). Stands h (with_terms x ts)) e s)
   replace_means (suc n) [] A h x k s e a o m c b f = absurd (omega arith)
   replace_means (suc n) (y ∷ B) A h x k s e a o m c b f =
       let z = cond (is_replaced t y) t y in
       let same = test_within (k + 1) y (omega arith) (omega arith) in
-      let ih = replace_means n B (A ++ (z ∷ [])) (replace_bytes h k t) (with_commit_terms x (A ++ (z ∷ B))) (k + 1)
+      let ih = replace_means n B (A ++ (z ∷ [])) (replace_bytes h k t) (with_terms x (A ++ (z ∷ B))) (k + 1)
       (place_means h x A y B k s e a (omega arith) f)
       (sym (append_assoc A (z ∷ []) B))
       (length-append A (z ∷ []) ∙ ap (λ (j : ℕ). j + 1) a) (omega arith) (omega arith) (omega arith) b f in
-      subst (λ (ts : List ℕ). Stands (replace_all (replace_bytes h k t) t (k + 1) n) (with_commit_terms x ts))
+      subst (λ (ts : List ℕ). Stands (replace_all (replace_bytes h k t) t (k + 1) n) (with_terms x ts))
       (append_assoc A (z ∷ []) (replaced_from old new t (k + 1 + 1) B)
       ∙ ap (λ (q : Bool). A ++ (cond q t y ∷ replaced_from old new t (k + 1 + 1) B)) (sym same))
       ih
@@ -163,7 +163,7 @@ module _ (old new t : ℕ) where
 
   -- the whole list
   pub record Places (h : Bytes) (x : History) (ts : List ℕ) : Type 0 where
-    pub bytes : Stands (replace_all h t old (new - old)) (with_commit_terms x (recorded old new t ts))
+    pub bytes : Stands (replace_all h t old (new - old)) (with_terms x (recorded old new t ts))
     pub is : first_replaced (term_row (terms_part h)) t old (new - old) ≡ first_changed old new t ts
 
   places_mean : (h : Bytes) (x : History) (ts : List ℕ) → Stands h x → x.terms ≡ lengthened new ts → old ≤ new → new ≤ 256 → t < 4294967296 → Places h x ts
@@ -179,7 +179,7 @@ module _ (old new t : ℕ) where
       let at : 0 + length A + 1 ≡ old + 1 = omega arith in
       record {
         bytes =
-            subst (λ (l : List ℕ). Stands (replace_all h t old (new - old)) (with_commit_terms x l))
+            subst (λ (l : List ℕ). Stands (replace_all h t old (new - old)) (with_terms x l))
             (sym (ap (replaced_from old new t 1) (sym split) ∙ replaced_before A B 0 (omega arith) ∙ ap (λ (i : ℕ). A ++ replaced_from old new t i B) at))
             (replace_means (new - old) B A h x old s (e ∙ sym split) la (omega arith) (omega arith) (omega arith) b f);
         is =
@@ -226,13 +226,13 @@ none_lowered t (c ∷ cs) = ap (λ (l : List Certificate). c ∷ l) (none_lowere
 
 -- where a place changed, the marks are lowered
 marks_mean : (u w : Bytes) (y : History) (t first n : ℕ) → Stands (cond (eqb first 0) u w) y → n ≡ length y.certificates
-    → Stands (cond (eqb first 0) u (lower_back w t first n)) (with_elections y (map (lowered t first) y.certificates))
-marks_mean u w y t zero n s e = subst (λ (cs : List Certificate). Stands u (with_elections y cs)) (sym (none_lowered t y.certificates)) s
+    → Stands (cond (eqb first 0) u (lower_back w t first n)) (with_certificates y (map (lowered t first) y.certificates))
+marks_mean u w y t zero n s e = subst (λ (cs : List Certificate). Stands u (with_certificates y cs)) (sym (none_lowered t y.certificates)) s
 marks_mean u w y t (suc f) n s e =
     let cs = y.certificates in
     let some : eqb (suc f) 0 ≡ false = ne_eqb (suc f) 0 (λ z. omega arith) in
-    subst (λ (v : Bytes). Stands v (with_elections y (map (lowered t (suc f)) cs))) (sym (cond_false (eqb (suc f) 0) u (lower_back w t (suc f) n) some))
-    (subst (λ (ds : List Certificate). Stands (lower_back w t (suc f) n) (with_elections y ds)) (append-nil (map (lowered t (suc f)) cs))
+    subst (λ (v : Bytes). Stands v (with_certificates y (map (lowered t (suc f)) cs))) (sym (cond_false (eqb (suc f) 0) u (lower_back w t (suc f) n) some))
+    (subst (λ (ds : List Certificate). Stands (lower_back w t (suc f) n) (with_certificates y ds)) (append-nil (map (lowered t (suc f)) cs))
     (lower_means t (suc f) (omega arith) n cs [] w y (subst (λ (v : Bytes). Stands v y) (cond_false (eqb (suc f) 0) u w some) s) (sym (append-nil cs)) (sym e)))
 
 pub record_means : (h : Bytes) (x : History) (old new t : ℕ) → Stands h x → old ≤ new → new ≤ 256 → t < 4294967296
@@ -241,10 +241,10 @@ unfolding record_bytes changed_from terms_effect
 record_means h x old new t s o b f =
     let u = lengthened_to h new in
     let long = lengthened_means h x new s b in
-    let p = places_mean old new t u (with_commit_terms x (lengthened new x.terms)) x.terms long refl o b f in
+    let p = places_mean old new t u (with_terms x (lengthened new x.terms)) x.terms long refl o b f in
     let first = first_replaced (term_row (terms_part u)) t old (new - old) in
-    let y = with_commit_terms x (recorded old new t x.terms) in
-    subst (λ (i : ℕ). Stands (changed_from u new t first) (with_elections y (map (lowered t i) x.certificates))) p.is
+    let y = with_terms x (recorded old new t x.terms) in
+    subst (λ (i : ℕ). Stands (changed_from u new t first) (with_certificates y (map (lowered t i) x.certificates))) p.is
     (marks_mean u (replace_all u t (first - 1) (new + 1 - first)) y t first (word_at u 6 1)
     (subst (λ (v : Bytes). Stands v y) (sym (from_first_lem u t new (new - old) old (omega arith))) p.bytes)
-    (sym (certificates_held u (with_commit_terms x (lengthened new x.terms)) long)))
+    (sym (certificates_held u (with_terms x (lengthened new x.terms)) long)))

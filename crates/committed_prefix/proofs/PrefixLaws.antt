@@ -10,7 +10,7 @@ use lib.ListN.{length, get_or, set, take}
 use lib.Seq.{set-get_or}
 use Rattle.model.specs.Sizes.{Bytes}
 use Rattle.model.specs.Entry.{Prefix, same}
-use Rattle.model.specs.History.{Finding, History}
+use Rattle.model.specs.History.{Finding, History, with_views, with_unseen, with_committed, with_findings}
 use Rattle.storage_bytes.specs.Words.{word_at}
 use Rattle.storage.specs.Tables.{PrefixRow, NodeRow, rows_of_prefixes, prefixes_part}
 use Rattle.storage.specs.Decode.{prefix_at, resolve}
@@ -29,18 +29,7 @@ use Rattle.units.specs.declared.LogPrefixWitness.{LogPrefixWitness}
 
 -- the history with a node's unseen mark, the committed prefix with its owner, and the findings anew
 abbrev pub changed : History → ℕ → ℕ → Prefix → ℕ → List Finding → History
-changed x n m c o fs =
-    record {
-      prefixes = x.prefixes;
-      fronts = x.fronts;
-      lasts = x.lasts;
-      unseen = set x.unseen n m;
-      committed = c;
-      owner = o;
-      terms = x.terms;
-      certificates = x.certificates;
-      findings = fs;
-    }
+changed x n m c o fs = with_findings (with_committed (with_unseen x (set x.unseen n m)) c o) fs
 
 module _ (h : Bytes) (x : History) (s : Stands h x) where
   -- the prefix of a number
@@ -123,18 +112,7 @@ module _ (h : Bytes) (x : History) (s : Stands h x) where
       let lasts : set x.lasts n (node_of h n).last ≡ x.lasts =
       ap (λ (k : ℕ). set x.lasts n k) (sym (last_is n l)) ∙ set-get_or x.lasts n 0 in
       subst (Stands (unseen_set h n m))
-      (λ j.
-      record {
-        prefixes = x.prefixes;
-        fronts = fronts j;
-        lasts = lasts j;
-        unseen = set x.unseen n m;
-        committed = x.committed;
-        owner = x.owner;
-        terms = x.terms;
-        certificates = x.certificates;
-        findings = x.findings;
-      })
+      (λ j. with_unseen (with_views x (fronts j) (lasts j)) (set x.unseen n m))
       (node_written h x s n row l (record { front = r.front; last = r.last; unseen = b }))
 
 -- the committed prefix and its owner, with the mark cleared

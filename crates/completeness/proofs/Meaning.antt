@@ -15,7 +15,7 @@ use Rattle.std.specs.Prelude.{Result, Ok, Err}
 use Rattle.model.specs.Sizes.{Bytes}
 use Rattle.model.specs.Refusal.{findingsFull}
 use Rattle.model.specs.Record.{check}
-use Rattle.model.specs.History.{Finding, Certificate, History, noted}
+use Rattle.model.specs.History.{Finding, Certificate, History, noted, with_certificates, with_findings}
 use Rattle.model.specs.Check.{moved, lackings, some_relevant, check_findings, check_refusal, check_value, check_effect}
 use Rattle.model.specs.Answer.{refusal}
 use Rattle.model.proofs.Tests.{cond_true, cond_false}
@@ -26,7 +26,7 @@ use Rattle.storage.specs.Decode.{prefix_at}
 use Rattle.storage.specs.Rules.{finding_right}
 use Rattle.storage_bytes.proofs.ListLaws.{tabulate_length}
 use Rattle.storage.proofs.DecodeLaws.{CertificateNamed}
-use Rattle.storage.proofs.Meanings.{Stands, with_elections, with_noted, certificates_stored, findings_stored, committed_stored, findings_right, noted_right, end_is}
+use Rattle.storage.proofs.Meanings.{Stands, certificates_stored, findings_stored, committed_stored, findings_right, noted_right, end_is}
 use Rattle.storage.proofs.Answered.{Means, accepts, refuses}
 use Rattle.log_violation.proofs.Kept.{findings_kept_lem}
 use Rattle.log_violation.proofs.ViolationLaws.{Holds, all_hold, all_length, findings_long}
@@ -70,12 +70,12 @@ module _ (h : Bytes) (x : History) (s : Stands h x) where
       flags_mean h x s (certificates_of h) 0 ∙ ap (λ (cs : List Certificate). cond (some_relevant x.committed x.terms cs) 4 0) (certificates_stored h x s)
 
   -- the marks have moved, as the model's
-  marks : Stands (marks_moved h (committed_end h) 0 (word_at h 6 1)) (with_elections x (map (moved x.committed) x.certificates))
+  marks : Stands (marks_moved h (committed_end h) 0 (word_at h 6 1)) (with_certificates x (map (moved x.committed) x.certificates))
   unfolding moved
   marks =
-      subst (λ (n : ℕ). Stands (marks_moved h (committed_end h) 0 n) (with_elections x (map (moved x.committed) x.certificates)))
+      subst (λ (n : ℕ). Stands (marks_moved h (committed_end h) 0 n) (with_certificates x (map (moved x.committed) x.certificates)))
       (tabulate_length (certificate_row (certificates_part h)) 0 (word_at h 6 1))
-      (subst (λ (cs : List Certificate). Stands (marks_moved h (committed_end h) 0 (length (certificates_of h))) (with_elections x cs))
+      (subst (λ (cs : List Certificate). Stands (marks_moved h (committed_end h) 0 (length (certificates_of h))) (with_certificates x cs))
       (λ i. map (raised (end_is h x s i)) (certificates_stored h x s i))
       (marks_mean (certificates_of h) [] h x s (committed_end h) (end_small h s.right) (sym (certificates_stored h x s))))
 
@@ -105,8 +105,8 @@ module _ (h : Bytes) (x : History) (s : Stands h x) where
     unfolding judged_bytes check_written check_findings check_effect
     written =
         subst (λ (u : Bytes). Stands u (check_effect x)) (sym (cond_false (ltb 128 (check_held h)) h _ (le-ltb 128 _ few)))
-        (subst (λ (fs : List Finding). Stands (check_written h (check_table h) (check_held h) (committed_end h)) (with_noted (with_elections x (map (moved x.committed) x.certificates)) fs)) e
-        (findings_kept_lem (marks_moved h (committed_end h) 0 (word_at h 6 1)) (with_elections x (map (moved x.committed) x.certificates)) marks
+        (subst (λ (fs : List Finding). Stands (check_written h (check_table h) (check_held h) (committed_end h)) (with_findings (with_certificates x (map (moved x.committed) x.certificates)) fs)) e
+        (findings_kept_lem (marks_moved h (committed_end h) 0 (word_at h 6 1)) (with_certificates x (map (moved x.committed) x.certificates)) marks
         (check_table h) (check_held h) (lackings x.committed x.terms x.certificates) table_kept few (ap (every finding_right) e ∙ found_right) e))
 
     accepted_means : Means h x check (check_reply (judged_answer h)) (judged_bytes h)

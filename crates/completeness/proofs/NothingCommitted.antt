@@ -11,11 +11,10 @@ use lib.ListN.{length, take}
 use borrow.Author.Tests.{le-ltb, lt-leb}
 use Rattle.model.specs.Entry.{Prefix, with_all}
 use Rattle.model.specs.Refusal.{findingsFull}
-use Rattle.model.specs.History.{Finding, Certificate, History, noted}
+use Rattle.model.specs.History.{Finding, Certificate, History, noted, with_certificates, with_findings}
 use Rattle.model.specs.Terms.{with_mark}
 use Rattle.model.specs.Check.{last_below, relevant, lacks, lacking, moved, lackings, some_relevant, check_findings, check_refusal, check_value, check_effect}
 use Rattle.model.proofs.Tests.{tf, cond_false}
-use Rattle.storage.proofs.Meanings.{with_elections, with_noted}
 
 -- ---- one certificate
 
@@ -89,4 +88,4 @@ module _ (x : History) (e : x.committed ≡ []) where
   nothing_changed =
       let certificates-stay : map (moved x.committed) x.certificates ≡ x.certificates =
       ap (λ (p : Prefix). map (moved p) x.certificates) e ∙ all_stay x.certificates in
-      λ i. with_noted (with_elections x (certificates-stay i)) (findings_stay i)
+      λ i. with_findings (with_certificates x (certificates-stay i)) (findings_stay i)

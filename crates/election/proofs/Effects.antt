@@ -14,7 +14,7 @@ use borrow.Author.Tests.{lt-ltb, le-ltb, leb-false}
 use Rattle.model.specs.Sizes.{Bytes}
 use Rattle.model.specs.Entry.{Prefix}
 use Rattle.model.specs.Refusal.{Refusal, lengthExceedsFront, certificatesFull, numberTaken}
-use Rattle.model.specs.History.{Certificate, History, front_of}
+use Rattle.model.specs.History.{Certificate, History, front_of, with_certificates}
 use Rattle.model.specs.Election as model
 use Rattle.model.specs.Election.{held, taken, in_order, election_refusal, certificate, election_effect}
 use Rattle.model.proofs.Tests.{tf, cond_true, cond_false}
@@ -29,7 +29,7 @@ use Rattle.storage_bytes.proofs.ListLaws.{tabulate_length}
 use Rattle.storage.proofs.DecodeLaws.{CertificateNamed}
 use Rattle.storage.proofs.WellFormed.{certificates_are, formed}
 use Rattle.storage.proofs.Meanings as meanings
-use Rattle.storage.proofs.Meanings.{Stands, with_elections, certificates_stored}
+use Rattle.storage.proofs.Meanings.{Stands, certificates_stored}
 use Rattle.storage.proofs.OrderLaws.{held_is, election_written}
 use Rattle.prefix_lookup.specs.Prefix.{witness, front_through}
 use Rattle.prefix_lookup.proofs.Fronts.{front_cut}
@@ -204,16 +204,16 @@ module _ (h : Bytes) (x : History) (s : Stands h x) where
           let g = log_is x.prefixes l t (number t) p q n (front_of x l) log in
           λ i. record { leader = l; term = t; number = m i; log = g i; mark = 0 }
 
-      effect_is : with_elections x (in_order (certificate_in x.prefixes new) x.certificates) ≡ election_effect x l t p n
+      effect_is : with_certificates x (in_order (certificate_in x.prefixes new) x.certificates) ≡ election_effect x l t p n
       unfolding election_effect
-      effect_is = ap (λ (c : Certificate). with_elections x (in_order c x.certificates)) certificate_is
+      effect_is = ap (λ (c : Certificate). with_certificates x (in_order c x.certificates)) certificate_is
 
       kept_stands : Stands (certificate_added h (place t) new) (election_effect x l t p n)
       kept_stands =
           let e = certificates_are h in
           let w = election_written h x s new room new_fits new_named (ap (held_of t) (sym e)) in
           subst (λ (y : History). Stands (certificate_added h (place t) new) y) effect_is
-          (subst (λ (rs : List CertificateRow). Stands (certificate_added h (place_of t rs) new) (with_elections x (in_order (certificate_in x.prefixes new) x.certificates))) e w)
+          (subst (λ (rs : List CertificateRow). Stands (certificate_added h (place_of t rs) new) (with_certificates x (in_order (certificate_in x.prefixes new) x.certificates))) e w)
 
     -- an accepted election is kept
     effect_within : (q : ℕ) → q ≤ word_at h 0 2 → prefix_at x.prefixes q ≡ take n (front_of x l) → (a b : Bool) → full_in h ≡ a

@@ -8,7 +8,7 @@ use lib.Dec.{eqb}
 use lib.ListN.{length}
 use borrow.Author.Tests.{eq-eqb, ne_eqb, eqb-true}
 use Rattle.model.specs.Sizes.{Bytes}
-use Rattle.model.specs.History.{History, Finding, same_finding, noted}
+use Rattle.model.specs.History.{History, Finding, same_finding, noted, with_findings}
 use Rattle.model.proofs.Tests.{cond_cases, cond_true, cond_false}
 use Rattle.model.proofs.Members.{all_there}
 use Rattle.storage_bytes.specs.Lists.{every}
@@ -16,7 +16,7 @@ use Rattle.storage_bytes.specs.Words.{word_at, put_bytes, word_bytes}
 use Rattle.storage.specs.Tables.{finding_row, finding_rows, findings_part}
 use Rattle.storage.specs.Rules.{finding_right}
 use Rattle.storage_bytes.proofs.ListLaws.{tabulate_length}
-use Rattle.storage.proofs.Meanings.{Stands, with_noted, findings_stored, findings_taken}
+use Rattle.storage.proofs.Meanings.{Stands, findings_stored, findings_taken}
 use Rattle.log_violation.specs.Violation.{findings_written, findings_kept}
 use Rattle.log_violation.proofs.ViolationLaws.{written_length}
 
@@ -48,9 +48,9 @@ module _ (h : Bytes) (x : History) (s : Stands h x) (t : Bytes) (n : ℕ) (gs : 
       e ∙ all_there same_finding x.findings gs many
 
   pub findings_kept_lem : length t ≡ 1024 → n ≤ 128 → every finding_right (finding_rows t n) ≡ true → finding_rows t n ≡ noted x.findings gs
-      → Stands (findings_kept h t n) (with_noted x (finding_rows t n))
+      → Stands (findings_kept h t n) (with_findings x (finding_rows t n))
   unfolding findings_kept findings_written
   findings_kept_lem long few right e =
-      cond_cases (λ (u : Bytes). Stands u (with_noted x (finding_rows t n))) (eqb n (word_at h 7 1)) h (findings_written h t n)
-      (λ b. subst (λ (fs : List Finding). Stands h (with_noted x fs)) (sym (none_new e (eqb-true n (word_at h 7 1) b))) s)
+      cond_cases (λ (u : Bytes). Stands u (with_findings x (finding_rows t n))) (eqb n (word_at h 7 1)) h (findings_written h t n)
+      (λ b. subst (λ (fs : List Finding). Stands h (with_findings x fs)) (sym (none_new e (eqb-true n (word_at h 7 1) b))) s)
       (λ _. findings_taken h x s t n long few right)

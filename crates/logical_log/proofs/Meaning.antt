@@ -18,7 +18,7 @@ use Rattle.model.specs.Sizes.{Bytes}
 use Rattle.model.specs.Entry.{Entry, Prefix, prefixes, with_all}
 use Rattle.model.specs.Refusal.{Refusal, prefixesFull, findingsFull}
 use Rattle.model.specs.Record.{Shown, view, front, last_from, last_index}
-use Rattle.model.specs.History.{Finding, History, noted}
+use Rattle.model.specs.History.{Finding, History, noted, with_node, with_findings, with_prefixes, with_views, with_unseen}
 use Rattle.model.specs.Answer.{Answer, accepted, refused}
 use Rattle.model.specs.View.{begun_by, mismatches, stored, view_findings, view_refusal, view_effect}
 use Rattle.record_scan.specs.Places.{Walk, first_entry, index_at, term_at, next_at, entries_at, items_at}
@@ -33,7 +33,7 @@ use Rattle.storage_bytes.proofs.ListLaws.{tabulate_length, tabulate_at, every_at
 use Rattle.storage.proofs.DecodeLaws.{NodeNamed, node_named, FindingNamed}
 use Rattle.storage.proofs.RowFacts.{resolve_count}
 use Rattle.storage.proofs.WellFormed.{rows_count, formed}
-use Rattle.storage.proofs.Meanings.{Stands, with_prefixes, with_front, with_noted, prefixes_is, findings_stored, findings_right, noted_right, kept, unseen_read, node_written}
+use Rattle.storage.proofs.Meanings.{Stands, prefixes_is, findings_stored, findings_right, noted_right, kept, unseen_read, node_written}
 use Rattle.storage.proofs.Answered.{Means, accepts, refuses}
 use Rattle.view_writing.specs.Observation.{view_replaced}
 use Rattle.logical_log.specs.Observation.{view_written, observed, observed_bytes}
@@ -297,35 +297,30 @@ module _ (limit : ℕ) (h : Bytes) (x : History) (s : Bytes) (m node : ℕ) (st 
           unseen = unseen_small h₁ x₁ whole.stands node hn;
         }
 
-    second : Stands (view_replaced h₁ node p₁ (last_index E)) (with_front x₁ node (prefix_at x₁.prefixes p₁) (last_index E) (row_of_node (nodes_part h₁) node).unseen)
+    second : Stands (view_replaced h₁ node p₁ (last_index E)) (with_node x₁ node (prefix_at x₁.prefixes p₁) (last_index E) (row_of_node (nodes_part h₁) node).unseen)
     unfolding view_replaced
     second = node_written h₁ x₁ whole.stands node row hn named
 
     third : Stands (view_written h (word_at h 0 2) s m node (table_in h s m node) (held_in h s m node))
-        (with_noted (with_front x₁ node (prefix_at x₁.prefixes p₁) (last_index E) (row_of_node (nodes_part h₁) node).unseen) (finding_rows (table_in h s m node) (held_in h s m node)))
+        (with_findings (with_node x₁ node (prefix_at x₁.prefixes p₁) (last_index E) (row_of_node (nodes_part h₁) node).unseen) (finding_rows (table_in h s m node) (held_in h s m node)))
     unfolding view_written view_findings
     third =
         findings_kept_lem (view_replaced h₁ node p₁ (last_index E)) _ second (table_in h s m node) (held_in h s m node)
         (mismatches x.prefixes node (begun_by F)) (table_length h s m node st.right) held_few.0 all_right held_few.1
 
-    same_history : with_noted (with_front x₁ node (prefix_at x₁.prefixes p₁) (last_index E) (row_of_node (nodes_part h₁) node).unseen) (finding_rows (table_in h s m node) (held_in h s m node))
+    same_history : with_findings (with_node x₁ node (prefix_at x₁.prefixes p₁) (last_index E) (row_of_node (nodes_part h₁) node).unseen) (finding_rows (table_in h s m node) (held_in h s m node))
         ≡ view_effect x node E
     unfolding view_effect stored
     same_history =
         let fr = whole.is in
         let un = ap (set x.unseen node) unseen_same ∙ set-get_or x.unseen node 0 in
         let fi = held_few.1 in
-        λ j. record {
-          prefixes = with_all prefixes x.prefixes (begun_by F);
-          fronts = set x.fronts node (fr j);
-          lasts = set x.lasts node (last_index E);
-          unseen = un j;
-          committed = x.committed;
-          owner = x.owner;
-          terms = x.terms;
-          certificates = x.certificates;
-          findings = fi j;
-        }
+        λ j.
+        with_findings
+        (with_unseen
+        (with_views (with_prefixes x (with_all prefixes x.prefixes (begun_by F))) (set x.fronts node (fr j)) (set x.lasts node (last_index E)))
+        (un j))
+        (fi j)
 
     accepted_bytes : Stands (observed_bytes limit h s m node) (view_effect x node E)
     accepted_bytes = subst (λ (u : Bytes). Stands u (view_effect x node E)) (sym ok.bytes) (subst (Stands _) same_history third)

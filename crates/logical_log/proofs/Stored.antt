@@ -11,7 +11,7 @@ use borrow.Author.Tests.{eqb-true, eqb-false}
 use Rattle.model.specs.Sizes.{Bytes}
 use Rattle.model.specs.Entry.{Entry, Prefix, prefixes, with, with_all}
 use Rattle.model.specs.Record.{front_from}
-use Rattle.model.specs.History.{History}
+use Rattle.model.specs.History.{History, with_prefixes}
 use Rattle.model.specs.View.{begun}
 use Rattle.model.proofs.Tests.{either}
 use Rattle.record_scan.specs.Places.{Walk, index_at, next_at, entries_at}
@@ -19,7 +19,7 @@ use Rattle.bit_fields.proofs.Widths.{field_lt}
 use Rattle.record_walk.proofs.Walks.{walk_entered}
 use Rattle.storage_bytes.specs.Words.{word_at}
 use Rattle.storage.specs.Decode.{prefix_at}
-use Rattle.storage.proofs.Meanings.{Stands, with_prefixes}
+use Rattle.storage.proofs.Meanings.{Stands}
 use Rattle.log_prefix.specs.Extension.{extended_bytes, extended_count, extended_number, written_bytes, written_count, written_number}
 use Rattle.view_judging.proofs.Places.{front_suc, front_cut, front_zero, walk_more, content_short}
 use Rattle.log_prefix.proofs.Written.{count_grows, written_cons}

@@ -67,6 +67,20 @@ sheet_of ss =
       committed = committed_length h ∷ committed_owner h ∷ [];
     }
 
+-- these answers, and nothing to show
+abbrev quiet : List (List ℕ) → Sheet
+quiet as' =
+    record {
+      answers = as';
+      fronts = [];
+      terms = [];
+      findings = [];
+      leaders = [];
+      unseen = [];
+      unknown = [];
+      committed = 0 ∷ 0 ∷ [];
+    }
+
 pub record Case : Type 0 where
   pub records : List Bytes
   pub expected : Sheet
@@ -76,17 +90,7 @@ P1 : Case
 P1 =
     record {
       records = (0x50 ∷ []) ∷ [];
-      expected =
-          record {
-            answers = (0 ∷ 0 ∷ 0 ∷ []) ∷ [];
-            fronts = [];
-            terms = [];
-            findings = [];
-            leaders = [];
-            unseen = [];
-            unknown = [];
-            committed = 0 ∷ 0 ∷ [];
-          };
+      expected = quiet ((0 ∷ 0 ∷ 0 ∷ []) ∷ []);
     }
 
 -- P2 the nine bytes of the printed sheet: node 1 has front 1, its entry of term 1 with no content
@@ -112,17 +116,7 @@ P3 : Case
 P3 =
     record {
       records = (0x10 ∷ 0x40 ∷ 0x10 ∷ 0x04 ∷ 0x00 ∷ 0x00 ∷ 0x00 ∷ 0x04 ∷ 0x01 ∷ []) ∷ [];
-      expected =
-          record {
-            answers = (3 ∷ 0 ∷ 0 ∷ []) ∷ [];
-            fronts = [];
-            terms = [];
-            findings = [];
-            leaders = [];
-            unseen = [];
-            unknown = [];
-            committed = 0 ∷ 0 ∷ [];
-          };
+      expected = quiet ((3 ∷ 0 ∷ 0 ∷ []) ∷ []);
     }
 
 -- P4 that byte gone: 2
@@ -130,17 +124,7 @@ P4 : Case
 P4 =
     record {
       records = (0x10 ∷ 0x40 ∷ 0x10 ∷ 0x04 ∷ 0x00 ∷ 0x00 ∷ 0x00 ∷ 0x04 ∷ []) ∷ [];
-      expected =
-          record {
-            answers = (2 ∷ 0 ∷ 0 ∷ []) ∷ [];
-            fronts = [];
-            terms = [];
-            findings = [];
-            leaders = [];
-            unseen = [];
-            unknown = [];
-            committed = 0 ∷ 0 ∷ [];
-          };
+      expected = quiet ((2 ∷ 0 ∷ 0 ∷ []) ∷ []);
     }
 
 -- P5 empty: 2
@@ -148,17 +132,7 @@ P5 : Case
 P5 =
     record {
       records = [] ∷ [];
-      expected =
-          record {
-            answers = (2 ∷ 0 ∷ 0 ∷ []) ∷ [];
-            fronts = [];
-            terms = [];
-            findings = [];
-            leaders = [];
-            unseen = [];
-            unknown = [];
-            committed = 0 ∷ 0 ∷ [];
-          };
+      expected = quiet ((2 ∷ 0 ∷ 0 ∷ []) ∷ []);
     }
 
 -- P6 byte 00: 1
@@ -166,17 +140,7 @@ P6 : Case
 P6 =
     record {
       records = (0x00 ∷ []) ∷ [];
-      expected =
-          record {
-            answers = (1 ∷ 0 ∷ 0 ∷ []) ∷ [];
-            fronts = [];
-            terms = [];
-            findings = [];
-            leaders = [];
-            unseen = [];
-            unknown = [];
-            committed = 0 ∷ 0 ∷ [];
-          };
+      expected = quiet ((1 ∷ 0 ∷ 0 ∷ []) ∷ []);
     }
 
 -- P7 entry index 256 is accepted, and is past the front; 257: 4
@@ -184,17 +148,7 @@ P7 : Case
 P7 =
     record {
       records = (0x10 ∷ 0x40 ∷ 0x14 ∷ 0x00 ∷ 0x00 ∷ 0x00 ∷ 0x00 ∷ 0x04 ∷ 0x00 ∷ []) ∷ (0x10 ∷ 0x40 ∷ 0x14 ∷ 0x04 ∷ 0x00 ∷ 0x00 ∷ 0x00 ∷ 0x04 ∷ 0x00 ∷ []) ∷ [];
-      expected =
-          record {
-            answers = (0 ∷ 0 ∷ 0 ∷ []) ∷ (4 ∷ 0 ∷ 0 ∷ []) ∷ [];
-            fronts = [];
-            terms = [];
-            findings = [];
-            leaders = [];
-            unseen = [];
-            unknown = [];
-            committed = 0 ∷ 0 ∷ [];
-          };
+      expected = quiet ((0 ∷ 0 ∷ 0 ∷ []) ∷ (4 ∷ 0 ∷ 0 ∷ []) ∷ []);
     }
 
 -- P8 entries 1 and 3, commit 2: unseen

@@ -6,7 +6,7 @@ use Rattle.std.proofs.Math.Option.{Option, none, some}
 use Rattle.model.specs.Sizes.{finding_limit}
 use Rattle.model.specs.Entry.{Prefix, begins}
 use Rattle.model.specs.Refusal.{Refusal, findingsFull}
-use Rattle.model.specs.History.{Finding, Certificate, History, noted}
+use Rattle.model.specs.History.{Finding, Certificate, History, with_certificates, with_findings, noted}
 use Rattle.model.specs.Terms.{with_mark}
 
 -- ---- one certificate
@@ -70,15 +70,4 @@ check_value h = cond (some_relevant h.committed h.terms h.certificates) 4 0
 
 unfoldable pub check_effect : History → History
 unfolding check_findings moved
-check_effect h =
-    record {
-      prefixes = h.prefixes;
-      fronts = h.fronts;
-      lasts = h.lasts;
-      unseen = h.unseen;
-      committed = h.committed;
-      owner = h.owner;
-      terms = h.terms;
-      certificates = map (moved h.committed) h.certificates;
-      findings = check_findings h;
-    }
+check_effect h = with_findings (with_certificates h (map (moved h.committed) h.certificates)) (check_findings h)

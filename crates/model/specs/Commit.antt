@@ -5,7 +5,7 @@ use Rattle.std.proofs.Math.Option.{Option, none, some}
 use Rattle.model.specs.Sizes.{finding_limit}
 use Rattle.model.specs.Entry.{Prefix, agree}
 use Rattle.model.specs.Refusal.{Refusal, findingsFull}
-use Rattle.model.specs.History.{Finding, History, front_of, noted}
+use Rattle.model.specs.History.{Finding, History, with_unseen, with_committed, with_findings, front_of, noted}
 
 -- the committed prefix seen: the node's front through the index, where it reaches it. Empty where nothing is seen, at
 -- index zero too.
@@ -53,14 +53,10 @@ commit_value h n i = agreement n h.owner h.committed (seen h n i)
 unfoldable pub commit_effect : History → ℕ → ℕ → History
 unfolding replaces commit_findings
 commit_effect h n i =
-    record {
-      prefixes = h.prefixes;
-      fronts = h.fronts;
-      lasts = h.lasts;
-      unseen = set h.unseen n (unseen_mark (front_of h n) i);
-      committed = cond (replaces h.committed (seen h n i)) (seen h n i) h.committed;
-      owner = cond (replaces h.committed (seen h n i)) n h.owner;
-      terms = h.terms;
-      certificates = h.certificates;
-      findings = commit_findings h n i;
-    }
+    let kept = replaces h.committed (seen h n i) in
+    with_findings
+    (with_committed
+    (with_unseen h (set h.unseen n (unseen_mark (front_of h n) i)))
+    (cond kept (seen h n i) h.committed)
+    (cond kept n h.owner))
+    (commit_findings h n i)

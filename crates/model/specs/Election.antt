@@ -5,7 +5,7 @@ use Rattle.std.proofs.Math.Option.{Option, none, some}
 use Rattle.model.specs.Sizes.{certificate_limit}
 use Rattle.model.specs.Entry.{Prefix}
 use Rattle.model.specs.Refusal.{Refusal, lengthExceedsFront, certificatesFull, numberTaken}
-use Rattle.model.specs.History.{Certificate, History, front_of}
+use Rattle.model.specs.History.{Certificate, History, with_certificates, front_of}
 
 -- "the first `length` entries of the leader's front, or none"
 abbrev pub log_of : Bool → ℕ → Prefix → Option Prefix
@@ -43,15 +43,4 @@ certificate h l t p n =
 
 unfoldable pub election_effect : History → ℕ → ℕ → Bool → ℕ → History
 unfolding in_order certificate
-election_effect h l t p n =
-    record {
-      prefixes = h.prefixes;
-      fronts = h.fronts;
-      lasts = h.lasts;
-      unseen = h.unseen;
-      committed = h.committed;
-      owner = h.owner;
-      terms = h.terms;
-      certificates = in_order (certificate h l t p n) h.certificates;
-      findings = h.findings;
-    }
+election_effect h l t p n = with_certificates h (in_order (certificate h l t p n) h.certificates)

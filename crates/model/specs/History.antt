@@ -1,6 +1,6 @@
 -- The history: what it holds, and the fresh one.
 -- Assumes nothing.
-use Rattle.std.specs.Prelude.{ℕ, ◌≡◌, List, [], ◌∷◌, get_or, replicate}
+use Rattle.std.specs.Prelude.{ℕ, ◌≡◌, List, [], ◌∷◌, get_or, set, replicate}
 use Rattle.std.proofs.Math.Decide.{ℕ_discrete}
 use Rattle.std.proofs.Common.{ap}
 use Rattle.std.proofs.Math.Option.{Option}
@@ -51,6 +51,112 @@ fresh =
       terms = [];
       certificates = [];
       findings = [];
+    }
+
+-- ---- a history with one thing changed. Whatever changes a history says so by these, so a field more is a line more in each here.
+
+abbrev pub with_prefixes : History → List Prefix → History
+with_prefixes h ps =
+    record {
+      prefixes = ps;
+      fronts = h.fronts;
+      lasts = h.lasts;
+      unseen = h.unseen;
+      committed = h.committed;
+      owner = h.owner;
+      terms = h.terms;
+      certificates = h.certificates;
+      findings = h.findings;
+    }
+
+-- of each node its front and the last index of its view
+abbrev pub with_views : History → List Prefix → List ℕ → History
+with_views h fs ls =
+    record {
+      prefixes = h.prefixes;
+      fronts = fs;
+      lasts = ls;
+      unseen = h.unseen;
+      committed = h.committed;
+      owner = h.owner;
+      terms = h.terms;
+      certificates = h.certificates;
+      findings = h.findings;
+    }
+
+abbrev pub with_unseen : History → List ℕ → History
+with_unseen h is =
+    record {
+      prefixes = h.prefixes;
+      fronts = h.fronts;
+      lasts = h.lasts;
+      unseen = is;
+      committed = h.committed;
+      owner = h.owner;
+      terms = h.terms;
+      certificates = h.certificates;
+      findings = h.findings;
+    }
+
+-- of node n its front, the last index of its view and its unseen mark
+abbrev pub with_node : History → ℕ → Prefix → ℕ → ℕ → History
+with_node h n front last unseen = with_unseen (with_views h (set h.fronts n front) (set h.lasts n last)) (set h.unseen n unseen)
+
+-- the committed prefix and its owner
+abbrev pub with_committed : History → Prefix → ℕ → History
+with_committed h p n =
+    record {
+      prefixes = h.prefixes;
+      fronts = h.fronts;
+      lasts = h.lasts;
+      unseen = h.unseen;
+      committed = p;
+      owner = n;
+      terms = h.terms;
+      certificates = h.certificates;
+      findings = h.findings;
+    }
+
+abbrev pub with_terms : History → List ℕ → History
+with_terms h ts =
+    record {
+      prefixes = h.prefixes;
+      fronts = h.fronts;
+      lasts = h.lasts;
+      unseen = h.unseen;
+      committed = h.committed;
+      owner = h.owner;
+      terms = ts;
+      certificates = h.certificates;
+      findings = h.findings;
+    }
+
+abbrev pub with_certificates : History → List Certificate → History
+with_certificates h cs =
+    record {
+      prefixes = h.prefixes;
+      fronts = h.fronts;
+      lasts = h.lasts;
+      unseen = h.unseen;
+      committed = h.committed;
+      owner = h.owner;
+      terms = h.terms;
+      certificates = cs;
+      findings = h.findings;
+    }
+
+abbrev pub with_findings : History → List Finding → History
+with_findings h fs =
+    record {
+      prefixes = h.prefixes;
+      fronts = h.fronts;
+      lasts = h.lasts;
+      unseen = h.unseen;
+      committed = h.committed;
+      owner = h.owner;
+      terms = h.terms;
+      certificates = h.certificates;
+      findings = fs;
     }
 
 -- a node's front; a node without a view has the empty one

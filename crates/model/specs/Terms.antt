@@ -3,7 +3,7 @@
 use Rattle.std.specs.Prelude.{ℕ, ◌+◌, ◌-◌, Bool, cond, ◌&&◌, ◌||◌, List, [], ◌∷◌, ◌++◌, map, leb, ltb, eqb, length, replicate}
 use Rattle.std.proofs.Math.Option.{Option, none, some}
 use Rattle.model.specs.Refusal.{Refusal, old_exceeds_new}
-use Rattle.model.specs.History.{Certificate, History}
+use Rattle.model.specs.History.{Certificate, History, with_terms, with_certificates}
 
 -- "the list is lengthened with zeros to new"
 unfoldable pub lengthened : ℕ → List ℕ → List ℕ
@@ -48,14 +48,6 @@ terms_refusal old new = cond (ltb new old) (some old_exceeds_new) none
 unfoldable pub terms_effect : History → ℕ → ℕ → ℕ → History
 unfolding recorded first_changed lowered
 terms_effect h old new t =
-    record {
-      prefixes = h.prefixes;
-      fronts = h.fronts;
-      lasts = h.lasts;
-      unseen = h.unseen;
-      committed = h.committed;
-      owner = h.owner;
-      terms = recorded old new t h.terms;
-      certificates = map (lowered t (first_changed old new t h.terms)) h.certificates;
-      findings = h.findings;
-    }
+    with_certificates
+    (with_terms h (recorded old new t h.terms))
+    (map (lowered t (first_changed old new t h.terms)) h.certificates)

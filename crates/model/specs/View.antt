@@ -6,7 +6,7 @@ use Rattle.model.specs.Sizes.{finding_limit}
 use Rattle.model.specs.Entry.{Entry, Prefix, prefixes, same, last_term, with_all}
 use Rattle.model.specs.Refusal.{Refusal, prefixesFull, findingsFull}
 use Rattle.model.specs.Record.{Shown, front_from, front, last_from, last_index}
-use Rattle.model.specs.History.{Finding, History, noted}
+use Rattle.model.specs.History.{Finding, History, with_prefixes, with_views, with_findings, noted}
 
 -- the prefixes that the entries es go through, one for each, after those of p
 unfoldable pub begun : Prefix → List Entry → List Prefix
@@ -59,14 +59,6 @@ view_refusal limit h n es =
 unfoldable pub view_effect : History → ℕ → List Shown → History
 unfolding front_from last_from stored view_findings
 view_effect h n es =
-    record {
-      prefixes = stored h.prefixes (front es);
-      fronts = set h.fronts n (front es);
-      lasts = set h.lasts n (last_index es);
-      unseen = h.unseen;
-      committed = h.committed;
-      owner = h.owner;
-      terms = h.terms;
-      certificates = h.certificates;
-      findings = view_findings h n (front es);
-    }
+    with_findings
+    (with_views (with_prefixes h (stored h.prefixes (front es))) (set h.fronts n (front es)) (set h.lasts n (last_index es)))
+    (view_findings h n (front es))

@@ -11,10 +11,10 @@ use lib.ListN.{length, set, length-append}
 use borrow.Author.Tests.{leb-true, eqb-true, le-leb, eq-eqb}
 use Rattle.model.specs.Sizes.{Bytes}
 use Rattle.model.specs.Entry.{Prefix}
-use Rattle.model.specs.History.{Finding}
+use Rattle.model.specs.History.{Finding, with_prefixes, with_views, with_unseen, with_node, with_committed, with_certificates}
 use Rattle.storage_bytes.specs.Lists.{every}
 use Rattle.storage_bytes.specs.Words.{word_at}
-use Rattle.storage.specs.Tables.{PrefixRow, NodeRow, CertificateRow, Tables, tables_in, tables_of, head_part, prefixes_part, with_row, with_node, with_committed, with_terms, with_certificates, with_findings}
+use Rattle.storage.specs.Tables.{PrefixRow, NodeRow, CertificateRow, Tables, tables_in, tables_of, head_part, prefixes_part, with_prefix_row, with_node_row, with_committed_number, with_term_rows, with_certificate_rows, with_finding_rows}
 use Rattle.storage.specs.Decode.{prefix_at, extended, resolve, front_in, certificate_in, history_in, decode}
 use Rattle.storage.specs.Rules.{node_right, certificate_right, finding_right, numbered, prefix_right, prefixes_right_after, within_limits, committed_right, tables_right, well_formed}
 use Rattle.storage_bytes.proofs.ListLaws.{both, every_weaker, every_set, map_set, map_every}
@@ -145,7 +145,7 @@ module _ (t : Tables) (k : Kept t) where
   limited : Limited (length t.rows) (length t.terms) (length t.certificates) (length t.findings)
   limited = within _ _ _ _ k.limits
 
-  pub kept_node : (i : ℕ) (x : NodeRow) → NodeNamed (length t.rows) x → Kept (with_node t i x)
+  pub kept_node : (i : ℕ) (x : NodeRow) → NodeNamed (length t.rows) x → Kept (with_node_row t i x)
   kept_node i x f =
       record {
         limits = k.limits;
@@ -157,7 +157,7 @@ module _ (t : Tables) (k : Kept t) where
         rows = k.rows;
       }
 
-  pub kept_committed : (p o : ℕ) → p ≤ length t.rows → o ≤ 63 → Kept (with_committed t p o)
+  pub kept_committed : (p o : ℕ) → p ≤ length t.rows → o ≤ 63 → Kept (with_committed_number t p o)
   kept_committed p o h g =
       record {
         limits = k.limits;
@@ -169,7 +169,7 @@ module _ (t : Tables) (k : Kept t) where
         rows = k.rows;
       }
 
-  pub kept_terms : (ts : List ℕ) → length ts ≤ 256 → Kept (with_terms t ts)
+  pub kept_terms : (ts : List ℕ) → length ts ≤ 256 → Kept (with_term_rows t ts)
   kept_terms ts h =
       record {
         limits = within_test _ _ _ _ (record { prefixes = limited.prefixes; terms = h; certificates = limited.certificates; findings = limited.findings });
@@ -182,7 +182,7 @@ module _ (t : Tables) (k : Kept t) where
       }
 
   pub kept_certificates : (cs : List CertificateRow) → length cs ≤ 64 → every (certificate_right (length t.rows)) cs ≡ true → numbered cs ≡ true
-      → Kept (with_certificates t cs)
+      → Kept (with_certificate_rows t cs)
   kept_certificates cs h e m =
       record {
         limits = within_test _ _ _ _ (record { prefixes = limited.prefixes; terms = limited.terms; certificates = h; findings = limited.findings });
@@ -194,7 +194,7 @@ module _ (t : Tables) (k : Kept t) where
         rows = k.rows;
       }
 
-  pub kept_findings : (fs : List Finding) → length fs ≤ 128 → every finding_right fs ≡ true → Kept (with_findings t fs)
+  pub kept_findings : (fs : List Finding) → length fs ≤ 128 → every finding_right fs ≡ true → Kept (with_finding_rows t fs)
   kept_findings fs h e =
       record {
         limits = within_test _ _ _ _ (record { prefixes = limited.prefixes; terms = limited.terms; certificates = limited.certificates; findings = h });
@@ -206,7 +206,7 @@ module _ (t : Tables) (k : Kept t) where
         rows = k.rows;
       }
 
-  pub kept_row : (x : PrefixRow) → length t.rows < 512 → prefix_right t.rows x ≡ true → Kept (with_row t x)
+  pub kept_row : (x : PrefixRow) → length t.rows < 512 → prefix_right t.rows x ≡ true → Kept (with_prefix_row t x)
   kept_row x h e =
       let l : length (t.rows ++ (x ∷ [])) ≡ length t.rows + 1 = length-append t.rows (x ∷ []) in
       let c = committed_named _ _ _ k.committed in
@@ -233,67 +233,39 @@ unfolding decode
 decode_is h = refl
 
 -- a node's front, last index and unseen mark
-pub history_node : (t : Tables) (i : ℕ) (x : NodeRow) → history_in (with_node t i x)
-    ≡ record {
-      prefixes = (history_in t).prefixes;
-      fronts = set (history_in t).fronts i (prefix_at (history_in t).prefixes x.front);
-      lasts = set (history_in t).lasts i x.last;
-      unseen = set (history_in t).unseen i x.unseen;
-      committed = (history_in t).committed;
-      owner = (history_in t).owner;
-      terms = (history_in t).terms;
-      certificates = (history_in t).certificates;
-      findings = (history_in t).findings;
-    }
+pub history_node : (t : Tables) (i : ℕ) (x : NodeRow) → history_in (with_node_row t i x)
+    ≡ with_node (history_in t) i (prefix_at (history_in t).prefixes x.front) x.last x.unseen
 history_node t i x =
     λ j.
-    record {
-      prefixes = (history_in t).prefixes;
-      fronts = map_set (front_in (resolve t.rows)) t.nodes i x j;
-      lasts = map_set (λ (y : NodeRow). y.last) t.nodes i x j;
-      unseen = map_set (λ (y : NodeRow). y.unseen) t.nodes i x j;
-      committed = (history_in t).committed;
-      owner = (history_in t).owner;
-      terms = (history_in t).terms;
-      certificates = (history_in t).certificates;
-      findings = (history_in t).findings;
-    }
+    with_unseen
+    (with_views (history_in t)
+    (map_set (front_in (resolve t.rows)) t.nodes i x j)
+    (map_set (λ (y : NodeRow). y.last) t.nodes i x j))
+    (map_set (λ (y : NodeRow). y.unseen) t.nodes i x j)
 
 -- a row more is a prefix more; every prefix named before keeps its entries
-pub history_row : (t : Tables) (x : PrefixRow) → Kept t → history_in (with_row t x)
-    ≡ record {
-      prefixes = (history_in t).prefixes ++ (extended (history_in t).prefixes x ∷ []);
-      fronts = (history_in t).fronts;
-      lasts = (history_in t).lasts;
-      unseen = (history_in t).unseen;
-      committed = (history_in t).committed;
-      owner = (history_in t).owner;
-      terms = (history_in t).terms;
-      certificates = (history_in t).certificates;
-      findings = (history_in t).findings;
-    }
+pub history_row : (t : Tables) (x : PrefixRow) → Kept t → history_in (with_prefix_row t x)
+    ≡ with_prefixes (history_in t) ((history_in t).prefixes ++ (extended (history_in t).prefixes x ∷ []))
 history_row t x k =
     λ j.
+    with_certificates
+    (with_committed
+    (with_views
+    (with_prefixes (history_in t) (resolve_snoc [] t.rows x j))
+    (map_every (node_right (length t.rows)) (front_in (resolve (t.rows ++ (x ∷ [])))) (front_in (resolve t.rows)) t.nodes
+    (λ y q. same y.front (node_named _ y q).front) k.nodes j)
+    (history_in t).lasts)
+    (same t.committed (committed_named _ _ _ k.committed).0 j)
+    (history_in t).owner)
+    (map_every (certificate_right (length t.rows)) (certificate_in (resolve (t.rows ++ (x ∷ [])))) (certificate_in (resolve t.rows)) t.certificates
+    (λ y q i.
     record {
-      prefixes = resolve_snoc [] t.rows x j;
-      fronts = map_every (node_right (length t.rows)) (front_in (resolve (t.rows ++ (x ∷ [])))) (front_in (resolve t.rows)) t.nodes
-          (λ y q. same y.front (node_named _ y q).front) k.nodes j;
-      lasts = (history_in t).lasts;
-      unseen = (history_in t).unseen;
-      committed = same t.committed (committed_named _ _ _ k.committed).0 j;
-      owner = (history_in t).owner;
-      terms = (history_in t).terms;
-      certificates = map_every (certificate_right (length t.rows)) (certificate_in (resolve (t.rows ++ (x ∷ [])))) (certificate_in (resolve t.rows)) t.certificates
-          (λ y q i.
-          record {
-            leader = y.leader;
-            term = y.term;
-            number = y.number;
-            log = cond (eqb y.present 0) none (some (same y.log (certificate_named _ y q).log i));
-            mark = y.mark;
-          }) k.certificates j;
-      findings = (history_in t).findings;
-    }
+      leader = y.leader;
+      term = y.term;
+      number = y.number;
+      log = cond (eqb y.present 0) none (some (same y.log (certificate_named _ y q).log i));
+      mark = y.mark;
+    }) k.certificates j)
   where
     same : (p : ℕ) → p ≤ length t.rows → prefix_at (resolve (t.rows ++ (x ∷ []))) p ≡ prefix_at (resolve t.rows) p
     same p h =

@@ -10,11 +10,11 @@ use mathlib.Core.List.{List, [], ◌∷◌, ◌++◌, map, Memᴰ}
 use lib.ListN.{length, get_or, set, take, drop, replicate, length-set, length-append, length-replicate, length-map, take-append-drop, get_or-map}
 use Rattle.model.specs.Sizes.{Bytes}
 use Rattle.model.specs.Entry.{Prefix, is_in, with, with_all}
-use Rattle.model.specs.History.{fresh, Certificate, Finding, History, same_finding, noted}
+use Rattle.model.specs.History.{fresh, Certificate, Finding, History, same_finding, noted, with_node, with_committed, with_terms, with_certificates, with_findings, with_prefixes}
 use Rattle.model.proofs.Tests.{cond_cases}
 use Rattle.storage_bytes.specs.Lists.{every}
 use Rattle.storage_bytes.specs.Words.{word_at, word_bytes, put_bytes}
-use Rattle.storage.specs.Tables.{NodeRow, CertificateRow, Tables, row_of_node, term_row, finding_row, rows_of_prefixes, term_rows, rows_of_certificates, finding_rows, head_part, nodes_part, terms_part, certificates_part, findings_part, prefixes_part, tables_in, tables_of, with_row, with_node, with_committed, with_terms, with_certificates, with_findings}
+use Rattle.storage.specs.Tables.{NodeRow, CertificateRow, Tables, row_of_node, term_row, finding_row, rows_of_prefixes, term_rows, rows_of_certificates, finding_rows, head_part, nodes_part, terms_part, certificates_part, findings_part, prefixes_part, tables_in, tables_of, with_prefix_row, with_node_row, with_committed_number, with_term_rows, with_certificate_rows, with_finding_rows}
 use Rattle.storage.specs.Decode.{prefix_at, extended, resolve, front_in, certificate_in, history_in, decode}
 use Rattle.storage.specs.Rules.{certificate_right, finding_right, numbered, prefix_right, well_formed}
 use Rattle.storage.specs.Values.{number_index, committed_end}
@@ -116,92 +116,6 @@ noted_right (g ∷ gs) fs e f =
 
 -- ---- what is written
 
--- the histories that single writes lead to
-
-abbrev pub with_front : History → ℕ → Prefix → ℕ → ℕ → History
-with_front x k front last unseen =
-    record {
-      prefixes = x.prefixes;
-      fronts = set x.fronts k front;
-      lasts = set x.lasts k last;
-      unseen = set x.unseen k unseen;
-      committed = x.committed;
-      owner = x.owner;
-      terms = x.terms;
-      certificates = x.certificates;
-      findings = x.findings;
-    }
-
-abbrev pub with_prefixes : History → List Prefix → History
-with_prefixes x ps =
-    record {
-      prefixes = ps;
-      fronts = x.fronts;
-      lasts = x.lasts;
-      unseen = x.unseen;
-      committed = x.committed;
-      owner = x.owner;
-      terms = x.terms;
-      certificates = x.certificates;
-      findings = x.findings;
-    }
-
-abbrev pub with_committed_prefix : History → Prefix → ℕ → History
-with_committed_prefix x p o =
-    record {
-      prefixes = x.prefixes;
-      fronts = x.fronts;
-      lasts = x.lasts;
-      unseen = x.unseen;
-      committed = p;
-      owner = o;
-      terms = x.terms;
-      certificates = x.certificates;
-      findings = x.findings;
-    }
-
-abbrev pub with_commit_terms : History → List ℕ → History
-with_commit_terms x ts =
-    record {
-      prefixes = x.prefixes;
-      fronts = x.fronts;
-      lasts = x.lasts;
-      unseen = x.unseen;
-      committed = x.committed;
-      owner = x.owner;
-      terms = ts;
-      certificates = x.certificates;
-      findings = x.findings;
-    }
-
-abbrev pub with_elections : History → List Certificate → History
-with_elections x cs =
-    record {
-      prefixes = x.prefixes;
-      fronts = x.fronts;
-      lasts = x.lasts;
-      unseen = x.unseen;
-      committed = x.committed;
-      owner = x.owner;
-      terms = x.terms;
-      certificates = cs;
-      findings = x.findings;
-    }
-
-abbrev pub with_noted : History → List Finding → History
-with_noted x fs =
-    record {
-      prefixes = x.prefixes;
-      fronts = x.fronts;
-      lasts = x.lasts;
-      unseen = x.unseen;
-      committed = x.committed;
-      owner = x.owner;
-      terms = x.terms;
-      certificates = x.certificates;
-      findings = fs;
-    }
-
 module _ (h : Bytes) (x : History) (s : Stands h x) where
   pub long : length h ≡ 24137
   long = (well_formed_parts h s.right).0
@@ -249,34 +163,34 @@ module _ (h : Bytes) (x : History) (s : Stands h x) where
   unfolding committed_end
   end_is = number_length (word_at h 4 2) (formed h s.right).committed ∙ ap length committed_stored
 
-  certificates_change : (cs : List CertificateRow) → history_in (with_certificates (tables_of h) cs) ≡ with_elections x (map (certificate_in x.prefixes) cs)
-  certificates_change cs = ap (λ (y : History). with_elections y (map (certificate_in y.prefixes) cs)) is
+  certificates_change : (cs : List CertificateRow) → history_in (with_certificate_rows (tables_of h) cs) ≡ with_certificates x (map (certificate_in x.prefixes) cs)
+  certificates_change cs = ap (λ (y : History). with_certificates y (map (certificate_in y.prefixes) cs)) is
 
   -- a node's row
   pub node_written : (k : ℕ) (n : NodeRow) → k < 64 → NodeNamed (word_at h 0 2) n
-      → Stands (put_bytes h (9 + k * 6) (node_bytes n)) (with_front x k (prefix_at x.prefixes n.front) n.last n.unseen)
+      → Stands (put_bytes h (9 + k * 6) (node_bytes n)) (with_node x k (prefix_at x.prefixes n.front) n.last n.unseen)
   node_written k n l f =
       let c = within _ _ _ _ kept.limits in
       let r = rows_count h in
       let g : NodeNamed (length (tables_of h).rows) n = record { front = omega (arith, f.front); last = f.last; unseen = f.unseen } in
-      stands (put_bytes h (9 + k * 6) (node_bytes n)) (with_node (tables_of h) k n) _
+      stands (put_bytes h (9 + k * 6) (node_bytes n)) (with_node_row (tables_of h) k n) _
       (put_length h (9 + k * 6) (node_bytes n) ∙ long)
       (set_node h long k n l (record { front = omega (arith, g.front, c.prefixes); last = omega (arith, f.last); unseen = omega (arith, f.unseen) }))
       (kept_node (tables_of h) kept k n g)
-      (history_node (tables_of h) k n ∙ ap (λ (y : History). with_front y k (prefix_at y.prefixes n.front) n.last n.unseen) is)
+      (history_node (tables_of h) k n ∙ ap (λ (y : History). with_node y k (prefix_at y.prefixes n.front) n.last n.unseen) is)
 
   -- the committed prefix and its owner
   pub committed_written : (p o : ℕ) → p ≤ word_at h 0 2 → o ≤ 63
-      → Stands (committed_set h p o) (with_committed_prefix x (prefix_at x.prefixes p) o)
+      → Stands (committed_set h p o) (with_committed x (prefix_at x.prefixes p) o)
   unfolding committed_set
   committed_written p o a b =
       let c = within _ _ _ _ kept.limits in
       let r = rows_count h in
-      stands (committed_set h p o) (with_committed (tables_of h) p o) _
+      stands (committed_set h p o) (with_committed_number (tables_of h) p o) _
       (put_length (put_bytes h 4 (word_bytes 2 p)) 8 (word_bytes 1 o) ∙ put_length h 4 (word_bytes 2 p) ∙ long)
       (committed_set_lem h long p o (omega (arith, c.prefixes)) (omega arith))
       (kept_committed (tables_of h) kept p o (omega arith) b)
-      (ap (λ (y : History). with_committed_prefix y (prefix_at y.prefixes p) o) is)
+      (ap (λ (y : History). with_committed y (prefix_at y.prefixes p) o) is)
 
   -- one more prefix
   pub prefix_written : (p i t n : ℕ) (c : Bytes) → word_at h 0 2 < 512 → PrefixFits p i t n c
@@ -286,7 +200,7 @@ module _ (h : Bytes) (x : History) (s : Stands h x) where
   prefix_written p i t n c l f e =
       let r = rows_count h in
       let m = word_at h 0 2 in
-      stands (prefix_appended h p i t n c) (with_row (tables_of h) (prefix_of p i t n c)) _
+      stands (prefix_appended h p i t n c) (with_prefix_row (tables_of h) (prefix_of p i t n c)) _
       (put_length (put_bytes h (3145 + m * 41) (prefix_bytes p i t n c)) 0 (word_bytes 2 (m + 1)) ∙ put_length h (3145 + m * 41) (prefix_bytes p i t n c) ∙ long)
       (prefix_appended_lem h long p i t n c l f)
       (kept_row (tables_of h) kept (prefix_of p i t n c) (omega arith) e)
@@ -295,18 +209,18 @@ module _ (h : Bytes) (x : History) (s : Stands h x) where
 
   -- a commit term set
   pub term_written : (k v : ℕ) → k < 256 → v < 4294967296
-      → Stands (put_bytes h (393 + k * 4) (word_bytes 4 v)) (with_commit_terms x (set x.terms k v))
+      → Stands (put_bytes h (393 + k * 4) (word_bytes 4 v)) (with_terms x (set x.terms k v))
   term_written k v l f =
       let c = within _ _ _ _ kept.limits in
-      stands (put_bytes h (393 + k * 4) (word_bytes 4 v)) (with_terms (tables_of h) (set (tables_of h).terms k v)) _
+      stands (put_bytes h (393 + k * 4) (word_bytes 4 v)) (with_term_rows (tables_of h) (set (tables_of h).terms k v)) _
       (put_length h (393 + k * 4) (word_bytes 4 v) ∙ long)
       (set_term h long k v l f)
       (kept_terms (tables_of h) kept (set (tables_of h).terms k v) (omega (arith, length-set (tables_of h).terms k v, c.terms)))
-      (ap (λ (y : History). with_commit_terms y (set y.terms k v)) is)
+      (ap (λ (y : History). with_terms y (set y.terms k v)) is)
 
   -- the commit terms lengthened with zeros
   pub terms_added : (m : ℕ) → word_at h 2 2 ≤ m → m ≤ 256
-      → Stands (terms_lengthened h m) (with_commit_terms x (x.terms ++ replicate (m - word_at h 2 2) 0))
+      → Stands (terms_lengthened h m) (with_terms x (x.terms ++ replicate (m - word_at h 2 2) 0))
   unfolding terms_lengthened
   terms_added m l f =
       let n = word_at h 2 2 in
@@ -314,16 +228,16 @@ module _ (h : Bytes) (x : History) (s : Stands h x) where
       let count : length (tables_of h).terms ≡ n = sym (ap (λ (y : History). length y.terms) (decode_is h)) ∙ terms_read h in
       let more : length ((tables_of h).terms ++ zs) ≡ length (tables_of h).terms + (m - n)
       = length-append (tables_of h).terms zs ∙ ap (λ (k : ℕ). length (tables_of h).terms + k) (length-replicate (m - n) 0) in
-      stands (terms_lengthened h m) (with_terms (tables_of h) ((tables_of h).terms ++ zs)) _
+      stands (terms_lengthened h m) (with_term_rows (tables_of h) ((tables_of h).terms ++ zs)) _
       (put_length (put_bytes h (393 + n * 4) (zeros ((m - n) * 4))) 2 (word_bytes 2 m) ∙ put_length h (393 + n * 4) (zeros ((m - n) * 4)) ∙ long)
       (terms_lengthened_lem h long m l f)
       (kept_terms (tables_of h) kept ((tables_of h).terms ++ zs) (omega arith))
-      (ap (λ (y : History). with_commit_terms y (y.terms ++ zs)) is)
+      (ap (λ (y : History). with_terms y (y.terms ++ zs)) is)
 
   -- one more certificate at place k, where the numbers stay unbroken
   pub certificate_inserted_lem : (k : ℕ) (c : CertificateRow) → k ≤ word_at h 6 1 → word_at h 6 1 < 64 → CertificateFits c → CertificateNamed (word_at h 0 2) c
       → numbered (take k (tables_of h).certificates ++ (c ∷ drop k (tables_of h).certificates)) ≡ true
-      → Stands (certificate_added h k c) (with_elections x (take k x.certificates ++ (certificate_in x.prefixes c ∷ drop k x.certificates)))
+      → Stands (certificate_added h k c) (with_certificates x (take k x.certificates ++ (certificate_in x.prefixes c ∷ drop k x.certificates)))
   certificate_inserted_lem k c b l f g e =
       let r = rows_count h in
       let cs = (tables_of h).certificates in
@@ -335,14 +249,14 @@ module _ (h : Bytes) (x : History) (s : Stands h x) where
       ∙ (let a = length-append (take k cs) (drop k cs) in
       let d = ap length (take-append-drop k cs) in
       omega arith) in
-      stands (certificate_added h k c) (with_certificates (tables_of h) (take k cs ++ (c ∷ drop k cs))) _
+      stands (certificate_added h k c) (with_certificate_rows (tables_of h) (take k cs ++ (c ∷ drop k cs))) _
       (added_length ∙ long)
       (certificate_added_lem h long k c b l f)
       (kept_certificates (tables_of h) kept (take k cs ++ (c ∷ drop k cs)) (omega arith)
       (every_insert (certificate_right n) cs k c (certificate_test n c named) kept.certificates)
       e)
       (certificates_change (take k cs ++ (c ∷ drop k cs))
-      ∙ ap (with_elections x)
+      ∙ ap (with_certificates x)
       (map_insert (certificate_in x.prefixes) cs k c
       ∙ ap (λ (q : List Certificate). take k q ++ (certificate_in x.prefixes c ∷ drop k q)) certificates_is))
     where
@@ -354,13 +268,13 @@ module _ (h : Bytes) (x : History) (s : Stands h x) where
 
   -- the findings' region written whole, with the count: a judged copy that is taken over
   pub findings_taken : (fs : Bytes) (m : ℕ) → length fs ≡ 1024 → m ≤ 128 → every finding_right (finding_rows fs m) ≡ true
-      → Stands (put_bytes (put_bytes h 2121 fs) 7 (word_bytes 1 m)) (with_noted x (finding_rows fs m))
+      → Stands (put_bytes (put_bytes h 2121 fs) 7 (word_bytes 1 m)) (with_findings x (finding_rows fs m))
   findings_taken fs m lf lm e =
-      stands (put_bytes (put_bytes h 2121 fs) 7 (word_bytes 1 m)) (with_findings (tables_of h) (finding_rows fs m)) _
+      stands (put_bytes (put_bytes h 2121 fs) 7 (word_bytes 1 m)) (with_finding_rows (tables_of h) (finding_rows fs m)) _
       (put_length (put_bytes h 2121 fs) 7 (word_bytes 1 m) ∙ put_length h 2121 fs ∙ long)
       (findings_written_lem h long fs m lf (omega arith))
       (kept_findings (tables_of h) kept (finding_rows fs m) (omega (arith, tabulate_length (finding_row fs) 0 m)) e)
-      (ap (λ (y : History). with_noted y (finding_rows fs m)) is)
+      (ap (λ (y : History). with_findings y (finding_rows fs m)) is)
 
 -- the fresh history
 pub fresh_stands : Stands fresh_history fresh

@@ -14,7 +14,7 @@ use lib.ListN.{length, take, drop}
 use borrow.Author.Tests.{ltb-true, lt-ltb, le-ltb, eqb-true, eq-eqb, ne_eqb}
 use Rattle.model.specs.Sizes.{Bytes}
 use Rattle.model.specs.Entry.{Prefix}
-use Rattle.model.specs.History.{Certificate, History}
+use Rattle.model.specs.History.{Certificate, History, with_certificates}
 use Rattle.model.specs.Election.{held, in_order}
 use Rattle.storage.specs.Tables.{CertificateRow, tables_of}
 use Rattle.storage.specs.Decode.{certificate_in}
@@ -25,7 +25,7 @@ use Rattle.storage.specs.Order.{place_of, held_of}
 use Rattle.storage_bytes.proofs.ListLaws.{both}
 use Rattle.storage.proofs.RuleLaws.{pass}
 use Rattle.storage.proofs.DecodeLaws.{CertificateNamed}
-use Rattle.storage.proofs.Meanings.{Stands, with_elections, kept, certificates_is, certificate_inserted_lem}
+use Rattle.storage.proofs.Meanings.{Stands, kept, certificates_is, certificate_inserted_lem}
 use Rattle.storage.proofs.WellFormed.{certificates_count}
 
 -- ---- the model's order and count, by rows
@@ -220,7 +220,7 @@ place_within t (c ∷ cs) = go (ltb t c.term) (place_within t cs)
 -- the certificate where the model has it
 pub election_written : (h : Bytes) (x : History) (s : Stands h x) (c : CertificateRow) → word_at h 6 1 < 64 → CertificateFits c → CertificateNamed (word_at h 0 2) c
     → c.number ≡ held_of c.term (tables_of h).certificates
-    → Stands (certificate_added h (place_of c.term (tables_of h).certificates) c) (with_elections x (in_order (certificate_in x.prefixes c) x.certificates))
+    → Stands (certificate_added h (place_of c.term (tables_of h).certificates) c) (with_certificates x (in_order (certificate_in x.prefixes c) x.certificates))
 election_written h x s c l f g n =
     let cs = (tables_of h).certificates in
     let k = place_of c.term cs in
@@ -228,5 +228,5 @@ election_written h x s c l f g n =
     let e = certificates_is h x s in
     let order : take k x.certificates ++ (certificate_in x.prefixes c ∷ drop k x.certificates) ≡ in_order (certificate_in x.prefixes c) x.certificates
     = subst (λ (q : List Certificate). take k q ++ (certificate_in x.prefixes c ∷ drop k q) ≡ in_order (certificate_in x.prefixes c) q) e (in_order_lem x.prefixes c cs) in
-    subst (λ (q : List Certificate). Stands (certificate_added h k c) (with_elections x q)) order
+    subst (λ (q : List Certificate). Stands (certificate_added h k c) (with_certificates x q)) order
     (certificate_inserted_lem h x s k c within l f g (numbered_insert c cs (kept h x s).numbered n))

@@ -10,7 +10,7 @@ use lib.ListN.{length, set, take, drop, replicate}
 use Rattle.model.specs.Sizes.{Bytes}
 use Rattle.storage_bytes.specs.Words.{word_at, word_bytes, put_bytes}
 use Rattle.storage_bytes.specs.Layout.{part}
-use Rattle.storage.specs.Tables.{Tables, NodeRow, CertificateRow, HeadRow, head_row, row_of_node, node_rows, term_row, term_rows, rows_of_certificates, finding_rows, prefix_row, rows_of_prefixes, head_part, nodes_part, terms_part, certificates_part, findings_part, prefixes_part, tables_in, tables_of, with_rows, with_row, with_nodes, with_node, with_committed, with_terms, with_certificates, with_findings}
+use Rattle.storage.specs.Tables.{Tables, NodeRow, CertificateRow, HeadRow, head_row, row_of_node, node_rows, term_row, term_rows, rows_of_certificates, finding_rows, prefix_row, rows_of_prefixes, head_part, nodes_part, terms_part, certificates_part, findings_part, prefixes_part, tables_in, tables_of, with_prefix_rows, with_prefix_row, with_node_rows, with_node_row, with_committed_number, with_term_rows, with_certificate_rows, with_finding_rows}
 use Rattle.storage.specs.Writes.{prefix_appended, terms_lengthened, committed_set, certificate_inserted, certificate_added, node_bytes, prefix_bytes, prefix_of, NodeFits, CertificateFits, PrefixFits}
 use Rattle.storage_bytes.proofs.ListLaws.{tabulate_append, tabulate_same, tabulate_replicate}
 use Rattle.storage_bytes.proofs.WordLaws.{put_length, put_before, word_put, word_bytes_length}
@@ -327,16 +327,16 @@ module _ (h : Bytes) (right : length h ≡ 24137) where
 
   -- a node's row
   pub set_node : (k : ℕ) (x : NodeRow) → k < 64 → NodeFits x
-      → tables_of (put_bytes h (9 + k * 6) (node_bytes x)) ≡ with_node (tables_of h) k x
+      → tables_of (put_bytes h (9 + k * 6) (node_bytes x)) ≡ with_node_row (tables_of h) k x
   unfolding tables_in
   set_node k x l f =
       let long : length (nodes_part h) ≡ 384 = part_length h 9 384 (omega arith) in
       ap tables_from (in_nodes h (k * 6) (node_bytes x) right (omega (arith, node_length x)))
-      ∙ ap (with_nodes (tables_of h)) (rows_set 6 row_of_node node_own (nodes_part h) (node_bytes x) 64 k x (node_length x) (node_back (nodes_part h) k x f (omega arith)))
+      ∙ ap (with_node_rows (tables_of h)) (rows_set 6 row_of_node node_own (nodes_part h) (node_bytes x) 64 k x (node_length x) (node_back (nodes_part h) k x f (omega arith)))
 
   -- the committed prefix's number and owner
   pub set_committed : (p n : ℕ) → p < 65536 → n < 256
-      → tables_of (put_bytes (put_bytes h 4 (word_bytes 2 p)) 8 (word_bytes 1 n)) ≡ with_committed (tables_of h) p n
+      → tables_of (put_bytes (put_bytes h 4 (word_bytes 2 p)) 8 (word_bytes 1 n)) ≡ with_committed_number (tables_of h) p n
   unfolding tables_in
   set_committed p n lp ln =
       let u = put_bytes h 4 (word_bytes 2 p) in
@@ -356,7 +356,7 @@ module _ (h : Bytes) (right : length h ≡ 24137) where
   -- one more prefix
   pub append_prefix : (n p i t s : ℕ) (c : Bytes) → n ≡ word_at (head_part h) 0 2 → n < 512 → PrefixFits p i t s c
       → tables_of (put_bytes (put_bytes h (3145 + n * 41) (prefix_bytes p i t s c)) 0 (word_bytes 2 (n + 1)))
-      ≡ with_row (tables_of h) (prefix_of p i t s c)
+      ≡ with_prefix_row (tables_of h) (prefix_of p i t s c)
   unfolding tables_in
   append_prefix n p i t s c e l f =
       let vs = prefix_bytes p i t s c in
@@ -369,24 +369,24 @@ module _ (h : Bytes) (right : length h ≡ 24137) where
       (in_head u 0 w ru (omega (arith, word_bytes_length 2 (n + 1)))
       ∙ ap (λ (q : Parts). put_head q 0 w) (in_prefixes h (n * 41) vs right (omega arith)))
       ∙ by_head (put_head (put_prefixes (parts_of h) (n * 41) vs) 0 w) _ (head_prefixes (head_part h) (n + 1) head_long (omega arith))
-      ∙ ap (with_rows (tables_of h)) (rows_append 41 prefix_row prefix_own (prefixes_part h) vs n (prefix_of p i t s c) lv (prefix_back (prefixes_part h) n p i t s c f (omega arith))
+      ∙ ap (with_prefix_rows (tables_of h)) (rows_append 41 prefix_row prefix_own (prefixes_part h) vs n (prefix_of p i t s c) lv (prefix_back (prefixes_part h) n p i t s c f (omega arith))
       ∙ ap (λ (m : ℕ). rows_of_prefixes (prefixes_part h) m ++ (prefix_of p i t s c ∷ [])) e)
 
   -- the commit term at a place
   pub set_term : (k v : ℕ) → k < 256 → v < 4294967296
-      → tables_of (put_bytes h (393 + k * 4) (word_bytes 4 v)) ≡ with_terms (tables_of h) (set (tables_of h).terms k v)
+      → tables_of (put_bytes h (393 + k * 4) (word_bytes 4 v)) ≡ with_term_rows (tables_of h) (set (tables_of h).terms k v)
   unfolding tables_in
   set_term k v l f =
       let vs = word_bytes 4 v in
       let lv : length vs ≡ 4 = word_bytes_length 4 v in
       let long : length (terms_part h) ≡ 1024 = part_length h 393 1024 (omega arith) in
       ap tables_from (in_terms h (k * 4) vs right (omega arith))
-      ∙ ap (with_terms (tables_of h)) (rows_set 4 term_row term_own (terms_part h) vs (word_at (head_part h) 2 2) k v lv (term_back (terms_part h) k v f (omega arith)))
+      ∙ ap (with_term_rows (tables_of h)) (rows_set 4 term_row term_own (terms_part h) vs (word_at (head_part h) 2 2) k v lv (term_back (terms_part h) k v f (omega arith)))
 
   -- the commit terms lengthened with zeros
   lengthen_terms : (n m : ℕ) → n ≡ word_at (head_part h) 2 2 → n ≤ m → m ≤ 256
       → tables_of (put_bytes (put_bytes h (393 + n * 4) (zeros ((m - n) * 4))) 2 (word_bytes 2 m))
-      ≡ with_terms (tables_of h) ((tables_of h).terms ++ replicate (m - n) 0)
+      ≡ with_term_rows (tables_of h) ((tables_of h).terms ++ replicate (m - n) 0)
   unfolding tables_in
   lengthen_terms n m e l f =
       let vs = zeros ((m - n) * 4) in
@@ -399,32 +399,32 @@ module _ (h : Bytes) (right : length h ≡ 24137) where
       (in_head u 2 w ru (omega (arith, word_bytes_length 2 m))
       ∙ ap (λ (q : Parts). put_head q 2 w) (in_terms h (n * 4) vs right (omega arith)))
       ∙ by_head (put_head (put_terms (parts_of h) (n * 4) vs) 2 w) _ (head_terms (head_part h) m head_long (omega arith))
-      ∙ ap (with_terms (tables_of h)) (rows_lengthened (terms_part h) n m l (omega arith)
+      ∙ ap (with_term_rows (tables_of h)) (rows_lengthened (terms_part h) n m l (omega arith)
       ∙ ap (λ (k : ℕ). term_rows (terms_part h) k ++ replicate (m - n) 0) e)
 
   -- ---- the writes that are more than one row's
 
   -- one more prefix
   pub prefix_appended_lem : (p i t s : ℕ) (c : Bytes) → word_at h 0 2 < 512 → PrefixFits p i t s c
-      → tables_of (prefix_appended h p i t s c) ≡ with_row (tables_of h) (prefix_of p i t s c)
+      → tables_of (prefix_appended h p i t s c) ≡ with_prefix_row (tables_of h) (prefix_of p i t s c)
   unfolding prefix_appended
   prefix_appended_lem p i t s c l f = append_prefix (word_at h 0 2) p i t s c (sym (word_part h 0 9 0 2 (omega arith))) l f
 
   -- the commit terms lengthened with zeros
   pub terms_lengthened_lem : (m : ℕ) → word_at h 2 2 ≤ m → m ≤ 256
-      → tables_of (terms_lengthened h m) ≡ with_terms (tables_of h) ((tables_of h).terms ++ replicate (m - word_at h 2 2) 0)
+      → tables_of (terms_lengthened h m) ≡ with_term_rows (tables_of h) ((tables_of h).terms ++ replicate (m - word_at h 2 2) 0)
   unfolding terms_lengthened
   terms_lengthened_lem m l f = lengthen_terms (word_at h 2 2) m (sym (word_part h 0 9 2 2 (omega arith))) l f
 
   -- the committed prefix and its owner
-  pub committed_set_lem : (p n : ℕ) → p < 65536 → n < 256 → tables_of (committed_set h p n) ≡ with_committed (tables_of h) p n
+  pub committed_set_lem : (p n : ℕ) → p < 65536 → n < 256 → tables_of (committed_set h p n) ≡ with_committed_number (tables_of h) p n
   unfolding committed_set
   committed_set_lem p n lp ln = set_committed p n lp ln
 
   -- one more certificate, at its place
   pub certificate_added_lem : (k : ℕ) (x : CertificateRow) → k ≤ word_at h 6 1 → word_at h 6 1 < 64 → CertificateFits x
       → tables_of (certificate_added h k x)
-      ≡ with_certificates (tables_of h) (take k (tables_of h).certificates ++ (x ∷ drop k (tables_of h).certificates))
+      ≡ with_certificate_rows (tables_of h) (take k (tables_of h).certificates ++ (x ∷ drop k (tables_of h).certificates))
   unfolding certificate_added tables_in
   certificate_added_lem k x b l f =
       let n = word_at h 6 1 in
@@ -440,13 +440,13 @@ module _ (h : Bytes) (right : length h ≡ 24137) where
       (in_head u 6 w ru (omega (arith, word_bytes_length 1 (n + 1)))
       ∙ ap (λ (z : Parts). put_head z 6 w) (in_certificates h 0 q right (omega arith)))
       ∙ by_head (put_head (put_certificates (parts_of h) 0 q) 6 w) _ (head_certificates (head_part h) (n + 1) head_long (omega arith))
-      ∙ ap (with_certificates (tables_of h)) (ap (λ (z : Bytes). rows_of_certificates z (n + 1)) (put_whole r q (lq ∙ sym long))
+      ∙ ap (with_certificate_rows (tables_of h)) (ap (λ (z : Bytes). rows_of_certificates z (n + 1)) (put_whole r q (lq ∙ sym long))
       ∙ certificates_inserted r n k x b l long f
       ∙ ap (λ (m : ℕ). take k (rows_of_certificates r m) ++ (x ∷ drop k (rows_of_certificates r m))) e)
 
   -- the findings' region written whole, with the count
   pub findings_written_lem : (fs : Bytes) (m : ℕ) → length fs ≡ 1024 → m < 256
-      → tables_of (put_bytes (put_bytes h 2121 fs) 7 (word_bytes 1 m)) ≡ with_findings (tables_of h) (finding_rows fs m)
+      → tables_of (put_bytes (put_bytes h 2121 fs) 7 (word_bytes 1 m)) ≡ with_finding_rows (tables_of h) (finding_rows fs m)
   unfolding tables_in
   findings_written_lem fs m lf lm =
       let w = word_bytes 1 m in
@@ -457,4 +457,4 @@ module _ (h : Bytes) (right : length h ≡ 24137) where
       (in_head u 7 w ru (omega (arith, word_bytes_length 1 m))
       ∙ ap (λ (z : Parts). put_head z 7 w) (in_findings h 0 fs right (omega arith)))
       ∙ by_head (put_head (put_findings (parts_of h) 0 fs) 7 w) _ (head_findings (head_part h) m head_long lm)
-      ∙ ap (with_findings (tables_of h)) (ap (λ (z : Bytes). finding_rows z m) (put_whole (findings_part h) fs (lf ∙ sym long)))
+      ∙ ap (with_finding_rows (tables_of h)) (ap (λ (z : Bytes). finding_rows z m) (put_whole (findings_part h) fs (lf ∙ sym long)))

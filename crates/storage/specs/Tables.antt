@@ -156,8 +156,8 @@ tables_of h = tables_in (head_part h) (nodes_part h) (terms_part h) (certificate
 
 -- ---- tables with one thing changed
 
-abbrev pub with_rows : Tables → List PrefixRow → Tables
-with_rows t rs =
+abbrev pub with_prefix_rows : Tables → List PrefixRow → Tables
+with_prefix_rows t rs =
     record {
       rows = rs;
       nodes = t.nodes;
@@ -169,11 +169,11 @@ with_rows t rs =
     }
 
 -- one more prefix
-abbrev pub with_row : Tables → PrefixRow → Tables
-with_row t x = with_rows t (t.rows ++ (x ∷ []))
+abbrev pub with_prefix_row : Tables → PrefixRow → Tables
+with_prefix_row t x = with_prefix_rows t (t.rows ++ (x ∷ []))
 
-abbrev pub with_nodes : Tables → List NodeRow → Tables
-with_nodes t ns =
+abbrev pub with_node_rows : Tables → List NodeRow → Tables
+with_node_rows t ns =
     record {
       rows = t.rows;
       nodes = ns;
@@ -185,11 +185,11 @@ with_nodes t ns =
     }
 
 -- a node's row set
-abbrev pub with_node : Tables → ℕ → NodeRow → Tables
-with_node t k x = with_nodes t (set t.nodes k x)
+abbrev pub with_node_row : Tables → ℕ → NodeRow → Tables
+with_node_row t k x = with_node_rows t (set t.nodes k x)
 
-abbrev pub with_committed : Tables → ℕ → ℕ → Tables
-with_committed t p n =
+abbrev pub with_committed_number : Tables → ℕ → ℕ → Tables
+with_committed_number t p n =
     record {
       rows = t.rows;
       nodes = t.nodes;
@@ -200,8 +200,8 @@ with_committed t p n =
       findings = t.findings;
     }
 
-abbrev pub with_terms : Tables → List ℕ → Tables
-with_terms t ts =
+abbrev pub with_term_rows : Tables → List ℕ → Tables
+with_term_rows t ts =
     record {
       rows = t.rows;
       nodes = t.nodes;
@@ -212,8 +212,8 @@ with_terms t ts =
       findings = t.findings;
     }
 
-abbrev pub with_certificates : Tables → List CertificateRow → Tables
-with_certificates t cs =
+abbrev pub with_certificate_rows : Tables → List CertificateRow → Tables
+with_certificate_rows t cs =
     record {
       rows = t.rows;
       nodes = t.nodes;
@@ -224,8 +224,8 @@ with_certificates t cs =
       findings = t.findings;
     }
 
-abbrev pub with_findings : Tables → List Finding → Tables
-with_findings t fs =
+abbrev pub with_finding_rows : Tables → List Finding → Tables
+with_finding_rows t fs =
     record {
       rows = t.rows;
       nodes = t.nodes;

@@ -13,11 +13,11 @@ use lib.Seq.{get_or_at, set_at, append_snoc}
 use borrow.Author.Tests.{ltb-true, ltb-false, lt-ltb, le-ltb, leb-true, leb-false}
 use Rattle.model.specs.Sizes.{Bytes}
 use Rattle.model.specs.Entry.{Prefix}
-use Rattle.model.specs.History.{Certificate, History}
+use Rattle.model.specs.History.{Certificate, History, with_certificates}
 use Rattle.model.specs.Terms.{with_mark, lowered}
 use Rattle.model.proofs.Tests.{either, cond_true, cond_false}
 use Rattle.storage_bytes.specs.Words.{word_at, word_bytes, put_bytes}
-use Rattle.storage.specs.Tables.{CertificateRow, certificate_row, rows_of_certificates, certificates_part, head_part, tables_in, tables_of, with_certificates}
+use Rattle.storage.specs.Tables.{CertificateRow, certificate_row, rows_of_certificates, certificates_part, head_part, tables_in, tables_of, with_certificate_rows}
 use Rattle.storage.specs.Decode.{certificate_in}
 use Rattle.storage.specs.Rules.{certificate_right, follows, numbered_after, numbered}
 use Rattle.storage_bytes.proofs.ListLaws.{both, tabulate_set, every_set, map_set}
@@ -28,7 +28,7 @@ use Rattle.storage.proofs.RuleLaws.{pass, stop, within, numbered_set}
 use Rattle.storage.proofs.OrderLaws.{follows_rise}
 use Rattle.storage.proofs.TableLaws.{tables_from, in_certificates}
 use Rattle.storage.proofs.DecodeLaws.{CertificateNamed, certificate_test, kept_certificates, Kept}
-use Rattle.storage.proofs.Meanings.{Stands, stands, with_elections, certificates_read, long, kept, is, certificates_is}
+use Rattle.storage.proofs.Meanings.{Stands, stands, certificates_read, long, kept, is, certificates_is}
 use Rattle.storage.proofs.WellFormed.{rows_count, certificates_count, certificate_row_lem, formed}
 use Rattle.certificate_mark.specs.Marks.{marked_row}
 use Rattle.term_marks.specs.Marks.{mark_set, certificate_of, lower_bytes, lower_back}
@@ -71,7 +71,7 @@ module _ (r : Bytes) (k m : ℕ) (size : length r ≡ 704) (here : k < 64) (fits
       (ap (certificate_row put) (zero-add k) ∙ row_marked) (λ j ne. row_other j (λ e. ne (e ∙ sym (zero-add k))))
 
 tables_marked : (h : Bytes) (k m : ℕ) → length h ≡ 24137 → k < 64 → m < 65536
-    → tables_of (mark_set h k m) ≡ with_certificates (tables_of h) (set (tables_of h).certificates k (marked_row (certificate_of h k) m))
+    → tables_of (mark_set h k m) ≡ with_certificate_rows (tables_of h) (set (tables_of h).certificates k (marked_row (certificate_of h k) m))
 unfolding mark_set tables_in
 tables_marked h k m right l f =
     let b = word_bytes_length 2 m in
@@ -97,7 +97,7 @@ module _ (h : Bytes) (x : History) (s : Stands h x) where
       ∙ ap (certificate_in x.prefixes) (certificate_row_lem h k (certificate_of h k) l)
 
   pub mark_written : (k m : ℕ) → k < word_at h 6 1 → m ≤ 256
-      → Stands (mark_set h k m) (with_elections x (set x.certificates k (with_mark (certificate_in x.prefixes (certificate_of h k)) m)))
+      → Stands (mark_set h k m) (with_certificates x (set x.certificates k (with_mark (certificate_in x.prefixes (certificate_of h k)) m)))
   mark_written k m l f =
       let lim = within _ _ _ _ (kept h x s).limits in
       let n = length (tables_of h).rows in
@@ -107,13 +107,13 @@ module _ (h : Bytes) (x : History) (s : Stands h x) where
       let named : CertificateNamed n c = record { log = omega (arith, g.log, rows_count h); mark = f; leader = g.leader; term = g.term; present = g.present } in
       let count = certificates_count h in
       let e = tables_marked h k m (long h x s) (let y = lim.certificates in omega arith) (omega arith) in
-      let keeps : Kept (with_certificates (tables_of h) (set cs k c)) =
+      let keeps : Kept (with_certificate_rows (tables_of h) (set cs k c)) =
       kept_certificates (tables_of h) (kept h x s) (set cs k c) (omega (arith, length-set cs k c, lim.certificates))
       (every_set (certificate_right n) cs k c (certificate_test n c named) (kept h x s).certificates)
       (numbered_set cs k c c (subst (λ (y : CertificateRow). (c.term ≡ y.term) × (c.number ≡ y.number)) (sym (certificate_row_lem h k c l)) (refl, refl)) ∙ (kept h x s).numbered) in
-      stands (mark_set h k m) (with_certificates (tables_of h) (set cs k c)) _ (mark_length h k m ∙ long h x s) e keeps
-      (ap (λ (y : History). with_elections y (map (certificate_in y.prefixes) (set cs k c))) (is h x s)
-      ∙ ap (with_elections x)
+      stands (mark_set h k m) (with_certificate_rows (tables_of h) (set cs k c)) _ (mark_length h k m ∙ long h x s) e keeps
+      (ap (λ (y : History). with_certificates y (map (certificate_in y.prefixes) (set cs k c))) (is h x s)
+      ∙ ap (with_certificates x)
       (map_set (certificate_in x.prefixes) cs k c
       ∙ ap (λ (q : List Certificate). set q k (certificate_in x.prefixes c)) (certificates_is h x s)))
 
@@ -198,7 +198,7 @@ module _ (t first : ℕ) (some : 0 < first) where
         map-append (lowered t first) A (c ∷ [])
         ∙ (λ i. none_before x.prefixes (tables_of h).certificates A c B (kept h x s).numbered (certificates_is h x s ∙ e) m i ++ (lowered_not c m i ∷ []))
 
-    one_lowered : t < row.term → Stands (lower_bytes h first k) (with_elections x (A ++ (lowered t first c ∷ B)))
+    one_lowered : t < row.term → Stands (lower_bytes h first k) (with_certificates x (A ++ (lowered t first c ∷ B)))
     unfolding lower_bytes
     one_lowered l =
         let C = certificate_in x.prefixes row in
@@ -208,53 +208,53 @@ module _ (t first : ℕ) (some : 0 < first) where
         ∙ ap (λ (y : Certificate). A ++ (with_mark y (first - 1) ∷ B)) (sym here) in
         let by : leb first c.mark ≡ leb first row.mark = ap (λ (y : Certificate). leb first y.mark) here in
         let is-low = lowered_by c m ∙ ap (λ (b : Bool). cond b (with_mark c (first - 1)) c) by in
-        subst (λ (y : Certificate). Stands (cond (leb first row.mark) (mark_set h k (first - 1)) h) (with_elections x (A ++ (y ∷ B)))) (sym is-low)
+        subst (λ (y : Certificate). Stands (cond (leb first row.mark) (mark_set h k (first - 1)) h) (with_certificates x (A ++ (y ∷ B)))) (sym is-low)
         (⊎_elim
         (λ p.
         let low : first ≤ row.mark = leb-true _ _ p in
         let most = ((formed h s.right).certificate k place).mark in
         let w = mark_written h x s k (first - 1) place (omega arith) in
-        subst (λ (b : Bool). Stands (cond b (mark_set h k (first - 1)) h) (with_elections x (A ++ (cond b (with_mark c (first - 1)) c ∷ B)))) (sym p)
-        (subst (λ (cs : List Certificate). Stands (mark_set h k (first - 1)) (with_elections x cs)) to w))
+        subst (λ (b : Bool). Stands (cond b (mark_set h k (first - 1)) h) (with_certificates x (A ++ (cond b (with_mark c (first - 1)) c ∷ B)))) (sym p)
+        (subst (λ (cs : List Certificate). Stands (mark_set h k (first - 1)) (with_certificates x cs)) to w))
         (λ p.
-        subst (λ (b : Bool). Stands (cond b (mark_set h k (first - 1)) h) (with_elections x (A ++ (cond b (with_mark c (first - 1)) c ∷ B)))) (sym p)
-        (subst (λ (cs : List Certificate). Stands h (with_elections x cs)) e s))
+        subst (λ (b : Bool). Stands (cond b (mark_set h k (first - 1)) h) (with_certificates x (A ++ (cond b (with_mark c (first - 1)) c ∷ B)))) (sym p)
+        (subst (λ (cs : List Certificate). Stands h (with_certificates x cs)) e s))
         (either (leb first row.mark)))
 
     abbrev Lowered : Bytes → Type 0
-    Lowered u = Stands u (with_elections x (map (lowered t first) (A ++ (c ∷ [])) ++ B))
+    Lowered u = Stands u (with_certificates x (map (lowered t first) (A ++ (c ∷ [])) ++ B))
 
     -- those before it are lowered by the loop's further turns, or there is no further turn
     back_step : ((u : Bytes) (y : History) → Stands u y → y.certificates ≡ A ++ (lowered t first c ∷ B)
-        → Stands (lower_back u t first k) (with_elections y (map (lowered t first) A ++ (lowered t first c ∷ B))))
+        → Stands (lower_back u t first k) (with_certificates y (map (lowered t first) A ++ (lowered t first c ∷ B))))
         → Lowered (lower_back h t first (suc k))
     unfolding lower_back
     back_step ih =
         ⊎_elim
         (λ p.
         let to = e ∙ sym (append_snoc A c B) ∙ ap (λ (l : List Certificate). l ++ B) (sym (all_stay (leb-true _ _ p))) in
-        subst Lowered (sym (cond_true (leb row.term t) h _ p)) (subst (λ (cs : List Certificate). Stands h (with_elections x cs)) to s))
+        subst Lowered (sym (cond_true (leb row.term t) h _ p)) (subst (λ (cs : List Certificate). Stands h (with_certificates x cs)) to s))
         (λ p.
         let to : map (lowered t first) A ++ (lowered t first c ∷ B) ≡ map (lowered t first) (A ++ (c ∷ [])) ++ B =
         sym (append_snoc (map (lowered t first) A) (lowered t first c) B)
         ∙ ap (λ (l : List Certificate). l ++ B) (sym (map-append (lowered t first) A (c ∷ []))) in
         let low = one_lowered (leb-false _ _ p) in
         subst Lowered (sym (cond_false (leb row.term t) h _ p))
-        (subst (λ (cs : List Certificate). Stands (lower_back (lower_bytes h first k) t first k) (with_elections x cs)) to
-        (ih (lower_bytes h first k) (with_elections x (A ++ (lowered t first c ∷ B))) low refl)))
+        (subst (λ (cs : List Certificate). Stands (lower_back (lower_bytes h first k) t first k) (with_certificates x cs)) to
+        (ih (lower_bytes h first k) (with_certificates x (A ++ (lowered t first c ∷ B))) low refl)))
         (either (leb row.term t))
 
   -- the first k certificates of a history that stands: every one of a greater term whose mark is at or past the index is lowered
   pub lower_means : (k : ℕ) (A B : List Certificate) (h : Bytes) (x : History) → Stands h x → x.certificates ≡ A ++ B → length A ≡ k
-      → Stands (lower_back h t first k) (with_elections x (map (lowered t first) A ++ B))
+      → Stands (lower_back h t first k) (with_certificates x (map (lowered t first) A ++ B))
   unfolding lower_back
-  lower_means zero [] B h x s e a = subst (λ (cs : List Certificate). Stands h (with_elections x cs)) e s
+  lower_means zero [] B h x s e a = subst (λ (cs : List Certificate). Stands h (with_certificates x cs)) e s
   lower_means zero (c ∷ A) B h x s e a = absurd (omega arith)
   lower_means (suc k) [] B h x s e a = absurd (omega arith)
   lower_means (suc k) (d ∷ A) B h x s e a =
       let r = last_of d A in
       let split : x.certificates ≡ r.before ++ (r.last ∷ B) = e ∙ ap (λ (l : List Certificate). l ++ B) r.are ∙ append_snoc r.before r.last B in
       let long : length r.before ≡ k = (let z = sym a ∙ ap length r.are ∙ length-append r.before (r.last ∷ []) in omega arith) in
-      subst (λ (l : List Certificate). Stands (lower_back h t first (suc k)) (with_elections x (map (lowered t first) l ++ B))) (sym r.are)
+      subst (λ (l : List Certificate). Stands (lower_back h t first (suc k)) (with_certificates x (map (lowered t first) l ++ B))) (sym r.are)
       (back_step h x s r.before r.last B k split long
       (λ u y w q. lower_means k r.before (lowered t first r.last ∷ B) u y w q long))

@@ -11,7 +11,7 @@ use lib.Seq.{take_at}
 use borrow.Author.Tests.{eq-eqb, ne_eqb}
 use Rattle.model.specs.Sizes.{Bytes}
 use Rattle.model.specs.Entry.{Entry, Prefix, prefixes, with}
-use Rattle.model.specs.History.{History}
+use Rattle.model.specs.History.{History, with_prefixes}
 use Rattle.model.proofs.Tests.{cond_true, cond_false}
 use Rattle.storage_bytes.specs.Words.{word_at}
 use Rattle.storage.specs.Tables.{prefix_row, prefixes_part, head_part, tables_in, tables_of}
@@ -21,7 +21,7 @@ use Rattle.storage.specs.Decode.{prefix_at, extended, resolve}
 use Rattle.storage.proofs.RowFacts.{row_at, resolve_snoc, resolve_count}
 use Rattle.storage.proofs.DecodeLaws.{row_facts}
 use Rattle.storage.proofs.WellFormed.{rows_count}
-use Rattle.storage.proofs.Meanings.{Stands, with_prefixes, prefix_written, prefixes_read, prefixes_is, kept}
+use Rattle.storage.proofs.Meanings.{Stands, prefix_written, prefixes_read, prefixes_is, kept}
 use Rattle.prefix_lookup.specs.Prefix.{row_of, find}
 use Rattle.log_prefix.specs.Extension.{extension_in, stored_content, extended_bytes, extended_count, extended_number}
 use Rattle.prefix_lookup.proofs.PrefixLaws.{Rows}
