@@ -13,8 +13,9 @@ use borrow.Author.Tests.{eq-eqb, ne_eqb, lt-ltb, le-ltb, ltb-false, eqb-true, eq
 use Rattle.model.specs.History.{Finding}
 use Rattle.model.specs.Leaders.{Leader, placed, ascending}
 use Rattle.model.specs.Lists.{leaders_of}
+use Rattle.model.specs.Statements.{Before, Ascending}
 use Rattle.model.proofs.Tests.{cond_true, cond_false, either}
-use Rattle.model.proofs.Leaders.{Before, Ascending, ascending_ascends}
+use Rattle.model.proofs.Leaders.{ascending_ascends}
 use Rattle.lists.specs.declared.leaders.Leader.{Leader as Printed}
 use Rattle.std.specs.Prelude.{Option, None}
 use Rattle.lists.specs.Leaders.{pair, leader_as, is_below, lesser, better_of, least_in, next_of, rounds_of, leader_in}

@@ -16,11 +16,11 @@ use Rattle.model.specs.Leaders.{Leader}
 use Rattle.model.specs.Ledger.{Ledger, empty, fed, ledger_leaders}
 use Rattle.model.specs.Lists.{finding_list, leader_list}
 use Rattle.model.specs.Run.{history_from, history_of, answers_from, answers_of, told, ledger_from, ledger_of}
+use Rattle.model.specs.Statements.{accepted_fronts, Matching, Agreeing, committed_seen, KnownAtChecks}
 use Rattle.model.proofs.Run.{refused_untouched}
-use Rattle.model.proofs.Stored.{accepted_fronts}
-use Rattle.model.proofs.Matching.{Matching, log_matching}
-use Rattle.model.proofs.Committed.{Agreeing, committed_seen, committed_prefixes}
-use Rattle.model.proofs.Completeness.{KnownAtChecks, leader_completeness}
+use Rattle.model.proofs.Matching.{log_matching}
+use Rattle.model.proofs.Committed.{committed_prefixes}
+use Rattle.model.proofs.Completeness.{leader_completeness}
 
 -- ---- statements
 

@@ -21,43 +21,11 @@ use Rattle.model.specs.Election.{election_effect}
 use Rattle.model.specs.Check.{check_effect}
 use Rattle.model.specs.Answer.{effect}
 use Rattle.model.specs.Ledger.{Ledger, entered}
-use Rattle.model.specs.Run.{history_of, ledger_of, Event, events_of}
+use Rattle.model.specs.Run.{history_of, ledger_of, Event}
+use Rattle.model.specs.Statements.{brought_by, shown_by, seen_by, seen_in, committed_seen, Agreeing, CommittedPrefixes}
 use Rattle.model.proofs.Tests.{either, cond_true, cond_false, and_left, and_right, and_both, and_false, same_yes, yes_same}
 use Rattle.model.proofs.Run.{by_events}
-use Rattle.model.proofs.Stored.{brought_by}
-use Rattle.model.proofs.Matching.{NoFinding, Without, none_printed, without_after, without_nil, mismatches_name, lackings_name}
-
--- ---- statements
-
--- a committed prefix is seen by an accepted commit record that the node's front reaches at that moment; each node's front
--- is the ledger's, the front of its last accepted view
-abbrev pub shown_by : Prefix → ℕ → List Prefix
-shown_by p i = cond (ltb 0 i && leb i (length p)) (take i p ∷ []) []
-
-abbrev pub seen_by : Ledger → Record → List Prefix
-seen_by g (view n xs) = []
-seen_by g (commit n i) = shown_by (get_or g.fronts n []) i
-seen_by g (terms old new t) = []
-seen_by g (election l t p n) = []
-seen_by g check = []
-seen_by g (rows rs) = []
-
-unfoldable pub seen_in : List Event → List Prefix
-seen_in [] = []
-seen_in (e ∷ es) = seen_by e.ledger e.event ++ seen_in es
-
-abbrev pub committed_seen : List Bytes → List Prefix
-committed_seen ss = seen_in (events_of ss)
-
--- any two agree through the shorter
-abbrev pub Agreeing : List Prefix → Type 0
-Agreeing ps =
-    (p q : Prefix) → Memᴰ p ps → Memᴰ q ps
-    → take (min (length p) (length q)) p ≡ take (min (length p) (length q)) q
-
--- From fresh, the LG-04 list is empty exactly if any two committed prefixes seen agree through the shorter.
-abbrev pub CommittedPrefixes : Type 0
-CommittedPrefixes = (ss : List Bytes) → NoFinding 4 (history_of ss) ↔ Agreeing (committed_seen ss)
+use Rattle.model.proofs.Matching.{Without, none_printed, without_after, without_nil, mismatches_name, lackings_name}
 
 -- ---- what is seen
 

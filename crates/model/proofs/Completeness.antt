@@ -2,13 +2,12 @@
 -- The statement is about the whole list of records at once. The proof is an invariant between history and ledger
 -- (`CompletenessInvariant`), kept by each kind of record in a file of its own.
 -- Assumes nothing.
-use Prim.Native.Nat.{ℕ, ◌<◌, ◌≤◌}
+use Prim.Native.Nat.{ℕ}
 use mathlib.Core.Path.{◌≡◌, refl, sym, ◌∙◌, ap, subst}
 use mathlib.Core.Bool.{true}
 use mathlib.Core.List.Memᴰ
 use mathlib.Core.List.{List, [], ◌∷◌, ◌++◌, Memᴰ}
 use mathlib.Core.Option.{none}
-use lib.ListN.{length}
 use Rattle.model.specs.Sizes.{Bytes}
 use Rattle.model.specs.Record.{Record, view, commit, terms, election, check, rows}
 use Rattle.model.specs.Reading.{readable, read}
@@ -18,6 +17,7 @@ use Rattle.model.specs.Leaders.{Leader}
 use Rattle.model.specs.Ledger.{Ledger, entered, ledger_leaders}
 use Rattle.model.specs.Lists.{leader_list}
 use Rattle.model.specs.Run.{history_from, history_of, ledger_from, ledger_of, Event, events_from, events_of}
+use Rattle.model.specs.Statements.{Known, KnownAtChecks, LeaderCompleteness}
 use Rattle.model.proofs.Run.{by_events}
 use Rattle.model.proofs.Last.{history_last, ledger_last}
 use Rattle.model.proofs.CompletenessKnown.{known_to, known_to_lem, known_all, known_all_lem}
@@ -28,25 +28,6 @@ use Rattle.model.proofs.CompletenessTerms.{keeps_terms}
 use Rattle.model.proofs.CompletenessElection.{keeps_election}
 use Rattle.model.proofs.CompletenessCheck.{keeps_check, check_reaches}
 use Rattle.model.proofs.CompletenessLedger.{same_leaders}
-
--- ---- statements
-
--- each committed entry has a commit term
-abbrev pub Known : Ledger → Type 0
-Known g = (i : ℕ) → 0 < i → i ≤ length g.committed → g.terms i ≡ none → ⊥
-
--- at every accepted check each committed entry has its commit term
-abbrev pub KnownAtChecks : List Bytes → Type 0
-KnownAtChecks ss = (e : Event) → Memᴰ e (events_of ss) → e.event ≡ check → Known e.ledger
-
--- Demand 3: for every list of byte strings handed in turn to one fresh history and ending with an accepted check, if each
--- committed entry has its commit term at every accepted check, the leader list equals the plain ledger's.
-abbrev pub LeaderCompleteness : Type 0
-LeaderCompleteness =
-    (ss : List Bytes) (s : Bytes)
-    → read s ≡ readable check → is_accepted (answer (history_of ss) s) ≡ true
-    → KnownAtChecks (ss ++ (s ∷ []))
-    → leader_list (history_of (ss ++ (s ∷ []))) ≡ ledger_leaders (ledger_of (ss ++ (s ∷ [])))
 
 -- ---- examples
 

@@ -19,8 +19,8 @@ use Rattle.model.specs.History.{Finding, Certificate, History, noted}
 use Rattle.model.specs.Check.{last_below, relevant, lacks, lacking, moved, lackings, check_findings, check_effect}
 use Rattle.model.specs.Answer.{effect}
 use Rattle.model.specs.Ledger.{Elected, Ledger, entered, earlier}
+use Rattle.model.specs.Statements.{Named, pair_of}
 use Rattle.model.proofs.Tests.{either, cond_cases, cond_true, and_left, and_right, and_both, begins_no, no_begins}
-use Rattle.model.proofs.Leaders.{Named, pair_of}
 use Rattle.model.proofs.CompletenessInvariant.{elected_of, known, leads, EachKnown, BlamedAt, Sound, Owes, Complete, MarksWithin, SameTerms, SameElections, Invariant, lacks_without, named_noted, named_new, sound_noted, same_elections}
 
 -- ---- the relevant index

@@ -15,9 +15,9 @@ use Rattle.model.specs.History.{Finding, Certificate, History, fresh, same_findi
 use Rattle.model.specs.Check.{lacks}
 use Rattle.model.specs.Leaders.{Leader}
 use Rattle.model.specs.Ledger.{Elected, Ledger, empty, earlier, without}
+use Rattle.model.specs.Statements.{Named, pair_of}
 use Rattle.model.proofs.Members.{all_old, all_new, all_cases}
 use Rattle.model.proofs.Matching.{Without}
-use Rattle.model.proofs.Leaders.{Named, pair_of}
 
 -- ---- the two sides' words for one thing
 

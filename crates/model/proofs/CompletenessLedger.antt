@@ -16,8 +16,9 @@ use Rattle.model.specs.History.{Certificate, History}
 use Rattle.model.specs.Leaders.{Leader}
 use Rattle.model.specs.Ledger.{Elected, Ledger, earlier, without, blamed, blame, blames, ledger_leaders}
 use Rattle.model.specs.Lists.{leaders_of, leader_list}
+use Rattle.model.specs.Statements.{Named}
 use Rattle.model.proofs.Tests.{tf, either, cond_cases, cond_true, and_left, and_right, and_both, or_cases, or_left, or_right}
-use Rattle.model.proofs.Leaders.{Named, Within, leaders_of_lem, of_leaders, same_ascending}
+use Rattle.model.proofs.Leaders.{Within, leaders_of_lem, of_leaders, same_ascending}
 use Rattle.model.proofs.CompletenessInvariant.{elected_of, known, leads, BlamedAt, Justified, Owes, Certified, Invariant, lacks_without}
 
 -- ---- what the ledger blames

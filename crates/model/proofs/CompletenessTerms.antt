@@ -19,8 +19,8 @@ use Rattle.model.specs.Check.{lacks}
 use Rattle.model.specs.Terms.{lengthened, changes, replaced_from, recorded, first_from, first_changed, lowered, terms_effect}
 use Rattle.model.specs.Answer.{effect}
 use Rattle.model.specs.Ledger.{Elected, Ledger, entered, open', set_terms, earlier}
+use Rattle.model.specs.Statements.{Named}
 use Rattle.model.proofs.Tests.{tf, either, cond_cases, cond_true, cond_false, and_left, and_right, and_both, and_false}
-use Rattle.model.proofs.Leaders.{Named}
 use Rattle.model.proofs.CompletenessInvariant.{elected_of, known, leads, BlamedAt, Justified, Sound, Owes, Complete, MarksWithin, SameTerms, Invariant, same_elections}
 
 -- ---- the places

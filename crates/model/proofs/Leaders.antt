@@ -9,51 +9,18 @@ use mathlib.Core.List.Memᴰ
 use mathlib.Core.List.{List, [], ◌∷◌, Memᴰ}
 use lib.Dec.{ltb, eqb}
 use borrow.Author.Tests.{ltb-true, ltb-false, eqb-true, eqb-false}
-use Rattle.model.specs.History.{Finding, History}
+use Rattle.model.specs.History.{Finding}
 use Rattle.model.specs.Leaders.{Leader, below, placed, ascending}
-use Rattle.model.specs.Ledger.{Ledger, blames, ledger_leaders}
+use Rattle.model.specs.Ledger.{blames, ledger_leaders}
 use Rattle.model.specs.Lists.{leader_of, leaders_of, leader_list}
+use Rattle.model.specs.Statements.{Before, Ascending, LeaderListAscends, LedgerLeadersAscend, pair_of, Named, LeaderListNames}
 use Rattle.model.proofs.Tests.{cond_cases, and_left, and_right, and_false, or_cases, or_false_left, or_false_right}
 
 -- ---- statements
 
--- a comes before b: by term, then leader
-abbrev pub Before : Leader → Leader → Type 0
-Before a b = (a.term < b.term) ⊎ ((a.term ≡ b.term) × (a.leader < b.leader))
-
--- each comes before all that stand after it; so none stands twice
-abbrev pub Ascending : List Leader → Type 0
-Ascending [] = Unit {0}
-Ascending (a ∷ l) = ((b : Leader) → Memᴰ b l → Before a b) × Ascending l
-
 -- every member of the one is a member of the other
 abbrev pub Within : List Leader → List Leader → Type 0
 Within l m = (a : Leader) → Memᴰ a l → Memᴰ a m
-
--- The leader list of any history is ascending by term and then leader, and has no pair twice.
-abbrev pub LeaderListAscends : Type 0
-LeaderListAscends = (h : History) → Ascending (leader_list h)
-
--- So is the ledger's.
-abbrev pub LedgerLeadersAscend : Type 0
-LedgerLeadersAscend = (g : Ledger) → Ascending (ledger_leaders g)
-
--- the (term, leader) of a finding
-abbrev pub pair_of : Finding → Leader
-pair_of f = record { term = f.term; leader = f.node }
-
--- a finding LG-05 has the pair
-pub record Named (fs : List Finding) (a : Leader) : Type 0 where
-  pub finding : Finding
-  pub among : Memᴰ finding fs
-  pub lg05 : finding.name ≡ 5
-  pub pair : a ≡ pair_of finding
-
--- The leader list has the (term, leader) of each LG-05, and no other.
-abbrev pub LeaderListNames : Type 0
-LeaderListNames =
-    (h : History) (a : Leader)
-    → (Memᴰ a (leader_list h) → Named h.findings a) × (Named h.findings a → Memᴰ a (leader_list h))
 
 -- Two ascending lists with the same members are equal.
 abbrev pub SettledByMembers : Type 0

@@ -1,7 +1,7 @@
 -- Log Matching, as in the Raft paper: if two logs contain an entry with the same index and term, then the logs are identical
 -- in all entries up through that index. From fresh, the LG-03 list is empty exactly if the accepted views match so.
 -- Assumes nothing.
-use Prim.Native.Nat.{ℕ, ◌<◌, ◌≤◌, min}
+use Prim.Native.Nat.{ℕ, ◌≤◌, min}
 use native.Mathlib.Omega.{arith}
 use mathlib.Core.Path.{◌≡◌, refl, sym, ◌∙◌, ap, subst}
 use mathlib.Core.Bool.{Bool, true, false, cond, ◌&&◌}
@@ -25,37 +25,10 @@ use Rattle.model.specs.Check.{relevant, lacks, lacking, lackings, check_effect}
 use Rattle.model.specs.Answer.{effect}
 use Rattle.model.specs.Lists.{before, insert, ordered, finding_list}
 use Rattle.model.specs.Run.{history_of}
+use Rattle.model.specs.Statements.{accepted_fronts, PrefixOf, brought_by, NoFinding, Matching, LogMatching, EachEntryJudged}
 use Rattle.model.proofs.Tests.{tf, either, cond_cases, cond_true, cond_false, and_left, and_right, and_both, same_yes, yes_same}
 use Rattle.model.proofs.Run.{by_events}
-use Rattle.model.proofs.Stored.{accepted_fronts, PrefixOf, stored_exactly, stored_mem, begun_prefix, brought_by, findings_after}
-
--- ---- statements
-
--- the printed findings have none of this name
-abbrev pub NoFinding : ℕ → History → Type 0
-NoFinding name h = (f : Finding) → Memᴰ f (finding_list h) → f.name ≡ name → ⊥
-
--- the term of the entry at index i
-abbrev pub term_at : Prefix → ℕ → ℕ
-term_at p i = last_term (take i p)
-
--- any two accepted views that have an entry of the same index and term, neither with a gap before it, agree through it
-abbrev pub Matching : List Prefix → Type 0
-Matching fronts =
-    (p q : Prefix) → Memᴰ p fronts → Memᴰ q fronts
-    → (i : ℕ) → 0 < i → i ≤ length p → i ≤ length q → term_at p i ≡ term_at q i → take i p ≡ take i q
-
--- From fresh, the LG-03 list is empty exactly if the accepted views match.
-abbrev pub LogMatching : Type 0
-LogMatching = (ss : List Bytes) → NoFinding 3 (history_of ss) ↔ Matching (accepted_fronts ss)
-
--- The walk goes on along the view's own front: a view brings LG-03 for each of its prefixes that differs from the one
--- remembered for its index and term, and no other.
-abbrev pub EachEntryJudged : Type 0
-EachEntryJudged =
-    (ps : List Prefix) (n : ℕ) (p : Prefix) (f : Finding)
-    → Memᴰ f (mismatches ps n (begun_by p))
-    ↔ ((i : ℕ) × (0 < i) × (i ≤ length p) × Memᴰ f (mismatch ps n (take i p)))
+use Rattle.model.proofs.Stored.{stored_exactly, stored_mem, begun_prefix, findings_after}
 
 -- ---- the printed findings are the findings
 

@@ -10,12 +10,8 @@ use mathlib.Core.List.{List, [], ◌∷◌, ◌++◌, Memᴰ}
 use native.Mathlib.Omega.{arith}
 use lib.ListN.{length, length-append}
 use Rattle.model.specs.Entry.{holds, is_in, with, with_all}
+use Rattle.model.specs.Statements.{Distinct}
 use Rattle.model.proofs.Tests.{tf, either, holds_yes, yes_holds, holds_no, or_cases, or_left, or_right, cond_cases}
-
--- a list without doubles
-abbrev pub Distinct : {A : Type 0} → List A → Type 0
-Distinct [] = Unit {0}
-Distinct (x ∷ xs) = (Memᴰ x xs → ⊥) × Distinct xs
 
 module _ {A : Type 0} (d : Discrete A) where
   pub is_in_yes : (x : A) (xs : List A) → is_in d x xs ≡ true → Memᴰ x xs

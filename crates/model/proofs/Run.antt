@@ -13,13 +13,10 @@ use Rattle.model.specs.History.{History, fresh}
 use Rattle.model.specs.Answer.{accepted, refused, is_accepted, refusal, effect, answer_unless, answer_read, answer, after_unless, after_read, after}
 use Rattle.model.specs.Ledger.{Ledger, empty, entered, entered_read, fed}
 use Rattle.model.specs.Run.{history_from, history_of, told, ledger_from, ledger_of, Event, event_unless, event_read, events_from, events_of}
+use Rattle.model.specs.Statements.{RefusedMeansUntouched}
 use Rattle.model.proofs.Tests.{tf}
 
 -- ---- statements
-
--- Refused means untouched: a refused record leaves the history as it was.
-abbrev pub RefusedMeansUntouched : Type 0
-RefusedMeansUntouched = (h : History) (s : Bytes) (r : Refusal) → answer h s ≡ refused r → after h s ≡ h
 
 -- What holds of the fresh history and the empty ledger, and is kept by each accepted record, holds after every list.
 abbrev pub ByEvents : Type 1

@@ -16,90 +16,20 @@ use borrow.Author.Tests.{ltb-true, ltb-false, lt-ltb, leb-false}
 use Rattle.model.specs.Sizes.{Bytes}
 use Rattle.model.specs.Entry.{Prefix, prefixes}
 use Rattle.model.specs.Refusal.{Refusal, number, prefixesFull, findingsFull, old_exceeds_new, lengthExceedsFront, certificatesFull, numberTaken}
-use Rattle.model.specs.Record.{Shown, Record, view, commit, terms, election, check, rows, front}
+use Rattle.model.specs.Record.{Record, view, commit, terms, election, check, rows, front}
 use Rattle.model.specs.History.{Finding, Certificate, History, front_of, same_finding, noted}
-use Rattle.model.specs.View.{begun, begun_by, stored, mismatches, view_findings, view_refusal, view_effect}
-use Rattle.model.specs.Commit.{seen, differences, commit_findings, commit_refusal, commit_effect}
+use Rattle.model.specs.View.{begun, begun_by, stored, view_findings, view_refusal, view_effect}
+use Rattle.model.specs.Commit.{commit_findings, commit_refusal, commit_effect}
 use Rattle.model.specs.Terms.{first_changed, lowered, terms_effect}
 use Rattle.model.specs.Election.{held, taken, in_order, election_refusal, certificate, election_effect}
-use Rattle.model.specs.Check.{lackings, moved, check_findings, check_refusal, check_effect}
+use Rattle.model.specs.Check.{moved, check_findings, check_refusal, check_effect}
 use Rattle.model.specs.Answer.{refusal, effect}
 use Rattle.model.specs.Ledger.{Ledger}
 use Rattle.model.specs.Run.{history_of, Event, events_of}
+use Rattle.model.specs.Statements.{Distinct, front_in, fronts_in, accepted_fronts, PrefixOf, PrefixIn, StoredOnce, StoredExactly, Counts, SixExactly, brought_by, SevenExactly, Bounded, AlwaysBounded}
 use Rattle.model.proofs.Tests.{either, cond_cases, cond_true, cond_false}
-use Rattle.model.proofs.Members.{Distinct, all_old, all_new, all_cases, all_distinct, equally_long}
+use Rattle.model.proofs.Members.{all_old, all_new, all_cases, all_distinct, equally_long}
 use Rattle.model.proofs.Run.{by_events}
-
--- ---- statements
-
--- the fronts of the accepted views, in the order accepted
-abbrev pub front_in : Record → List Prefix
-front_in (view n xs) = front xs ∷ []
-front_in (commit n i) = []
-front_in (terms old new t) = []
-front_in (election l t p n) = []
-front_in check = []
-front_in (rows rs) = []
-
-unfoldable pub fronts_in : List Event → List Prefix
-fronts_in [] = []
-fronts_in (e ∷ es) = front_in e.event ++ fronts_in es
-
-abbrev pub accepted_fronts : List Bytes → List Prefix
-accepted_fronts ss = fronts_in (events_of ss)
-
--- q is a nonempty prefix of p: its entries 1 to i
-abbrev pub PrefixOf : Prefix → Prefix → Type 0
-PrefixOf p q = (i : ℕ) × (0 < i) × (i ≤ length p) × (q ≡ take i p)
-
--- q is a nonempty prefix of one of the fronts
-abbrev pub PrefixIn : List Prefix → Prefix → Type 0
-PrefixIn ps q = (p : Prefix) × Memᴰ p ps × PrefixOf p q
-
--- From fresh, no prefix is stored twice.
-abbrev pub StoredOnce : Type 0
-StoredOnce = (ss : List Bytes) → Distinct (history_of ss).prefixes
-
--- From fresh, the stored prefixes are exactly the nonempty prefixes of the accepted fronts.
-abbrev pub StoredExactly : Type 0
-StoredExactly = (ss : List Bytes) (q : Prefix) → Memᴰ q (history_of ss).prefixes ↔ PrefixIn (accepted_fronts ss) q
-
--- `Counts n P`: n things have the property: a list of n without doubles has exactly them
-abbrev pub Counts : {A : Type 0} → ℕ → (A → Type 0) → Type 0
-Counts {A} n P = (xs : List A) × Distinct xs × (length xs ≡ n) × ((x : A) → Memᴰ x xs ↔ P x)
-
--- From fresh, 6 is answered exactly when the distinct nonempty prefixes of all accepted fronts, with this one's, exceed 512.
-abbrev pub SixExactly : Type 0
-SixExactly =
-    (ss : List Bytes) (n : ℕ) (xs : List Shown) (count : ℕ)
-    → Counts count (λ q. PrefixIn (accepted_fronts ss) q ⊎ PrefixOf (front xs) q)
-    → (refusal (history_of ss) (view n xs) ≡ some prefixesFull) ↔ (512 < count)
-
--- the findings that a record brings, whether new or held already
-abbrev pub brought_by : History → Record → List Finding
-brought_by h (view n xs) = mismatches h.prefixes n (begun_by (front xs))
-brought_by h (commit n i) = differences n h.committed (seen h n i)
-brought_by h (terms old new t) = []
-brought_by h (election l t p n) = []
-brought_by h check = lackings h.committed h.terms h.certificates
-brought_by h (rows rs) = []
-
--- From fresh, 7 is answered exactly when the distinct findings, with the record's, exceed 128, and 6 is not.
-abbrev pub SevenExactly : Type 0
-SevenExactly =
-    (ss : List Bytes) (r : Record) (count : ℕ)
-    → Counts count (λ f. Memᴰ f (history_of ss).findings ⊎ Memᴰ f (brought_by (history_of ss) r))
-    → (refusal (history_of ss) r ≡ some findingsFull) ↔ ((refusal (history_of ss) r ≡ some prefixesFull → ⊥) × (128 < count))
-
--- From fresh, there are never more than 512 prefixes, 64 certificates and 128 findings, and no finding is held twice.
-pub record Bounded (h : History) : Type 0 where
-  pub prefixes_fit : length h.prefixes ≤ 512
-  pub certificates_fit : length h.certificates ≤ 64
-  pub findings_fit : length h.findings ≤ 128
-  pub findings_once : Distinct h.findings
-
-abbrev pub AlwaysBounded : Type 0
-AlwaysBounded = (ss : List Bytes) → Bounded (history_of ss)
 
 -- ---- the prefixes that a front goes through
 

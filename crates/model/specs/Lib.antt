@@ -15,3 +15,4 @@ pub mod Leaders
 pub mod Ledger
 pub mod Lists
 pub mod Run
+pub mod Statements

@@ -14,8 +14,8 @@ use Rattle.model.specs.History.{History}
 use Rattle.model.specs.Answer.{is_accepted, refusal, answer_unless, answer_read, answer, after}
 use Rattle.model.specs.Ledger.{Ledger, fed}
 use Rattle.model.specs.Run.{told, Event, event_unless, event_read, events_from}
-use Rattle.model.proofs.Completeness as model
-use Rattle.model.proofs.Completeness.{Known}
+use Rattle.model.specs.Statements.{Known}
+use Rattle.model.specs.Statements as model
 use Rattle.storage.proofs.Meanings.{Stands}
 use Rattle.submission.specs.Replies.{submit_bytes}
 use Rattle.promises.specs.Run.{bytes_from, accepts, ledger_from, KnownAtChecks}

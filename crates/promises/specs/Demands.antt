@@ -9,9 +9,7 @@ use Rattle.model.specs.Reading.{readable, read}
 use Rattle.model.specs.Answer.{answer}
 use Rattle.model.specs.Run.{history_of}
 use Rattle.model.specs.Ledger.{ledger_leaders}
-use Rattle.model.proofs.Stored.{accepted_fronts}
-use Rattle.model.proofs.Matching.{Matching}
-use Rattle.model.proofs.Committed.{Agreeing, committed_seen}
+use Rattle.model.specs.Statements.{accepted_fronts, Matching, Agreeing, committed_seen}
 use Rattle.storage.specs.Rules.{well_formed}
 use Rattle.storage.specs.Decode.{decode}
 use Rattle.index_lists.specs.Picked.{nth}

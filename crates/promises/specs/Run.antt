@@ -6,7 +6,7 @@ use Rattle.model.specs.Sizes.{Bytes}
 use Rattle.model.specs.Record.{check}
 use Rattle.model.specs.Reading.{readable, read}
 use Rattle.model.specs.Ledger.{Ledger, empty, fed}
-use Rattle.model.proofs.Completeness.{Known}
+use Rattle.model.specs.Statements.{Known}
 use Rattle.storage.specs.Fresh.{fresh_history}
 use Rattle.answers.specs.declared.numbers.Reply.{Reply}
 use Rattle.answers.specs.Numbers.{reply_of}

@@ -1,0 +1,219 @@
+-- What is proved of the model, and the words that it is said in: what a list of records shows, that the findings say of it
+-- exactly what document 01 promises, and what a history holds. The theorems are in proofs/, each in the file that a heading
+-- here names; `crates/promises/specs` says the three demands of the library in the same words.
+-- Assumes nothing.
+use Rattle.std.specs.Prelude.{ℕ, min, ◌<◌, ◌≤◌, ◌≡◌, ◌↔◌, true, cond, ◌&&◌, List, [], ◌∷◌, ◌++◌, leb, ltb, length, get_or, take}
+use Rattle.std.proofs.Math.Option.{none, some}
+use mathlib.Core.Logic.{◌⊎◌}
+use mathlib.Core.List.{Memᴰ}
+use Rattle.model.specs.Sizes.{Bytes}
+use Rattle.model.specs.Entry.{Prefix, last_term}
+use Rattle.model.specs.Refusal.{Refusal, prefixesFull, findingsFull}
+use Rattle.model.specs.Record.{Shown, Record, view, commit, terms, election, check, rows, front}
+use Rattle.model.specs.Reading.{readable, read}
+use Rattle.model.specs.History.{Finding, History}
+use Rattle.model.specs.View.{begun_by, mismatch, mismatches}
+use Rattle.model.specs.Commit.{seen, differences}
+use Rattle.model.specs.Check.{lackings}
+use Rattle.model.specs.Answer.{refused, is_accepted, answer, refusal, after}
+use Rattle.model.specs.Leaders.{Leader}
+use Rattle.model.specs.Ledger.{Ledger, ledger_leaders}
+use Rattle.model.specs.Lists.{finding_list, leader_list}
+use Rattle.model.specs.Run.{history_of, ledger_of, Event, events_of}
+
+-- ---- refused records (Run)
+
+-- Refused means untouched: a refused record leaves the history as it was.
+abbrev pub RefusedMeansUntouched : Type 0
+RefusedMeansUntouched = (h : History) (s : Bytes) (r : Refusal) → answer h s ≡ refused r → after h s ≡ h
+
+-- ---- the accepted fronts, and the prefixes stored for them (Stored)
+
+-- the fronts of the accepted views, in the order accepted
+abbrev pub front_in : Record → List Prefix
+front_in (view n xs) = front xs ∷ []
+front_in (commit n i) = []
+front_in (terms old new t) = []
+front_in (election l t p n) = []
+front_in check = []
+front_in (rows rs) = []
+
+unfoldable pub fronts_in : List Event → List Prefix
+fronts_in [] = []
+fronts_in (e ∷ es) = front_in e.event ++ fronts_in es
+
+abbrev pub accepted_fronts : List Bytes → List Prefix
+accepted_fronts ss = fronts_in (events_of ss)
+
+-- a list without doubles
+abbrev pub Distinct : {A : Type 0} → List A → Type 0
+Distinct [] = Unit {0}
+Distinct (x ∷ xs) = (Memᴰ x xs → ⊥) × Distinct xs
+
+-- q is a nonempty prefix of p: its entries 1 to i
+abbrev pub PrefixOf : Prefix → Prefix → Type 0
+PrefixOf p q = (i : ℕ) × (0 < i) × (i ≤ length p) × (q ≡ take i p)
+
+-- q is a nonempty prefix of one of the fronts
+abbrev pub PrefixIn : List Prefix → Prefix → Type 0
+PrefixIn ps q = (p : Prefix) × Memᴰ p ps × PrefixOf p q
+
+-- From fresh, no prefix is stored twice.
+abbrev pub StoredOnce : Type 0
+StoredOnce = (ss : List Bytes) → Distinct (history_of ss).prefixes
+
+-- From fresh, the stored prefixes are exactly the nonempty prefixes of the accepted fronts.
+abbrev pub StoredExactly : Type 0
+StoredExactly = (ss : List Bytes) (q : Prefix) → Memᴰ q (history_of ss).prefixes ↔ PrefixIn (accepted_fronts ss) q
+
+-- `Counts n P`: n things have the property: a list of n without doubles has exactly them
+abbrev pub Counts : {A : Type 0} → ℕ → (A → Type 0) → Type 0
+Counts {A} n P = (xs : List A) × Distinct xs × (length xs ≡ n) × ((x : A) → Memᴰ x xs ↔ P x)
+
+-- From fresh, 6 is answered exactly when the distinct nonempty prefixes of all accepted fronts, with this one's, exceed 512.
+abbrev pub SixExactly : Type 0
+SixExactly =
+    (ss : List Bytes) (n : ℕ) (xs : List Shown) (count : ℕ)
+    → Counts count (λ q. PrefixIn (accepted_fronts ss) q ⊎ PrefixOf (front xs) q)
+    → (refusal (history_of ss) (view n xs) ≡ some prefixesFull) ↔ (512 < count)
+
+-- the findings that a record brings, whether new or held already
+abbrev pub brought_by : History → Record → List Finding
+brought_by h (view n xs) = mismatches h.prefixes n (begun_by (front xs))
+brought_by h (commit n i) = differences n h.committed (seen h n i)
+brought_by h (terms old new t) = []
+brought_by h (election l t p n) = []
+brought_by h check = lackings h.committed h.terms h.certificates
+brought_by h (rows rs) = []
+
+-- From fresh, 7 is answered exactly when the distinct findings, with the record's, exceed 128, and 6 is not.
+abbrev pub SevenExactly : Type 0
+SevenExactly =
+    (ss : List Bytes) (r : Record) (count : ℕ)
+    → Counts count (λ f. Memᴰ f (history_of ss).findings ⊎ Memᴰ f (brought_by (history_of ss) r))
+    → (refusal (history_of ss) r ≡ some findingsFull) ↔ ((refusal (history_of ss) r ≡ some prefixesFull → ⊥) × (128 < count))
+
+-- From fresh, there are never more than 512 prefixes, 64 certificates and 128 findings, and no finding is held twice.
+pub record Bounded (h : History) : Type 0 where
+  pub prefixes_fit : length h.prefixes ≤ 512
+  pub certificates_fit : length h.certificates ≤ 64
+  pub findings_fit : length h.findings ≤ 128
+  pub findings_once : Distinct h.findings
+
+abbrev pub AlwaysBounded : Type 0
+AlwaysBounded = (ss : List Bytes) → Bounded (history_of ss)
+
+-- ---- Log Matching (Matching)
+
+-- the printed findings have none of this name
+abbrev pub NoFinding : ℕ → History → Type 0
+NoFinding name h = (f : Finding) → Memᴰ f (finding_list h) → f.name ≡ name → ⊥
+
+-- the term of the entry at index i
+abbrev pub term_at : Prefix → ℕ → ℕ
+term_at p i = last_term (take i p)
+
+-- any two accepted views that have an entry of the same index and term, neither with a gap before it, agree through it
+abbrev pub Matching : List Prefix → Type 0
+Matching fronts =
+    (p q : Prefix) → Memᴰ p fronts → Memᴰ q fronts
+    → (i : ℕ) → 0 < i → i ≤ length p → i ≤ length q → term_at p i ≡ term_at q i → take i p ≡ take i q
+
+-- From fresh, the LG-03 list is empty exactly if the accepted views match.
+abbrev pub LogMatching : Type 0
+LogMatching = (ss : List Bytes) → NoFinding 3 (history_of ss) ↔ Matching (accepted_fronts ss)
+
+-- The walk goes on along the view's own front: a view brings LG-03 for each of its prefixes that differs from the one
+-- remembered for its index and term, and no other.
+abbrev pub EachEntryJudged : Type 0
+EachEntryJudged =
+    (ps : List Prefix) (n : ℕ) (p : Prefix) (f : Finding)
+    → Memᴰ f (mismatches ps n (begun_by p))
+    ↔ ((i : ℕ) × (0 < i) × (i ≤ length p) × Memᴰ f (mismatch ps n (take i p)))
+
+-- ---- committed prefixes (Committed)
+
+-- a committed prefix is seen by an accepted commit record that the node's front reaches at that moment; each node's front
+-- is the ledger's, the front of its last accepted view
+abbrev pub shown_by : Prefix → ℕ → List Prefix
+shown_by p i = cond (ltb 0 i && leb i (length p)) (take i p ∷ []) []
+
+abbrev pub seen_by : Ledger → Record → List Prefix
+seen_by g (view n xs) = []
+seen_by g (commit n i) = shown_by (get_or g.fronts n []) i
+seen_by g (terms old new t) = []
+seen_by g (election l t p n) = []
+seen_by g check = []
+seen_by g (rows rs) = []
+
+unfoldable pub seen_in : List Event → List Prefix
+seen_in [] = []
+seen_in (e ∷ es) = seen_by e.ledger e.event ++ seen_in es
+
+abbrev pub committed_seen : List Bytes → List Prefix
+committed_seen ss = seen_in (events_of ss)
+
+-- any two agree through the shorter
+abbrev pub Agreeing : List Prefix → Type 0
+Agreeing ps =
+    (p q : Prefix) → Memᴰ p ps → Memᴰ q ps
+    → take (min (length p) (length q)) p ≡ take (min (length p) (length q)) q
+
+-- From fresh, the LG-04 list is empty exactly if any two committed prefixes seen agree through the shorter.
+abbrev pub CommittedPrefixes : Type 0
+CommittedPrefixes = (ss : List Bytes) → NoFinding 4 (history_of ss) ↔ Agreeing (committed_seen ss)
+
+-- ---- Leader Completeness (Completeness)
+
+-- each committed entry has a commit term
+abbrev pub Known : Ledger → Type 0
+Known g = (i : ℕ) → 0 < i → i ≤ length g.committed → g.terms i ≡ none → ⊥
+
+-- at every accepted check each committed entry has its commit term
+abbrev pub KnownAtChecks : List Bytes → Type 0
+KnownAtChecks ss = (e : Event) → Memᴰ e (events_of ss) → e.event ≡ check → Known e.ledger
+
+-- Demand 3: for every list of byte strings handed in turn to one fresh history and ending with an accepted check, if each
+-- committed entry has its commit term at every accepted check, the leader list equals the plain ledger's.
+abbrev pub LeaderCompleteness : Type 0
+LeaderCompleteness =
+    (ss : List Bytes) (s : Bytes)
+    → read s ≡ readable check → is_accepted (answer (history_of ss) s) ≡ true
+    → KnownAtChecks (ss ++ (s ∷ []))
+    → leader_list (history_of (ss ++ (s ∷ []))) ≡ ledger_leaders (ledger_of (ss ++ (s ∷ [])))
+
+-- ---- leader lists (Leaders)
+
+-- a comes before b: by term, then leader
+abbrev pub Before : Leader → Leader → Type 0
+Before a b = (a.term < b.term) ⊎ ((a.term ≡ b.term) × (a.leader < b.leader))
+
+-- each comes before all that stand after it; so none stands twice
+abbrev pub Ascending : List Leader → Type 0
+Ascending [] = Unit {0}
+Ascending (a ∷ l) = ((b : Leader) → Memᴰ b l → Before a b) × Ascending l
+
+-- The leader list of any history is ascending by term and then leader, and has no pair twice.
+abbrev pub LeaderListAscends : Type 0
+LeaderListAscends = (h : History) → Ascending (leader_list h)
+
+-- So is the ledger's.
+abbrev pub LedgerLeadersAscend : Type 0
+LedgerLeadersAscend = (g : Ledger) → Ascending (ledger_leaders g)
+
+-- the (term, leader) of a finding
+abbrev pub pair_of : Finding → Leader
+pair_of f = record { term = f.term; leader = f.node }
+
+-- a finding LG-05 has the pair
+pub record Named (fs : List Finding) (a : Leader) : Type 0 where
+  pub finding : Finding
+  pub among : Memᴰ finding fs
+  pub lg05 : finding.name ≡ 5
+  pub pair : a ≡ pair_of finding
+
+-- The leader list has the (term, leader) of each LG-05, and no other.
+abbrev pub LeaderListNames : Type 0
+LeaderListNames =
+    (h : History) (a : Leader)
+    → (Memᴰ a (leader_list h) → Named h.findings a) × (Named h.findings a → Memᴰ a (leader_list h))
