@@ -12,18 +12,18 @@ use lib.Dec.{ltb, eqb}
 use lib.ListN.{length, take, length-take}
 use lib.Seq.{length-take-le}
 use borrow.Author.Tests.{ne_eqb, lt-ltb, ltb-true, ltb-false}
-use Rattle.model.specs.Sizes.{Bytes}
 use Rattle.model.specs.Entry.{Prefix, same, begins}
 use Rattle.model.specs.History.{History}
 use Rattle.model.specs.Check.{last_below, relevant, lacks, lacking, lackings, some_relevant}
+use Rattle.model.specs.Sizes.{Bytes, index_limit}
 use Rattle.model.proofs.Tests.{either, no_begins}
-use Rattle.storage_bytes.specs.Words.{word_at}
 use Rattle.storage.specs.Tables.{CertificateRow, term_row, terms_part}
 use Rattle.storage.specs.Decode.{prefix_at, certificate_in}
 use Rattle.storage.proofs.Meanings.{Stands, committed_stored, terms_stored, end_is}
 use Rattle.committed_prefix.specs.Prefix.{agree_in}
 use Rattle.committed_prefix.proofs.PrefixLaws.{agree_at, agree_beyond}
 use Rattle.storage.specs.Values.{committed_end}
+use Rattle.storage.specs.Head.{prefixes_held, terms_held, committed_number}
 use Rattle.check_relevance.specs.Relevance.{last_relevant, recorded_end, relevant_in}
 use Rattle.certificate_judgement.specs.Judgement.{lacks_through, lacking_of, lacking_at, lacking_in, flag_in, lackings_in, flags_in}
 use Rattle.check_relevance.proofs.RelevanceLaws.{last_below_lem, at_most_lem}
@@ -74,30 +74,30 @@ module _ (h : Bytes) (x : History) (s : Stands h x) where
   pub relevant_means : (c : CertificateRow) → relevant_in h c ≡ relevant x.committed x.terms (certificate_in x.prefixes c)
   unfolding relevant_in recorded_end relevant
   relevant_means c =
-      ap (λ (n : ℕ). last_relevant (term_row (terms_part h)) c.mark c.term (min n (word_at h 2 2))) (end_is h x s)
-      ∙ sym (last_below_lem c.mark (length x.committed) c.term (term_row (terms_part h)) (word_at h 2 2))
+      ap (λ (n : ℕ). last_relevant (term_row (terms_part h)) c.mark c.term (min n (terms_held h))) (end_is h x s)
+      ∙ sym (last_below_lem c.mark (length x.committed) c.term (term_row (terms_part h)) (terms_held h))
       ∙ ap (last_below c.mark (length x.committed) c.term 1) (terms_stored h x s)
 
-  pub relevant_within : (c : CertificateRow) → (relevant_in h c ≤ length x.committed) × (relevant_in h c ≤ 256)
+  pub relevant_within : (c : CertificateRow) → (relevant_in h c ≤ length x.committed) × (relevant_in h c ≤ index_limit)
   unfolding relevant_in recorded_end
   relevant_within c =
-      let a = at_most_lem (term_row (terms_part h)) c.mark c.term (min (committed_end h) (word_at h 2 2)) in
+      let a = at_most_lem (term_row (terms_part h)) c.mark c.term (min (committed_end h) (terms_held h)) in
       let b = end_is h x s in
       let d = (formed h s.right).terms in
       (omega arith, omega arith)
 
   -- ---- the log
 
-  module _ (c : CertificateRow) (i : ℕ) (log : c.log ≤ word_at h 0 2) (within : i ≤ length x.committed) where
-    compared : agree_in h c.log (word_at h 4 2) i ≡ begins (prefix_at x.prefixes c.log) (take i x.committed)
+  module _ (c : CertificateRow) (i : ℕ) (log : c.log ≤ prefixes_held h) (within : i ≤ length x.committed) where
+    compared : agree_in h c.log (committed_number h) i ≡ begins (prefix_at x.prefixes c.log) (take i x.committed)
     compared =
         let l = (formed h s.right).committed in
         let e = committed_stored h x s in
         ⊎_elim
         (λ b. let z = ltb-true _ i b in
-        agree_beyond h x s c.log (word_at h 4 2) log l i z ∙ sym (begins_shorter (prefix_at x.prefixes c.log) x.committed i within z))
+        agree_beyond h x s c.log (committed_number h) log l i z ∙ sym (begins_shorter (prefix_at x.prefixes c.log) x.committed i within z))
         (λ b. let z = ltb-false _ i b in
-        agree_at h x s c.log (word_at h 4 2) log l i z (let n = ap length e in omega arith)
+        agree_at h x s c.log (committed_number h) log l i z (let n = ap length e in omega arith)
         ∙ ap (λ (p : Prefix). same (take i (prefix_at x.prefixes c.log)) (take i p)) e
         ∙ sym (begins_through (prefix_at x.prefixes c.log) x.committed i within))
         (either (ltb (length (prefix_at x.prefixes c.log)) i))
@@ -110,7 +110,7 @@ module _ (h : Bytes) (x : History) (s : Stands h x) where
 
   -- ---- what is noted of one, and of all
 
-  pub lacking_means : (c : CertificateRow) → c.log ≤ word_at h 0 2 → lacking_in h c ≡ lacking x.committed x.terms (certificate_in x.prefixes c)
+  pub lacking_means : (c : CertificateRow) → c.log ≤ prefixes_held h → lacking_in h c ≡ lacking x.committed x.terms (certificate_in x.prefixes c)
   unfolding lacking_in lacking_at lacking
   lacking_means c log =
       let r = relevant_in h c in
@@ -118,7 +118,7 @@ module _ (h : Bytes) (x : History) (s : Stands h x) where
       ∙ ap (λ (b : Bool). cond (ltb 0 r && b) (lacking_of c r ∷ []) []) (lacks_means c r log (relevant_within c).0)
       ∙ ap (λ (i : ℕ). cond (ltb 0 i && lacks (certificate_in x.prefixes c).log (take i x.committed)) (lacking_of c i ∷ []) []) (relevant_means c)
 
-  pub lackings_mean : (cs : List CertificateRow) → ((c : CertificateRow) → Memᴰ c cs → c.log ≤ word_at h 0 2)
+  pub lackings_mean : (cs : List CertificateRow) → ((c : CertificateRow) → Memᴰ c cs → c.log ≤ prefixes_held h)
       → lackings_in h cs ≡ lackings x.committed x.terms (map (certificate_in x.prefixes) cs)
   unfolding lackings_in lackings
   lackings_mean [] f = refl

@@ -11,8 +11,8 @@ use Rattle.model.specs.Sizes.{Bytes}
 use Rattle.model.proofs.Tests.{cond_true, cond_false}
 use Rattle.storage_bytes.specs.Lists.{tabulate}
 use Rattle.storage.specs.Values.{certificates_of}
-use Rattle.storage_bytes.specs.Words.{word_at}
 use Rattle.storage.specs.Tables.{CertificateRow, certificate_row, certificates_part}
+use Rattle.storage.specs.Head.{prefixes_held, committed_number, certificates_held}
 use Rattle.storage_bytes.proofs.ListLaws.{tabulate_cons, tabulate_none}
 use Rattle.log_violation.specs.Violation.{held_all, bytes_all, NotedAll, note_where}
 use Rattle.log_violation.proofs.ViolationLaws.{held_then, bytes_then}
@@ -25,9 +25,9 @@ use Rattle.certificate_judgement.specs.Judgement.{lacks_through, lacking_of, lac
 pub row_here : (h p : Bytes) (k : ℕ) (c : CertificateRow) → p ≡ certificates_part h → c ≡ certificate_row p k → c ≡ certificate_row (certificates_part h) k
 row_here h p k c a e = e ∙ ap (λ (q : Bytes). certificate_row q k) a
 
-pub row_stored : (h p : Bytes) (k : ℕ) → Formed h → k < word_at h 6 1 → (c : CertificateRow) → p ≡ certificates_part h → c ≡ certificate_row p k
-    → c.log ≤ word_at h 0 2
-row_stored h p k s l c a e = subst (λ (x : CertificateRow). x.log ≤ word_at h 0 2) (sym (row_here h p k c a e)) (s.certificate k l).log
+pub row_stored : (h p : Bytes) (k : ℕ) → Formed h → k < certificates_held h → (c : CertificateRow) → p ≡ certificates_part h → c ≡ certificate_row p k
+    → c.log ≤ prefixes_held h
+row_stored h p k s l c a e = subst (λ (x : CertificateRow). x.log ≤ prefixes_held h) (sym (row_here h p k c a e)) (s.certificate k l).log
 
 -- ---- whether the log lacks the committed prefix
 
@@ -36,7 +36,7 @@ module _ (h : Bytes) (c : CertificateRow) (i : ℕ) where
   unfolding lacks_through
   lacks_absent e = sym (cond_true (eqb c.present 0) true _ (eq-eqb c.present 0 e))
 
-  pub lacks_there : (c.present ≡ 0 → ⊥) → (p : ℕ) → p ≡ word_at h 4 2 → (b : Bool) → b ≡ agree_in h c.log p i → not b ≡ lacks_through h c i
+  pub lacks_there : (c.present ≡ 0 → ⊥) → (p : ℕ) → p ≡ committed_number h → (b : Bool) → b ≡ agree_in h c.log p i → not b ≡ lacks_through h c i
   unfolding lacks_through
   lacks_there there p ep b e =
       ap not (e ∙ ap (λ (n : ℕ). agree_in h c.log n i) ep)

@@ -10,13 +10,14 @@ use lib.ListN.{length, set}
 use Rattle.model.specs.Sizes.{Bytes}
 use Rattle.model.specs.History.{Finding, Certificate, History, noted, with_certificates}
 use Rattle.model.specs.Check.{relevant, lacking, moved}
-use Rattle.storage_bytes.specs.Words.{word_at}
+use Rattle.storage_bytes.specs.Layout.{findings_length}
 use Rattle.storage.specs.Tables.{CertificateRow, certificate_row, certificates_part}
 use Rattle.storage.specs.Decode.{certificate_in}
 use Rattle.storage.proofs.DecodeLaws.{CertificateNamed}
 use Rattle.storage.proofs.Meanings.{Stands, end_is}
 use Rattle.log_violation.proofs.ViolationLaws.{Holds, all_hold}
 use Rattle.storage.specs.Values.{committed_end}
+use Rattle.storage.specs.Head.{prefixes_held, certificates_held}
 use Rattle.check_relevance.specs.Relevance.{relevant_in}
 use Rattle.certificate_judgement.specs.Judgement.{flag_in, lacking_in, JudgedAs}
 use Rattle.check_marks.specs.Marks.{mark_moved}
@@ -37,8 +38,8 @@ either_set true b = refl
 either_set false b = refl
 
 module _ (h : Bytes) (x : History) (s : Stands h x) where
-  pub judge_means : (c : CertificateRow) → CertificateNamed (word_at h 0 2) c → (t : Bytes) (b held : ℕ) (r : Bool) (held' : ℕ) (t' : Bytes) (fs : List Finding)
-      → length t ≡ 1024 → Holds t held fs → JudgedAs h c t held r held' t' → StepMeans x (certificate_in x.prefixes c) b fs (cond r 4 b) held' t'
+  pub judge_means : (c : CertificateRow) → CertificateNamed (prefixes_held h) c → (t : Bytes) (b held : ℕ) (r : Bool) (held' : ℕ) (t' : Bytes) (fs : List Finding)
+      → length t ≡ findings_length → Holds t held fs → JudgedAs h c t held r held' t' → StepMeans x (certificate_in x.prefixes c) b fs (cond r 4 b) held' t'
   unfolding flag_in
   judge_means c w t b held r held' t' fs l k j =
       record {
@@ -50,7 +51,7 @@ module _ (h : Bytes) (x : History) (s : Stands h x) where
       }
 
   -- its mark moves to the committed end, and nothing else changes
-  pub move_means : (k : ℕ) → k < word_at h 6 1
+  pub move_means : (k : ℕ) → k < certificates_held h
       → Stands (mark_moved h k (committed_end h))
       (with_certificates x (set x.certificates k (moved x.committed (certificate_in x.prefixes (certificate_row (certificates_part h) k)))))
   unfolding moved

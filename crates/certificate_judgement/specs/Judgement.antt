@@ -6,6 +6,7 @@ use Rattle.model.specs.History.{Finding}
 use Rattle.storage_bytes.specs.Words.{word_at}
 use Rattle.storage.specs.Tables.{CertificateRow}
 use Rattle.storage.specs.Values.{certificates_of}
+use Rattle.storage.specs.Head.{committed_number}
 use Rattle.committed_prefix.specs.Prefix.{agree_in}
 use Rattle.log_violation.specs.Violation.{held_all, bytes_all, note_where}
 use Rattle.check_relevance.specs.Relevance.{relevant_in}
@@ -15,7 +16,7 @@ use Rattle.check_relevance.specs.Relevance.{relevant_in}
 -- "a log that is absent, shorter or different" through index i of the committed prefix
 unfoldable pub lacks_through : Bytes → CertificateRow → ℕ → Bool
 unfolding agree_in word_at
-lacks_through h c i = cond (eqb c.present 0) true (not (agree_in h c.log (word_at h 4 2) i))
+lacks_through h c i = cond (eqb c.present 0) true (not (agree_in h c.log (committed_number h) i))
 
 -- LG-05 (leader, index, term)
 abbrev pub lacking_of : CertificateRow → ℕ → Finding

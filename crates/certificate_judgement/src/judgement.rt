@@ -1,8 +1,8 @@
 // A certificate judged: whether it has a relevant index, LG-05 where its log is absent, shorter or different through
 // it. Nothing of the history is written; findings are noted in a copy of its table (`Notes`).
 ghost use Rattle.std.specs.Prelude.{◌≡◌, ◌≤◌};
-ghost use Rattle.storage_bytes.specs.Words.{word_at};
 ghost use Rattle.storage.specs.Values.{committed_end};
+ghost use Rattle.storage.specs.Head.{prefixes_held, committed_number};
 ghost use Rattle.certificate_rows.specs.Values.{certificate_value};
 ghost use Rattle.certificate_judgement.specs.Judgement.{lacks_through, JudgedAs, JudgedAll};
 
@@ -33,7 +33,7 @@ fn lacks_through(
     c: Certificate,
     index: LogIndex,
 ) -> bool
-    requires { (committed.0 ≡ word_at history.bytes.now 4 2) × (c.log.0 ≤ word_at history.bytes.now 0 2) }
+    requires { (committed.0 ≡ committed_number history.bytes.now) × (c.log.0 ≤ prefixes_held history.bytes.now) }
     ensures { result ≡ lacks_through history.entry.bytes.now (certificate_value c) index.0 }
 {
     let Some(log) = c.log() else {
@@ -44,7 +44,7 @@ fn lacks_through(
 
 // One certificate: whether it has a relevant index. LG-05 is noted where its log lacks the committed prefix through it.
 pub fn judge(history: Stored<'_>, committed: Committed, c: Certificate, notes: &mut Notes) -> bool
-    requires { (committed.prefix.0 ≡ word_at history.bytes.now 4 2) × (committed.end.0 ≡ committed_end history.bytes.now) × (c.log.0 ≤ word_at history.bytes.now 0 2) }
+    requires { (committed.prefix.0 ≡ committed_number history.bytes.now) × (committed.end.0 ≡ committed_end history.bytes.now) × (c.log.0 ≤ prefixes_held history.bytes.now) }
     ensures { JudgedAs history.entry.bytes.now (certificate_value c) notes.old.rows notes.old.held result notes.new.held notes.new.rows }
 {
     let Some(index) = relevant_index(history, committed.end, c) else {
@@ -64,7 +64,7 @@ pub fn judge(history: Stored<'_>, committed: Committed, c: Certificate, notes: &
 // Every certificate, by term, then arrival, as they are stored: whether one has a relevant index.
 #[tactic(auto, using(storage::proofs::WellFormed::certificates_fit))]
 pub fn judge_all(history: Stored<'_>, committed: Committed, notes: &mut Notes) -> bool
-    requires { (committed.prefix.0 ≡ word_at history.bytes.now 4 2) × (committed.end.0 ≡ committed_end history.bytes.now) }
+    requires { (committed.prefix.0 ≡ committed_number history.bytes.now) × (committed.end.0 ≡ committed_end history.bytes.now) }
     ensures { JudgedAll history.entry.bytes.now notes.old.rows notes.old.held result notes.new.held notes.new.rows }
 {
     let bytes = history.bytes;

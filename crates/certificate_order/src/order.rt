@@ -4,6 +4,7 @@
 ghost use Rattle.std.specs.Prelude.{◌≡◌, ◌≤◌};
 ghost use Rattle.storage.specs.Tables.{certificate_row};
 ghost use Rattle.certificate_order.specs.Order.{place_from, held_before, taken_before};
+ghost use Rattle.model.specs.Sizes.{certificate_limit};
 
 use certificate_rows::certificates::{number_at, term_at};
 use storage_bytes::layout::Certificates;
@@ -12,7 +13,7 @@ use units::Term;
 // How many of the n stand before those of a later term: from the end back, the first that is of no later one is the last of them.
 #[tactic(auto, using(crate::proofs::Loops::place_none))]
 pub fn place_of(certificates: &Certificates, n: usize, term: Term) -> usize
-    requires { n ≤ 64 }
+    requires { n ≤ certificate_limit }
     ensures { result ≡ place_from (certificate_row certificates.now) term.0 n }
 {
     for k in (0..n).rev() {
@@ -26,7 +27,7 @@ pub fn place_of(certificates: &Certificates, n: usize, term: Term) -> usize
 // How many right before the place are of the term.
 #[tactic(auto, using(crate::proofs::Loops::held_stop, crate::proofs::Loops::held_next, crate::proofs::Loops::held_none))]
 pub fn held_of(certificates: &Certificates, place: usize, term: Term) -> usize
-    requires { place ≤ 64 }
+    requires { place ≤ certificate_limit }
     ensures { result ≡ held_before (certificate_row certificates.now) term.0 place }
 {
     for k in (0..place).rev() {
@@ -39,7 +40,7 @@ pub fn held_of(certificates: &Certificates, place: usize, term: Term) -> usize
 
 // Whether one of the `held` right before the place has the number.
 pub fn is_taken(certificates: &Certificates, place: usize, held: usize, number: usize) -> bool
-    requires { (held ≤ place) × (place ≤ 64) }
+    requires { (held ≤ place) × (place ≤ certificate_limit) }
     ensures { result ≡ taken_before (certificate_row certificates.now) number place held }
 {
     (place - held..place).any(|k| number_at(certificates, k) == number)

@@ -5,13 +5,17 @@ ghost use Rattle.storage.specs.Tables.{CertificateRow, certificate_row};
 ghost use Rattle.storage.proofs.RowLaws.{certificate_length};
 ghost use Rattle.certificate_rows.specs.Values.{certificate_value, log_of};
 ghost use Rattle.storage_bytes.specs.declared.layout.TheConstants.{CERTIFICATES};
-ghost use Rattle.storage_bytes.specs.Words.{word_at, word_bytes, put_bytes};
+ghost use Rattle.storage_bytes.specs.Words.{word_bytes, put_bytes};
+ghost use Rattle.storage_bytes.specs.Layout.{certificates_length, certificate_width, index_width, certificate_mark};
 ghost use Rattle.storage.specs.Writes.{certificate_bytes, certificate_inserted, certificate_added};
+ghost use Rattle.storage.specs.Head.{certificates_held};
+ghost use Rattle.model.specs.Sizes.{certificate_limit};
 
 use storage::head::{certificate_count, set_certificate_count};
 use storage::rows::{Row, StoredRow};
 use storage_bytes::layout::{
-    CERTIFICATE_MARK, CERTIFICATE_WIDTH, CERTIFICATES, Certificates, History, Region,
+    CERTIFICATE_LEADER, CERTIFICATE_LOG, CERTIFICATE_MARK, CERTIFICATE_NUMBER, CERTIFICATE_PRESENT,
+    CERTIFICATE_WIDTH, CERTIFICATES, Certificates, History, Region,
 };
 use storage_bytes::words::{Field, move_up, put8};
 use units::{LogIndex, LogPrefixWitness, NodeId, Term};
@@ -47,9 +51,9 @@ impl Certificate {
 impl Row for Certificate {
     ghost TABLE = { CERTIFICATES };
 
-    ghost width = { 11 };
+    ghost width = { certificate_width };
 
-    ghost count = { 64 };
+    ghost count = { certificate_limit };
 
     ghost bytes = { λ x. certificate_bytes (certificate_value x) };
 
@@ -66,11 +70,11 @@ impl Row for Certificate {
     fn put(self, certificates: &mut [u8], k: usize) {
         let o = k * CERTIFICATE_WIDTH;
         self.term.write(certificates, o);
-        self.log.write(certificates, o + 4);
+        self.log.write(certificates, o + CERTIFICATE_LOG);
         self.mark.write(certificates, o + CERTIFICATE_MARK);
-        self.leader.write(certificates, o + 8);
-        put8(certificates, o + 9, self.number);
-        put8(certificates, o + 10, self.present);
+        self.leader.write(certificates, o + CERTIFICATE_LEADER);
+        put8(certificates, o + CERTIFICATE_NUMBER, self.number);
+        put8(certificates, o + CERTIFICATE_PRESENT, self.present);
     }
 }
 
@@ -85,11 +89,11 @@ impl StoredRow for Certificate {
         let o = k * CERTIFICATE_WIDTH;
         Certificate {
             term: Term::read(certificates, o),
-            log: LogPrefixWitness::read(certificates, o + 4),
+            log: LogPrefixWitness::read(certificates, o + CERTIFICATE_LOG),
             mark: LogIndex::read(certificates, o + CERTIFICATE_MARK),
-            leader: NodeId::read(certificates, o + 8),
-            number: usize::from(u8::read(certificates, o + 9)),
-            present: usize::from(u8::read(certificates, o + 10)),
+            leader: NodeId::read(certificates, o + CERTIFICATE_LEADER),
+            number: usize::from(u8::read(certificates, o + CERTIFICATE_NUMBER)),
+            present: usize::from(u8::read(certificates, o + CERTIFICATE_PRESENT)),
         }
     }
 }
@@ -97,7 +101,7 @@ impl StoredRow for Certificate {
 // The term of row k alone. Fields that are read alone have a function each: one generic function would take a field's place and type
 // at each call, where its name stands now.
 pub fn term_at(certificates: &Certificates, k: usize) -> Term
-    requires { k < 64 }
+    requires { k < certificate_limit }
     ensures { result.0 ≡ (certificate_row certificates.now k).term }
 {
     Term::read(certificates, k * CERTIFICATE_WIDTH)
@@ -105,7 +109,7 @@ pub fn term_at(certificates: &Certificates, k: usize) -> Term
 
 // Its mark alone.
 pub fn mark_at(certificates: &Certificates, k: usize) -> LogIndex
-    requires { k < 64 }
+    requires { k < certificate_limit }
     ensures { result.0 ≡ (certificate_row certificates.now k).mark }
 {
     LogIndex::read(certificates, k * CERTIFICATE_WIDTH + CERTIFICATE_MARK)
@@ -113,16 +117,16 @@ pub fn mark_at(certificates: &Certificates, k: usize) -> LogIndex
 
 // Its number within its term alone.
 pub fn number_at(certificates: &Certificates, k: usize) -> usize
-    requires { k < 64 }
+    requires { k < certificate_limit }
     ensures { result ≡ (certificate_row certificates.now k).number }
 {
-    usize::from(u8::read(certificates, k * CERTIFICATE_WIDTH + 9))
+    usize::from(u8::read(certificates, k * CERTIFICATE_WIDTH + CERTIFICATE_NUMBER))
 }
 
 // The mark of row k alone, written in the table.
 pub fn put_mark(certificates: &mut [u8], k: usize, mark: LogIndex)
-    requires { (k < 64) × (length certificates.old ≡ 704) }
-    ensures { certificates.new ≡ put_bytes certificates.old (k * 11 + 6) (word_bytes 2 mark.0) }
+    requires { (k < certificate_limit) × (length certificates.old ≡ certificates_length) }
+    ensures { certificates.new ≡ put_bytes certificates.old (k * certificate_width + certificate_mark) (word_bytes index_width mark.0) }
 {
     mark.write(certificates, k * CERTIFICATE_WIDTH + CERTIFICATE_MARK);
 }
@@ -130,7 +134,7 @@ pub fn put_mark(certificates: &mut [u8], k: usize, mark: LogIndex)
 // A row inserted at place k of a table of n: those from k on move up.
 #[tactic(auto, unfolding(storage::specs::Writes::certificate_inserted))]
 pub fn insert_certificate(certificates: &mut [u8], n: usize, k: usize, c: Certificate)
-    requires { (k ≤ n) × (n < 64) × (length certificates.old ≡ 704) }
+    requires { (k ≤ n) × (n < certificate_limit) × (length certificates.old ≡ certificates_length) }
     ensures { certificates.new ≡ certificate_inserted certificates.old n k (certificate_value c) }
 {
     let w = CERTIFICATE_WIDTH;
@@ -142,7 +146,7 @@ pub fn insert_certificate(certificates: &mut [u8], n: usize, k: usize, c: Certif
 // not prove for a range.
 #[tactic(auto, using(storage::proofs::WriteLaws::certificate_added_lem))]
 pub fn add_certificate(history: &mut History, k: usize, c: Certificate)
-    requires { (k ≤ word_at history.old 6 1) × (word_at history.old 6 1 < 64) }
+    requires { (k ≤ certificates_held history.old) × (certificates_held history.old < certificate_limit) }
     ensures { history.new ≡ certificate_added history.old k (certificate_value c) }
 {
     let n = certificate_count(history);

@@ -4,6 +4,7 @@ ghost use Rattle.storage_bytes.specs.Lists.{every};
 ghost use Rattle.storage.specs.Tables.{rows_of_certificates};
 ghost use Rattle.storage.specs.Rules.{certificate_right, follows as followsRow, numbered as numberedRows};
 ghost use Rattle.certificate_rows.specs.Values.{certificate_value};
+ghost use Rattle.model.specs.Sizes.{certificate_limit};
 
 use certificate_rows::certificates::Certificate;
 use std::cmp::Ordering;
@@ -30,7 +31,7 @@ fn certificate_right(n: usize, c: Certificate) -> bool
 
 // The storage rules of every one of m rows by itself.
 pub fn certificates_right(certificates: &Certificates, m: usize, n: usize) -> bool
-    requires { m ≤ 64 }
+    requires { m ≤ certificate_limit }
     ensures { result ≡ every (certificate_right n) (rows_of_certificates certificates.now m) }
 {
     all_rows(certificates, m, |c: Certificate| certificate_right(n, c))
@@ -51,7 +52,7 @@ fn follows(c: Certificate, d: Certificate) -> bool
 // The certificates of each term are numbered 0, 1, .. unbroken.
 #[tactic(auto, using(crate::proofs::Turns::numbered_start, crate::proofs::Turns::numbered_first, crate::proofs::Turns::numbered_no_rows, crate::proofs::Turns::numbered_next, crate::proofs::Turns::numbered_stop, crate::proofs::Turns::numbered_none))]
 pub fn numbered(certificates: &Certificates, m: usize) -> bool
-    requires { m ≤ 64 }
+    requires { m ≤ certificate_limit }
     ensures { result ≡ numberedRows (rows_of_certificates certificates.now m) }
 {
     if m == 0 {

@@ -11,13 +11,13 @@ use lib.Dec.{ltb}
 use lib.ListN.{length, get_or, set, length-append}
 use lib.Seq.{set-get_or, set-append_seam, get_or-append_seam, append_snoc}
 use borrow.Author.Tests.{ltb-true, ltb-false}
-use Rattle.model.specs.Sizes.{Bytes}
 use Rattle.model.specs.History.{Certificate, History, with_certificates}
 use Rattle.model.specs.Terms.{with_mark}
+use Rattle.model.specs.Sizes.{Bytes, index_limit}
 use Rattle.model.proofs.Tests.{either, cond_true, cond_false}
-use Rattle.storage_bytes.specs.Words.{word_at}
 use Rattle.storage.specs.Tables.{CertificateRow}
 use Rattle.storage.specs.Decode.{certificate_in}
+use Rattle.storage.specs.Head.{certificates_held}
 use Rattle.storage.proofs.Meanings.{Stands, certificates_read}
 use Rattle.term_marks.specs.Marks.{mark_set, certificate_of}
 use Rattle.term_marks.proofs.MarkLaws.{certificate_at, mark_written}
@@ -29,7 +29,7 @@ raised end c = with_mark c (max c.mark end)
 
 -- ---- one certificate
 
-module _ (h : Bytes) (x : History) (s : Stands h x) (end : ℕ) (small : end ≤ 256) (k : ℕ) (l : k < word_at h 6 1) where
+module _ (h : Bytes) (x : History) (s : Stands h x) (end : ℕ) (small : end ≤ index_limit) (k : ℕ) (l : k < certificates_held h) where
   abbrev c : CertificateRow
   c = certificate_of h k
 
@@ -69,7 +69,7 @@ module _ (h : Bytes) (x : History) (s : Stands h x) (end : ℕ) (small : end ≤
 -- ---- all of them, from the k-th on
 
 -- the history's certificates are some whose marks have moved, and the rest
-pub marks_mean : (cs : List CertificateRow) (moved : List Certificate) (h : Bytes) (x : History) → Stands h x → (end : ℕ) → end ≤ 256
+pub marks_mean : (cs : List CertificateRow) (moved : List Certificate) (h : Bytes) (x : History) → Stands h x → (end : ℕ) → end ≤ index_limit
     → x.certificates ≡ moved ++ map (certificate_in x.prefixes) cs
     → Stands (marks_moved h end (length moved) (length cs)) (with_certificates x (moved ++ map (raised end) (map (certificate_in x.prefixes) cs)))
 unfolding marks_moved
@@ -95,11 +95,11 @@ marks_mean (c ∷ cs) moved h x s end small e =
     longer : length (moved ++ (raised end d ∷ [])) ≡ k + 1
     longer = length-append moved (raised end d ∷ [])
 
-    count : word_at h 6 1 ≡ k + suc (length rest)
+    count : certificates_held h ≡ k + suc (length rest)
     count =
         sym (certificates_read h) ∙ ap (λ (y : History). length y.certificates) s.decodes ∙ ap length e ∙ length-append moved (d ∷ rest)
 
-    before : k < word_at h 6 1
+    before : k < certificates_held h
     before = omega (arith, count)
 
     row : CertificateRow

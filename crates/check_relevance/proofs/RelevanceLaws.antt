@@ -15,9 +15,9 @@ use Rattle.model.specs.Check.{last_below}
 use Rattle.model.proofs.Tests.{tf, cond_cases, cond_true, cond_false}
 use Rattle.model.specs.Sizes.{Bytes}
 use Rattle.storage_bytes.specs.Lists.{tabulate}
-use Rattle.storage_bytes.specs.Words.{word_at}
 use Rattle.storage.specs.Tables.{CertificateRow, term_row, terms_part}
 use Rattle.storage.specs.Values.{committed_end}
+use Rattle.storage.specs.Head.{terms_held}
 use Rattle.storage_bytes.proofs.ListLaws.{tabulate_length, tabulate_snoc}
 use Rattle.check_relevance.specs.Relevance.{last_relevant, recorded_end, relevant_in}
 
@@ -143,7 +143,7 @@ module _ (mark end t : ℕ) where
 -- ---- what is read
 
 module _ (h : Bytes) (c : CertificateRow) (end : ℕ) (ee : end ≡ committed_end h) where
-  pub relevant_read : (ts : Bytes) → ts ≡ terms_part h → (n : ℕ) → n ≡ word_at h 2 2 → (last : ℕ) → last ≡ min end n
+  pub relevant_read : (ts : Bytes) → ts ≡ terms_part h → (n : ℕ) → n ≡ terms_held h → (last : ℕ) → last ≡ min end n
       → last_relevant (term_row ts) c.mark c.term last ≡ relevant_in h c
   unfolding relevant_in recorded_end
   relevant_read ts et n en last el = λ i. last_relevant (term_row (et i)) c.mark c.term ((el ∙ (λ j. min (ee j) (en j))) i)
@@ -153,4 +153,4 @@ module _ (h : Bytes) (c : CertificateRow) (end : ℕ) (ee : end ≡ committed_en
   unfolding relevant_in recorded_end
   relevant_not_passed l =
       let z : committed_end h ≤ c.mark = subst (λ (y : ℕ). y ≤ c.mark) ee l in
-      sym (at_none (term_row (terms_part h)) c.mark c.term (min (committed_end h) (word_at h 2 2)) (omega arith))
+      sym (at_none (term_row (terms_part h)) c.mark c.term (min (committed_end h) (terms_held h)) (omega arith))

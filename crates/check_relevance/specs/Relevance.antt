@@ -5,6 +5,7 @@ use Rattle.model.specs.Sizes.{Bytes}
 use Rattle.storage_bytes.specs.Words.{word_at}
 use Rattle.storage.specs.Tables.{CertificateRow, term_row, terms_part}
 use Rattle.storage.specs.Values.{committed_end}
+use Rattle.storage.specs.Head.{terms_held}
 
 -- the last of the indexes up to the given one that is after the mark and has a term below t, 0 where none has. The term of
 -- index k + 1 is `row k`.
@@ -16,7 +17,7 @@ last_relevant row mark t (suc k) =
 -- the last committed index with a recorded term: an absent one is not relevant
 unfoldable pub recorded_end : Bytes → ℕ
 unfolding committed_end word_at
-recorded_end h = min (committed_end h) (word_at h 2 2)
+recorded_end h = min (committed_end h) (terms_held h)
 
 -- the certificate's relevant index, 0 where it has none
 unfoldable pub relevant_in : Bytes → CertificateRow → ℕ

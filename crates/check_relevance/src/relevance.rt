@@ -6,6 +6,7 @@ ghost use Rattle.storage.specs.Values.{committed_end};
 ghost use Rattle.certificate_rows.specs.Values.{certificate_value};
 ghost use Rattle.table_rows.specs.TermSearch.{found_index};
 ghost use Rattle.check_relevance.specs.Relevance.{last_relevant, relevant_in};
+ghost use Rattle.model.specs.Sizes.{index_limit};
 
 use certificate_rows::certificates::Certificate;
 use storage::head::last_recorded;
@@ -16,7 +17,7 @@ use units::{LogIndex, Term};
 
 // From the end back to the mark, so that the first one met is the last.
 fn last_relevant(terms: &Terms, end: LogIndex, mark: LogIndex, term: Term) -> Option<LogIndex>
-    requires { end.0 ≤ 256 }
+    requires { end.0 ≤ index_limit }
     ensures { result ≡ found_index (last_relevant (term_row terms.now) mark.0 term.0 end.0) }
 {
     for k in (mark.0..end.0).rev() {

@@ -10,13 +10,12 @@ use mathlib.Core.Option.{none, some}
 use lib.Dec.{leb, ltb, eqb}
 use lib.ListN.{length, take}
 use borrow.Author.Tests.{eqb-true, eqb-false, lt-ltb, le-ltb, le-leb, lt-leb}
-use Rattle.model.specs.Sizes.{Bytes}
 use Rattle.model.specs.Entry.{Prefix, same, agree, with_all}
 use Rattle.model.specs.Refusal.{findingsFull}
 use Rattle.model.specs.History.{Finding, History, front_of, noted, with_findings}
 use Rattle.model.specs.Commit.{seen, unseen_mark, replaces, differences, commit_findings, commit_refusal, agreement, commit_value, commit_effect}
+use Rattle.model.specs.Sizes.{Bytes, node_count, index_limit, finding_limit}
 use Rattle.model.proofs.Tests.{either, cond_true, cond_false, yes_same}
-use Rattle.storage_bytes.specs.Words.{word_at}
 use Rattle.storage.proofs.RuleLaws.{pass, stop}
 use Rattle.storage.proofs.Meanings.{Stands, findings_read}
 use Rattle.log_violation.specs.Violation.{room_for, noted_in}
@@ -32,6 +31,7 @@ use Rattle.committed_prefix.proofs.PrefixLaws.{changed, at, committed_is, owner_
 use Rattle.commit.proofs.Ends.{longer_means, end_means, agree_means, end_limit}
 use Rattle.commit.proofs.Difference.{difference_noted}
 use Rattle.std.specs.Prelude.{None, Result, Ok, Err}
+use Rattle.storage.specs.Head.{prefixes_held, committed_number, owner_of}
 
 -- ---- of the model alone
 
@@ -77,15 +77,15 @@ module _ (x : History) (n i : ℕ) where
       ((v : ℕ) × (r ≡ Ok v) × Accepts v h')
       ⊎ ((r ≡ Err (record {})) × (commit_refusal x n i ≡ some findingsFull) × (h' ≡ h))
 
-  few : (fs : List Finding) → fs ≡ commit_findings x n i → length fs ≤ 128 → commit_refusal x n i ≡ none
+  few : (fs : List Finding) → fs ≡ commit_findings x n i → length fs ≤ finding_limit → commit_refusal x n i ≡ none
   unfolding commit_refusal
   few fs e l =
-      cond_false (ltb 128 (length (commit_findings x n i))) _ _ (ap (λ (gs : List Finding). ltb 128 (length gs)) (sym e) ∙ le-ltb 128 (length fs) l)
+      cond_false (ltb finding_limit (length (commit_findings x n i))) _ _ (ap (λ (gs : List Finding). ltb finding_limit (length gs)) (sym e) ∙ le-ltb finding_limit (length fs) l)
 
-  many : (fs : List Finding) → fs ≡ commit_findings x n i → 128 < length fs → commit_refusal x n i ≡ some findingsFull
+  many : (fs : List Finding) → fs ≡ commit_findings x n i → finding_limit < length fs → commit_refusal x n i ≡ some findingsFull
   unfolding commit_refusal
   many fs e l =
-      cond_true (ltb 128 (length (commit_findings x n i))) _ _ (ap (λ (gs : List Finding). ltb 128 (length gs)) (sym e) ∙ lt-ltb 128 (length fs) l)
+      cond_true (ltb finding_limit (length (commit_findings x n i))) _ _ (ap (λ (gs : List Finding). ltb finding_limit (length gs)) (sym e) ∙ lt-ltb finding_limit (length fs) l)
 
   effect_is : (m : ℕ) (c : Prefix) (o : ℕ) (fs : List Finding) → m ≡ unseen_mark (front_of x n) i
       → c ≡ cond (replaces x.committed (seen x n i)) (seen x n i) x.committed
@@ -106,12 +106,12 @@ module _ (x : History) (n i : ℕ) where
   differing c p ec ep e =
       sym (ap (noted x.findings) ((λ j. differences n (ec j) (ep j)) ∙ cond_false (agree c p) [] _ e))
 
-  module _ (h : Bytes) (s : Stands h x) (here : n < 64) (limit : i ≤ 256) where
-    held : length x.findings ≤ 128
+  module _ (h : Bytes) (s : Stands h x) (here : n < node_count) (limit : i ≤ index_limit) where
+    held : length x.findings ≤ finding_limit
     held = (let a = ap (λ (y : History). length y.findings) (sym s.decodes) ∙ findings_read h in let b = (formed h s.right).findings in omega arith)
 
     -- nothing is seen: only the mark is set
-    nothing_seen : (m : ℕ) → m ≤ 256 → m ≡ unseen_mark (front_of x n) i → seen x n i ≡ [] → Accepts 0 (unseen_set h n m)
+    nothing_seen : (m : ℕ) → m ≤ index_limit → m ≡ unseen_mark (front_of x n) i → seen x n i ≡ [] → Accepts 0 (unseen_set h n m)
     unfolding commit_value
     nothing_seen m b em e =
         let keeps : replaces x.committed (seen x n i) ≡ false = ap (replaces x.committed) e ∙ keeps_empty x.committed in
@@ -126,7 +126,7 @@ module _ (x : History) (n i : ℕ) where
               (unseen_written h x s n m here b);
         }
 
-    module _ (p : ℕ) (within : p ≤ word_at h 0 2) (reach : 0 ≡ unseen_mark (front_of x n) i) (es : seen x n i ≡ at h x s p) (some-seen : p ≡ 0 → ⊥) where
+    module _ (p : ℕ) (within : p ≤ prefixes_held h) (reach : 0 ≡ unseen_mark (front_of x n) i) (es : seen x n i ≡ at h x s p) (some-seen : p ≡ 0 → ⊥) where
       seen_some : at h x s p ≡ [] → ⊥
       seen_some e = some-seen (empty_is h x s p within e)
 
@@ -154,29 +154,29 @@ module _ (x : History) (n i : ℕ) where
           ∙ (λ j. ltb (length (e j)) (length (es j))) ∙ lt-ltb 0 (length (at h x s p)) (nonempty (at h x s p) seen_some))
           0 (sym (ap (λ (c : Prefix). agreement n x.owner c (seen x n i)) e))
 
-      module _ (c : ℕ) (lc : c ≤ word_at h 0 2) (ec : x.committed ≡ at h x s c) (some-kept : c ≡ 0 → ⊥) where
+      module _ (c : ℕ) (lc : c ≤ prefixes_held h) (ec : x.committed ≡ at h x s c) (some-kept : c ≡ 0 → ⊥) where
         kept_some : at h x s c ≡ [] → ⊥
         kept_some e = some-kept (empty_is h x s c lc e)
 
         agree_is : agree x.committed (seen x n i) ≡ agree_in h c p (end_in h c p)
         agree_is = (λ j. agree (ec j) (es j)) ∙ sym (agree_means h x s c p lc within)
 
-        value_is : (b : Bool) → agree_in h c p (end_in h c p) ≡ b → commit_value x n i ≡ cond b (flags_of (word_at h 8 1) n) 0
+        value_is : (b : Bool) → agree_in h c p (end_in h c p) ≡ b → commit_value x n i ≡ cond b (flags_of (owner_of h) n) 0
         unfolding commit_value
         value_is b e =
             (λ j. agreement n (owner_is h x s j) (ec j) (es j))
-            ∙ value_both n (word_at h 8 1) (at h x s c) (at h x s p) kept_some seen_some
-            ∙ ap (λ (y : Bool). cond y (flags_of (word_at h 8 1) n) 0) (sym (agree_means h x s c p lc within) ∙ e)
+            ∙ value_both n (owner_of h) (at h x s c) (at h x s p) kept_some seen_some
+            ∙ ap (λ (y : Bool). cond y (flags_of (owner_of h) n) 0) (sym (agree_means h x s c p lc within) ∙ e)
 
         longer_is : agree x.committed (seen x n i) ≡ true → replaces x.committed (seen x n i) ≡ longer_in h c p
         longer_is e =
             replaces_by x.committed (seen x n i) e ∙ (λ j. ltb (length (ec j)) (length (es j))) ∙ sym (longer_means h x s c p lc within)
 
         -- agreement: a longer one replaces prefix and owner
-        longer_seen : agree_in h c p (end_in h c p) ≡ true → longer_in h c p ≡ true → Accepts (flags_of (word_at h 8 1) n) (keep_bytes h n p)
-        longer_seen e l = replacing (agree_is ∙ e) (longer_is (agree_is ∙ e) ∙ l) (flags_of (word_at h 8 1) n) (sym (value_is true e))
+        longer_seen : agree_in h c p (end_in h c p) ≡ true → longer_in h c p ≡ true → Accepts (flags_of (owner_of h) n) (keep_bytes h n p)
+        longer_seen e l = replacing (agree_is ∙ e) (longer_is (agree_is ∙ e) ∙ l) (flags_of (owner_of h) n) (sym (value_is true e))
 
-        shorter_seen : agree_in h c p (end_in h c p) ≡ true → longer_in h c p ≡ false → Accepts (flags_of (word_at h 8 1) n) (unseen_set h n 0)
+        shorter_seen : agree_in h c p (end_in h c p) ≡ true → longer_in h c p ≡ false → Accepts (flags_of (owner_of h) n) (unseen_set h n 0)
         shorter_seen e l =
             let keeps = longer_is (agree_is ∙ e) ∙ l in
             record {
@@ -225,7 +225,7 @@ module _ (x : History) (n i : ℕ) where
 
 -- ---- all cases
 
-module _ (h : Bytes) (x : History) (n i : ℕ) (s : Stands h x) (here : n < 64) (limit : i ≤ 256) where
+module _ (h : Bytes) (x : History) (n i : ℕ) (s : Stands h x) (here : n < node_count) (limit : i ≤ index_limit) where
   abbrev Told : Type 0
   Told = Outcome x n i h (commit_answer h n i) (commit_bytes h n i)
 
@@ -260,16 +260,16 @@ module _ (h : Bytes) (x : History) (n i : ℕ) (s : Stands h x) (here : n < 64) 
         (inl (0, refl, nothing_seen x n i h s here limit 0 (omega arith) cleared (shown ∙ ap (at h x s) z)))
 
     module _ (some-seen : b.part ≡ 0 → ⊥) where
-      first_one : word_at h 4 2 ≡ 0 → Told
+      first_one : committed_number h ≡ 0 → Told
       first_one z =
           from (Ok 0) (keep_bytes h n b.part)
-          (observe_first h n i (front_through h n i) refl (witness b.part) b.told some-seen (stored_of (word_at h 4 2)) refl
-          (sym (stored_none (word_at h 4 2) z)) (keep_bytes h n b.part) refl)
+          (observe_first h n i (front_through h n i) refl (witness b.part) b.told some-seen (stored_of (committed_number h)) refl
+          (sym (stored_none (committed_number h) z)) (keep_bytes h n b.part) refl)
           (inl (0, refl, first_seen x n i h s here limit b.part b.within cleared shown some-seen (committed_is h x s ∙ ap (at h x s) z)))
 
-      module _ (some-kept : word_at h 4 2 ≡ 0 → ⊥) where
+      module _ (some-kept : committed_number h ≡ 0 → ⊥) where
         abbrev c : ℕ
-        c = word_at h 4 2
+        c = committed_number h
 
         later : (r : Result ℕ FindingsFull) (h' : Bytes) → Inserted h n c b.part r h' → Outcome x n i h r h' → Told
         later r h' w o =
@@ -278,20 +278,20 @@ module _ (h : Bytes) (x : History) (n i : ℕ) (s : Stands h x) (here : n < 64) 
             (sym (stored_read c c refl some-kept)) r h' w)
             o
 
-        lc : c ≤ word_at h 0 2
+        lc : c ≤ prefixes_held h
         lc = (formed h s.right).committed
 
         agreeing : agree_in h c b.part (end_in h c b.part) ≡ true → Told
         agreeing e =
-            let v = flags_of (word_at h 8 1) n in
+            let v = flags_of (owner_of h) n in
             ⊎_elim
             (λ l.
             later (Ok v) (keep_bytes h n b.part)
-            (insert_longer h n c b.part (end_in h c b.part) refl (agree_in h c b.part (end_in h c b.part)) refl e (word_at h 8 1) v refl refl (unseen_set h n 0) refl l (keep_bytes h n b.part) (keep_is h n b.part))
+            (insert_longer h n c b.part (end_in h c b.part) refl (agree_in h c b.part (end_in h c b.part)) refl e (owner_of h) v refl refl (unseen_set h n 0) refl l (keep_bytes h n b.part) (keep_is h n b.part))
             (inl (v, refl, longer_seen x n i h s here limit b.part b.within cleared shown some-seen c lc (committed_is h x s) some-kept e l)))
             (λ l.
             later (Ok v) (unseen_set h n 0)
-            (insert_shorter h n c b.part (end_in h c b.part) refl (agree_in h c b.part (end_in h c b.part)) refl e (word_at h 8 1) v refl refl (unseen_set h n 0) refl l)
+            (insert_shorter h n c b.part (end_in h c b.part) refl (agree_in h c b.part (end_in h c b.part)) refl e (owner_of h) v refl refl (unseen_set h n 0) refl l)
             (inl (v, refl, shorter_seen x n i h s here limit b.part b.within cleared shown some-seen c lc (committed_is h x s) some-kept e l)))
             (either (longer_in h c b.part))
 
@@ -307,7 +307,7 @@ module _ (h : Bytes) (x : History) (n i : ℕ) (s : Stands h x) (here : n < 64) 
 
       some_one : Told
       some_one =
-          ⊎_elim (λ e. first_one (eqb-true (word_at h 4 2) 0 e)) (λ e. compared (eqb-false (word_at h 4 2) 0 e)) (either (eqb (word_at h 4 2) 0))
+          ⊎_elim (λ e. first_one (eqb-true (committed_number h) 0 e)) (λ e. compared (eqb-false (committed_number h) 0 e)) (either (eqb (committed_number h) 0))
 
     reached : Told
     reached = ⊎_elim (λ e. index_zero (eqb-true b.part 0 e)) (λ e. some_one (eqb-false b.part 0 e)) (either (eqb b.part 0))

@@ -10,14 +10,14 @@ use mathlib.Core.List.{List, [], ◌∷◌}
 use lib.ListN.{length}
 use borrow.Author.Tests.{le-leb, lt-leb}
 use Rattle.std.specs.Prelude.{Result, Ok, Err, is_ok, ⊤}
-use Rattle.model.specs.Sizes.{Bytes}
 use Rattle.model.specs.Entry.{with_all}
 use Rattle.model.specs.History.{Finding, History, noted, with_findings}
+use Rattle.model.specs.Sizes.{Bytes, node_count, index_limit, finding_limit}
 use Rattle.model.proofs.Tests.{tf, either, cond_true, cond_false}
 use Rattle.storage_bytes.specs.Lists.{every}
-use Rattle.storage_bytes.specs.Words.{word_at}
 use Rattle.storage.specs.Tables.{finding_row, finding_rows, findings_part}
 use Rattle.storage.specs.Rules.{finding_right}
+use Rattle.storage.specs.Head.{findings_held}
 use Rattle.storage_bytes.proofs.ListLaws.{tabulate_length}
 use Rattle.storage.proofs.DecodeLaws.{FindingNamed}
 use Rattle.storage.proofs.Meanings.{Stands, findings_stored, findings_taken, findings_right, noted_right}
@@ -56,22 +56,22 @@ module _ (h : Bytes) (n i : ℕ) (r : Result ⊤ FindingsFull) (u : Bytes)
         leaves = ew ∙ ap (λ (y : Bytes). unseen_set y n 0) em.1 ∙ sym (cond_true (room_for h (difference n i)) _ h room);
       }
 
-module _ (h : Bytes) (x : History) (s : Stands h x) (n i : ℕ) (here : n < 64) (limit : i ≤ 256) where
+module _ (h : Bytes) (x : History) (s : Stands h x) (n i : ℕ) (here : n < node_count) (limit : i ≤ index_limit) where
   -- the findings with the difference; how many are held with it, and their table
   abbrev fs : List Finding
   fs = noted x.findings (difference n i ∷ [])
 
   abbrev held : ℕ
-  held = note_held (findings_part h) (word_at h 7 1) (difference n i)
+  held = note_held (findings_part h) (findings_held h) (difference n i)
 
   abbrev table : Bytes
-  table = note_bytes (findings_part h) (word_at h 7 1) (difference n i)
+  table = note_bytes (findings_part h) (findings_held h) (difference n i)
 
   -- the table stands for the findings with the difference, or there are too many
   difference_holds : Holds table held fs
   unfolding noted with_all
   difference_holds =
-      note_holds (findings_part h) (word_at h 7 1) (difference n i) x.findings (findings_long h s.right)
+      note_holds (findings_part h) (findings_held h) (difference n i) x.findings (findings_long h s.right)
       (record { name = omega arith; node = omega arith; index = omega arith; term = omega arith })
       (inl ((formed h s.right).findings, findings_stored h x s))
 
@@ -83,14 +83,14 @@ module _ (h : Bytes) (x : History) (s : Stands h x) (n i : ℕ) (here : n < 64) 
   -- there is room for the difference, and it is among the findings then
   pub record Taken : Type 0 where
     pub room : room_for h (difference n i) ≡ true
-    pub few : length fs ≤ 128
+    pub few : length fs ≤ finding_limit
     pub stands : Stands (noted_in h (difference n i)) (with_findings x fs)
 
-  in_room : held ≤ 128 → finding_rows table held ≡ fs → Taken
+  in_room : held ≤ finding_limit → finding_rows table held ≡ fs → Taken
   unfolding room_for noted_in findings_written
   in_room l e =
-      let r = le-leb held 128 l in
-      let long = note_length (findings_part h) (word_at h 7 1) (difference n i) ∙ findings_long h s.right in
+      let r = le-leb held finding_limit l in
+      let long = note_length (findings_part h) (findings_held h) (difference n i) ∙ findings_long h s.right in
       record {
         room = r;
         few = (let count = sym (ap length e) ∙ tabulate_length (finding_row table) 0 held in omega arith);
@@ -101,7 +101,7 @@ module _ (h : Bytes) (x : History) (s : Stands h x) (n i : ℕ) (here : n < 64) 
       }
 
   -- or there are too many
-  pub difference_noted : Taken ⊎ ((room_for h (difference n i) ≡ false) × (128 < length fs))
+  pub difference_noted : Taken ⊎ ((room_for h (difference n i) ≡ false) × (finding_limit < length fs))
   unfolding room_for
   difference_noted =
-      ⊎_elim (λ y. inl (in_room y.0 y.1)) (λ y. inr (lt-leb held 128 (let a = y.0 in omega arith), y.1)) difference_holds
+      ⊎_elim (λ y. inl (in_room y.0 y.1)) (λ y. inr (lt-leb held finding_limit (let a = y.0 in omega arith), y.1)) difference_holds

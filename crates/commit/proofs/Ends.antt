@@ -5,12 +5,12 @@ use native.Mathlib.Omega.{arith}
 use mathlib.Core.Path.{◌≡◌, ◌∙◌, ap}
 use lib.Dec.{ltb}
 use lib.ListN.{length, take}
-use Rattle.model.specs.Sizes.{Bytes}
 use Rattle.model.specs.Entry.{same, agree}
 use Rattle.model.specs.History.{History}
-use Rattle.storage_bytes.specs.Words.{word_at}
+use Rattle.model.specs.Sizes.{Bytes, index_limit}
 use Rattle.storage.specs.Values.{number_index}
 use Rattle.storage.specs.Tables.{prefixes_part}
+use Rattle.storage.specs.Head.{prefixes_held}
 use Rattle.storage.proofs.Meanings.{Stands, number_length}
 use Rattle.storage.proofs.WellFormed.{formed, formed_index}
 use Rattle.committed_prefix.specs.Prefix.{agree_in}
@@ -30,7 +30,7 @@ module _ (h : Bytes) (a b : ℕ) (q : Bytes) (eq : q ≡ prefixes_part h) (i : �
 
 -- ---- of bytes that stand for a history
 
-module _ (h : Bytes) (x : History) (s : Stands h x) (c p : ℕ) (lc : c ≤ word_at h 0 2) (lp : p ≤ word_at h 0 2) where
+module _ (h : Bytes) (x : History) (s : Stands h x) (c p : ℕ) (lc : c ≤ prefixes_held h) (lp : p ≤ prefixes_held h) where
   pub longer_means : longer_in h c p ≡ ltb (length (at h x s c)) (length (at h x s p))
   unfolding longer_in number_index
   longer_means = λ j. ltb (number_length h x s c lc j) (number_length h x s p lp j)
@@ -46,5 +46,5 @@ module _ (h : Bytes) (x : History) (s : Stands h x) (c p : ℕ) (lc : c ≤ word
       agree_at h x s c p lc lp (end_in h c p) (omega arith) (omega arith) ∙ ap (λ (k : ℕ). same (take k (at h x s c)) (take k (at h x s p))) e
 
   -- an end is an index
-  pub end_limit : end_in h c p ≤ 256
+  pub end_limit : end_in h c p ≤ index_limit
   end_limit = (let e = end_means in let b = number_length h x s c lc in let d = formed_index h (formed h s.right) c lc in omega arith)

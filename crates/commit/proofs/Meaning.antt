@@ -4,18 +4,18 @@
 use Prim.Native.Nat.{ℕ, ◌≤◌, ◌<◌}
 use mathlib.Core.Path.{◌∙◌, ap}
 use mathlib.Core.Logic.{⊎_elim}
-use Rattle.model.specs.Sizes.{Bytes}
 use Rattle.model.specs.Refusal.{findingsFull}
 use Rattle.model.specs.Record.{commit}
 use Rattle.model.specs.History.{History}
 use Rattle.model.specs.Answer.{accepted}
+use Rattle.model.specs.Sizes.{Bytes, node_count, index_limit}
 use Rattle.storage.proofs.Meanings.{Stands}
 use Rattle.storage.proofs.Answered.{Means, accepts, refuses}
 use Rattle.commit.specs.Prefix.{commit_answer, commit_bytes, commit_reply}
 use Rattle.commit.proofs.CommitLaws.{commit_told}
 
 -- kind 2
-pub commit_mean : (h : Bytes) (x : History) (n i : ℕ) → Stands h x → n < 64 → i ≤ 256
+pub commit_mean : (h : Bytes) (x : History) (n i : ℕ) → Stands h x → n < node_count → i ≤ index_limit
     → Means h x (commit n i) (commit_reply (commit_answer h n i)) (commit_bytes h n i)
 commit_mean h x n i s l b =
     ⊎_elim

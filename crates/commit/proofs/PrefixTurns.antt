@@ -7,8 +7,8 @@ use lib.Dec.{eqb}
 use borrow.Author.Tests.{eq-eqb, ne_eqb}
 use Rattle.model.specs.Sizes.{Bytes}
 use Rattle.model.proofs.Tests.{cond_true, cond_false}
-use Rattle.storage_bytes.specs.Words.{word_at}
 use Rattle.storage.specs.Writes.{committed_set}
+use Rattle.storage.specs.Head.{committed_number, owner_of}
 use Rattle.prefix_lookup.specs.Prefix.{stored_of, front_through}
 use Rattle.committed_prefix.specs.Prefix.{agree_in, unseen_set, keep_bytes}
 use Rattle.commit.specs.Prefix.{longer_in, end_in, flags_of, note_answer, note_leaves, Noted, insert_answer, insert_leaves, kept_answer, kept_leaves, seen_answer, seen_leaves, commit_answer, commit_bytes, Inserted, Observed}
@@ -34,7 +34,7 @@ module _ (h : Bytes) (n c p i : ℕ) (ei : i ≡ end_in h c p) (b : Bool) (eb : 
         leaves = w.leaves ∙ ap (note_leaves h n) ei ∙ sym (cond_false (agree_in h c p (end_in h c p)) _ _ (agree_is ∙ f));
       }
 
-  module _ (f : b ≡ true) (o v : ℕ) (eo : o ≡ word_at h 8 1) (ev : v ≡ flags_of o n) (u : Bytes) (eu : u ≡ unseen_set h n 0) where
+  module _ (f : b ≡ true) (o v : ℕ) (eo : o ≡ owner_of h) (ev : v ≡ flags_of o n) (u : Bytes) (eu : u ≡ unseen_set h n 0) where
     flags_are : Ok v ≡ insert_answer h n c p
     unfolding insert_answer
     flags_are =
@@ -79,7 +79,7 @@ module _ (h : Bytes) (n i : ℕ) (s : Option LogPrefixWitness) (es : s ≡ front
           leaves = w ∙ sym (ap (seen_leaves h n i) (sym es ∙ e) ∙ cond_true (eqb p.0 0) _ _ (eq-eqb p.0 0 z));
         }
 
-    module _ (z : p.0 ≡ 0 → ⊥) (k : Option LogPrefixWitness) (ek : k ≡ stored_of (word_at h 4 2)) where
+    module _ (z : p.0 ≡ 0 → ⊥) (k : Option LogPrefixWitness) (ek : k ≡ stored_of (committed_number h)) where
       answer_is : commit_answer h n i ≡ kept_answer h n p.0 k
       unfolding commit_answer
       answer_is = ap (seen_answer h n) (sym es ∙ e) ∙ cond_false (eqb p.0 0) _ _ (ne_eqb p.0 0 z) ∙ ap (kept_answer h n p.0) (sym ek)

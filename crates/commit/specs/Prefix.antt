@@ -7,6 +7,7 @@ use Rattle.model.specs.Refusal.{findingsFull}
 use Rattle.model.specs.Answer.{Answer, accepted, refused}
 use Rattle.storage_bytes.specs.Words.{word_at}
 use Rattle.storage.specs.Values.{index_of}
+use Rattle.storage.specs.Head.{committed_number, owner_of}
 use Rattle.prefix_lookup.specs.Prefix.{stored_of, front_through}
 use Rattle.log_violation.specs.declared.violation.FindingsFull.{FindingsFull}
 use Rattle.committed_prefix.specs.Prefix.{rows_of, agree_in, unseen_set, keep_bytes}
@@ -46,7 +47,7 @@ note_leaves h n i = cond (room_for h (difference n i)) (unseen_set (noted_in h (
 unfoldable pub insert_answer : Bytes → ℕ → ℕ → ℕ → Result ℕ FindingsFull
 unfolding agree_in end_in note_answer word_at
 insert_answer h n c p =
-    cond (agree_in h c p (end_in h c p)) (Ok (flags_of (word_at h 8 1) n)) (note_answer h n (end_in h c p))
+    cond (agree_in h c p (end_in h c p)) (Ok (flags_of (owner_of h) n)) (note_answer h n (end_in h c p))
 
 unfoldable pub insert_leaves : Bytes → ℕ → ℕ → ℕ → Bytes
 unfolding agree_in end_in longer_in keep_bytes unseen_set note_leaves
@@ -65,11 +66,11 @@ kept_leaves h n p (Some c) = insert_leaves h n c.0 p
 -- "index zero does nothing more" than clear the mark
 abbrev pub seen_answer : Bytes → ℕ → Option LogPrefixWitness → Result ℕ FindingsFull
 seen_answer h n None = Ok 0
-seen_answer h n (Some p) = cond (eqb p.0 0) (Ok 0) (kept_answer h n p.0 (stored_of (word_at h 4 2)))
+seen_answer h n (Some p) = cond (eqb p.0 0) (Ok 0) (kept_answer h n p.0 (stored_of (committed_number h)))
 
 abbrev pub seen_leaves : Bytes → ℕ → ℕ → Option LogPrefixWitness → Bytes
 seen_leaves h n i None = unseen_set h n i
-seen_leaves h n i (Some p) = cond (eqb p.0 0) (unseen_set h n 0) (kept_leaves h n p.0 (stored_of (word_at h 4 2)))
+seen_leaves h n i (Some p) = cond (eqb p.0 0) (unseen_set h n 0) (kept_leaves h n p.0 (stored_of (committed_number h)))
 
 -- the answer and the bytes after it
 unfoldable pub commit_answer : Bytes → ℕ → ℕ → Result ℕ FindingsFull

@@ -1,9 +1,10 @@
 // Committed prefixes (`observe_committed_prefixes`, `insert_committed_prefix`): one is kept, and each later one must agree with
 // it through the shorter end. A prefix that the node's front does not reach is marked unseen, never assumed.
 ghost use Rattle.std.specs.Prelude.{◌≡◌, true, ◌≤◌, ◌<◌};
-ghost use Rattle.storage_bytes.specs.Words.{word_at};
 ghost use Rattle.storage.specs.Rules.{well_formed};
+ghost use Rattle.storage.specs.Head.{prefixes_held};
 ghost use Rattle.commit.specs.Prefix.{flags_of, Noted, Inserted, Observed};
+ghost use Rattle.model.specs.Sizes.{node_count};
 
 use committed_prefix::committed::{agree_through, committed_prefix, keep, set_unseen};
 use log_violation::violation::{FindingsFull, note_in};
@@ -40,7 +41,7 @@ fn note_difference(
     node: NodeId,
     end: LogIndex,
 ) -> Result<usize, FindingsFull>
-    requires { (well_formed history.old ≡ true) × (node.0 < 64) }
+    requires { (well_formed history.old ≡ true) × (node.0 < node_count) }
     ensures { Noted history.old node.0 end.0 result history.new }
 {
     let lg04 = Found {
@@ -62,7 +63,7 @@ fn insert_committed_prefix(
     committed: LogPrefixWitness,
     seen: LogPrefixWitness,
 ) -> Result<usize, FindingsFull>
-    requires { (well_formed history.old ≡ true) × (node.0 < 64) × (committed.0 ≤ word_at history.old 0 2) × (seen.0 ≤ word_at history.old 0 2) }
+    requires { (well_formed history.old ≡ true) × (node.0 < node_count) × (committed.0 ≤ prefixes_held history.old) × (seen.0 ≤ prefixes_held history.old) }
     ensures { Inserted history.old node.0 committed.0 seen.0 result history.new }
 {
     let prefixes = PREFIXES.array(history);
@@ -88,7 +89,7 @@ pub fn observe_committed_prefixes(
     node: NodeId,
     index: LogIndex,
 ) -> Result<usize, FindingsFull>
-    requires { (well_formed history.old ≡ true) × (node.0 < 64) }
+    requires { (well_formed history.old ≡ true) × (node.0 < node_count) }
     ensures { Observed history.old node.0 index.0 result history.new }
 {
     let Some(seen) = front_through(Stored { bytes: &*history }, node, index) else {

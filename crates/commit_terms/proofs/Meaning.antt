@@ -7,11 +7,11 @@ use mathlib.Core.Logic.{⊎_elim}
 use mathlib.Core.Option.{none, some}
 use lib.Dec.{ltb}
 use borrow.Author.Tests.{ltb-false}
-use Rattle.model.specs.Sizes.{Bytes}
 use Rattle.model.specs.Refusal.{old_exceeds_new}
 use Rattle.model.specs.Record.{terms}
 use Rattle.model.specs.History.{History}
 use Rattle.model.specs.Answer.{effect}
+use Rattle.model.specs.Sizes.{Bytes, index_limit, term_end}
 use Rattle.model.proofs.Tests.{either, cond_true, cond_false}
 use Rattle.storage.proofs.Meanings.{Stands}
 use Rattle.storage.proofs.Answered.{Means, accepts, refuses}
@@ -20,7 +20,7 @@ use Rattle.std.specs.Prelude.{Ok, Err}
 use Rattle.commit_terms.proofs.TermLaws.{record_means}
 
 -- kind 3
-pub terms_mean : (h : Bytes) (x : History) (old new t : ℕ) → Stands h x → new ≤ 256 → t < 4294967296
+pub terms_mean : (h : Bytes) (x : History) (old new t : ℕ) → Stands h x → new ≤ index_limit → t < term_end
     → Means h x (terms old new t) (terms_reply (terms_answer old new)) (terms_bytes h old new t)
 unfolding terms_answer terms_bytes
 terms_mean h x old new t s b f =

@@ -10,13 +10,15 @@ use lib.Dec.{leb, ltb, eqb}
 use lib.ListN.{length, get_or, set, take, drop, replicate, length-append, length-replicate, length-drop, take-append-drop}
 use lib.Seq.{get_or_at, set_at, length-take-le}
 use borrow.Author.Tests.{ne_eqb, ltb-true, ltb-false, lt-ltb, le-ltb, le-leb, lt-leb}
-use Rattle.model.specs.Sizes.{Bytes}
 use Rattle.model.specs.History.{Certificate, History, with_terms, with_certificates}
 use Rattle.model.specs.Terms.{lengthened, changes, replaced_from, recorded, first_from, first_changed, lowered, terms_effect}
+use Rattle.model.specs.Sizes.{Bytes, index_limit, term_end}
 use Rattle.model.proofs.Tests.{either, cond_true, cond_false}
-use Rattle.storage_bytes.specs.Words.{word_at, word_bytes, put_bytes}
+use Rattle.storage_bytes.specs.Words.{word_bytes, put_bytes}
+use Rattle.storage_bytes.specs.Layout.{terms_start, term_width}
 use Rattle.storage.specs.Tables.{term_row, terms_part}
 use Rattle.storage.specs.Writes.{terms_lengthened}
+use Rattle.storage.specs.Head.{terms_held, certificates_held}
 use Rattle.storage.proofs.RuleLaws.{pass}
 use Rattle.storage.proofs.Meanings.{Stands, terms_read, certificates_read, term_read, term_written, terms_added}
 use Rattle.term_marks.specs.Marks.{lower_back}
@@ -24,32 +26,32 @@ use Rattle.commit_terms.specs.Terms.{lengthened_to, term_in, is_replaced, first_
 use Rattle.term_marks.proofs.MarkLaws.{lower_means}
 
 module _ (h : Bytes) (x : History) (s : Stands h x) where
-  pub terms_held : length x.terms ≡ word_at h 2 2
-  terms_held = ap (λ (y : History). length y.terms) (sym s.decodes) ∙ terms_read h
+  pub terms_counted : length x.terms ≡ terms_held h
+  terms_counted = ap (λ (y : History). length y.terms) (sym s.decodes) ∙ terms_read h
 
-  pub certificates_held : length x.certificates ≡ word_at h 6 1
-  certificates_held = ap (λ (y : History). length y.certificates) (sym s.decodes) ∙ certificates_read h
+  pub certificates_counted : length x.certificates ≡ certificates_held h
+  certificates_counted = ap (λ (y : History). length y.certificates) (sym s.decodes) ∙ certificates_read h
 
-  term_held : (k : ℕ) → k < word_at h 2 2 → get_or x.terms k 0 ≡ term_in h k
+  term_held : (k : ℕ) → k < terms_held h → get_or x.terms k 0 ≡ term_in h k
   term_held k l = ap (λ (y : History). get_or y.terms k 0) (sym s.decodes) ∙ term_read h k 0 l
 
 -- ---- the list lengthened
 
-lengthened_means : (h : Bytes) (x : History) (new : ℕ) → Stands h x → new ≤ 256
+lengthened_means : (h : Bytes) (x : History) (new : ℕ) → Stands h x → new ≤ index_limit
     → Stands (lengthened_to h new) (with_terms x (lengthened new x.terms))
 unfolding lengthened_to lengthened
 lengthened_means h x new s b =
-    let held = terms_held h x s in
+    let held = terms_counted h x s in
     ⊎_elim
     (λ p.
-    subst (λ (u : Bytes). Stands u (with_terms x (x.terms ++ replicate (new - length x.terms) 0))) (sym (cond_true (ltb (word_at h 2 2) new) _ h p))
+    subst (λ (u : Bytes). Stands u (with_terms x (x.terms ++ replicate (new - length x.terms) 0))) (sym (cond_true (ltb (terms_held h) new) _ h p))
     (subst (λ (n : ℕ). Stands (terms_lengthened h new) (with_terms x (x.terms ++ replicate (new - n) 0))) (sym held)
-    (terms_added h x s new (let l : word_at h 2 2 < new = ltb-true _ _ p in omega arith) b)))
+    (terms_added h x s new (let l : terms_held h < new = ltb-true _ _ p in omega arith) b)))
     (λ p.
-    let none : new - length x.terms ≡ 0 = (let l : new ≤ word_at h 2 2 = ltb-false _ _ p in omega arith) in
-    subst (λ (u : Bytes). Stands u (with_terms x (x.terms ++ replicate (new - length x.terms) 0))) (sym (cond_false (ltb (word_at h 2 2) new) _ h p))
+    let none : new - length x.terms ≡ 0 = (let l : new ≤ terms_held h = ltb-false _ _ p in omega arith) in
+    subst (λ (u : Bytes). Stands u (with_terms x (x.terms ++ replicate (new - length x.terms) 0))) (sym (cond_false (ltb (terms_held h) new) _ h p))
     (subst (λ (ts : List ℕ). Stands h (with_terms x ts)) (sym (ap (λ (n : ℕ). x.terms ++ replicate n 0) none ∙ append-nil x.terms)) s))
-    (either (ltb (word_at h 2 2) new))
+    (either (ltb (terms_held h) new))
 
 -- ---- the places replaced
 
@@ -103,21 +105,21 @@ module _ (old new t : ℕ) where
 
   -- one place
   module _ (h : Bytes) (x : History) (A : List ℕ) (y : ℕ) (B : List ℕ) (k : ℕ) (s : Stands h x) (e : x.terms ≡ A ++ (y ∷ B)) (a : length A ≡ k) where
-    place_within : k < word_at h 2 2
-    place_within = (let p = terms_held h x s in let q = ap length e ∙ length-append A (y ∷ B) in omega arith)
+    place_within : k < terms_held h
+    place_within = (let p = terms_counted h x s in let q = ap length e ∙ length-append A (y ∷ B) in omega arith)
 
     place_read : term_in h k ≡ y
     place_read = sym (term_held h x s k place_within) ∙ ap (λ (ts : List ℕ). get_or ts k 0) e ∙ get_or_at A y B 0 k a
 
-    place_means : k < 256 → t < 4294967296 → Stands (replace_bytes h k t) (with_terms x (A ++ (cond (is_replaced t y) t y ∷ B)))
+    place_means : k < index_limit → t < term_end → Stands (replace_bytes h k t) (with_terms x (A ++ (cond (is_replaced t y) t y ∷ B)))
     unfolding replace_bytes
     place_means l f =
         ⊎_elim
         (λ p.
         let to : set x.terms k t ≡ A ++ (t ∷ B) = ap (λ (ts : List ℕ). set ts k t) e ∙ set_at A y B t k a in
         subst (λ (u : Bytes). Stands u (with_terms x (A ++ (cond (is_replaced t y) t y ∷ B)))) (sym (cond_true (is_replaced t (term_in h k)) _ h (ap (is_replaced t) place_read ∙ p)))
-        (subst (λ (z : ℕ). Stands (put_bytes h (393 + k * 4) (word_bytes 4 t)) (with_terms x (A ++ (z ∷ B)))) (sym (cond_true (is_replaced t y) t y p))
-        (subst (λ (ts : List ℕ). Stands (put_bytes h (393 + k * 4) (word_bytes 4 t)) (with_terms x ts)) to (term_written h x s k t l f))))
+        (subst (λ (z : ℕ). Stands (put_bytes h (terms_start + k * term_width) (word_bytes term_width t)) (with_terms x (A ++ (z ∷ B)))) (sym (cond_true (is_replaced t y) t y p))
+        (subst (λ (ts : List ℕ). Stands (put_bytes h (terms_start + k * term_width) (word_bytes term_width t)) (with_terms x ts)) to (term_written h x s k t l f))))
         (λ p.
         subst (λ (u : Bytes). Stands u (with_terms x (A ++ (cond (is_replaced t y) t y ∷ B)))) (sym (cond_false (is_replaced t (term_in h k)) _ h (ap (is_replaced t) place_read ∙ p)))
         (subst (λ (z : ℕ). Stands h (with_terms x (A ++ (z ∷ B)))) (sym (cond_false (is_replaced t y) t y p))
@@ -125,7 +127,7 @@ module _ (old new t : ℕ) where
         (either (is_replaced t y))
 
   replace_means : (n : ℕ) (B A : List ℕ) (h : Bytes) (x : History) (k : ℕ) → Stands h x → x.terms ≡ A ++ B → length A ≡ k
-      → old ≤ k → k + n ≡ new → n ≤ length B → new ≤ 256 → t < 4294967296
+      → old ≤ k → k + n ≡ new → n ≤ length B → new ≤ index_limit → t < term_end
       → Stands (replace_all h t k n) (with_terms x (A ++ replaced_from old new t (k + 1) B))
   unfolding replace_all replaced_from
   replace_means zero B A h x k s e a o m c b f =
@@ -166,7 +168,7 @@ module _ (old new t : ℕ) where
     pub bytes : Stands (replace_all h t old (new - old)) (with_terms x (recorded old new t ts))
     pub is : first_replaced (term_row (terms_part h)) t old (new - old) ≡ first_changed old new t ts
 
-  places_mean : (h : Bytes) (x : History) (ts : List ℕ) → Stands h x → x.terms ≡ lengthened new ts → old ≤ new → new ≤ 256 → t < 4294967296 → Places h x ts
+  places_mean : (h : Bytes) (x : History) (ts : List ℕ) → Stands h x → x.terms ≡ lengthened new ts → old ≤ new → new ≤ index_limit → t < term_end → Places h x ts
   unfolding recorded first_changed
   places_mean h x ts s e o b f =
       let L = lengthened new ts in
@@ -235,7 +237,7 @@ marks_mean u w y t (suc f) n s e =
     (subst (λ (ds : List Certificate). Stands (lower_back w t (suc f) n) (with_certificates y ds)) (append-nil (map (lowered t (suc f)) cs))
     (lower_means t (suc f) (omega arith) n cs [] w y (subst (λ (v : Bytes). Stands v y) (cond_false (eqb (suc f) 0) u w some) s) (sym (append-nil cs)) (sym e)))
 
-pub record_means : (h : Bytes) (x : History) (old new t : ℕ) → Stands h x → old ≤ new → new ≤ 256 → t < 4294967296
+pub record_means : (h : Bytes) (x : History) (old new t : ℕ) → Stands h x → old ≤ new → new ≤ index_limit → t < term_end
     → Stands (record_bytes h old new t) (terms_effect x old new t)
 unfolding record_bytes changed_from terms_effect
 record_means h x old new t s o b f =
@@ -245,6 +247,6 @@ record_means h x old new t s o b f =
     let first = first_replaced (term_row (terms_part u)) t old (new - old) in
     let y = with_terms x (recorded old new t x.terms) in
     subst (λ (i : ℕ). Stands (changed_from u new t first) (with_certificates y (map (lowered t i) x.certificates))) p.is
-    (marks_mean u (replace_all u t (first - 1) (new + 1 - first)) y t first (word_at u 6 1)
+    (marks_mean u (replace_all u t (first - 1) (new + 1 - first)) y t first (certificates_held u)
     (subst (λ (v : Bytes). Stands v y) (sym (from_first_lem u t new (new - old) old (omega arith))) p.bytes)
-    (sym (certificates_held u (with_terms x (lengthened new x.terms)) long)))
+    (sym (certificates_counted u (with_terms x (lengthened new x.terms)) long)))

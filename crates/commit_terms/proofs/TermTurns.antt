@@ -9,12 +9,14 @@ use mathlib.Core.List.{◌++◌}
 use lib.Dec.{ltb, eqb}
 use lib.ListN.{length, take, drop, length-take, length-drop}
 use borrow.Author.Tests.{eq-eqb, ne_eqb, lt-ltb, le-ltb}
-use Rattle.model.specs.Sizes.{Bytes}
+use Rattle.model.specs.Sizes.{Bytes, index_limit}
 use Rattle.model.proofs.Tests.{cond_cases, cond_true, cond_false}
-use Rattle.storage_bytes.specs.Words.{word_at, word_bytes, put_bytes}
+use Rattle.storage_bytes.specs.Words.{word_bytes, put_bytes}
+use Rattle.storage_bytes.specs.Layout.{terms_start, history_length, term_width, terms_field}
 use Rattle.storage.specs.Tables.{term_row, terms_part}
 use Rattle.storage.specs.Fresh.{zeros}
 use Rattle.storage.specs.Writes.{terms_lengthened}
+use Rattle.storage.specs.Head.{terms_held, certificates_held, put_head_field}
 use Rattle.storage_bytes.proofs.WordLaws.{word_bytes_length}
 use Rattle.storage.proofs.FreshLaws.{zeros_length}
 use Rattle.storage.proofs.WriteLaws.{region_back}
@@ -31,37 +33,37 @@ use Rattle.std.specs.Prelude.{Option, Some, None, Result, Ok, Err, ⊤}
 -- ---- lengthening
 
 -- the lent places given back as zeros
-pub places_cleared : (h ys : Bytes) (n m : ℕ) → n ≤ m → m ≤ 256 → length h ≡ 24137
-    → (let a = 393 + n * 4 in let k = 393 + m * 4 - a in
-    ys ≡ zeros (length (take k (drop a h))) → take a h ++ (ys ++ drop k (drop a h)) ≡ put_bytes h a (zeros ((m - n) * 4)))
+pub places_cleared : (h ys : Bytes) (n m : ℕ) → n ≤ m → m ≤ index_limit → length h ≡ history_length
+    → (let a = terms_start + n * term_width in let k = terms_start + m * term_width - a in
+    ys ≡ zeros (length (take k (drop a h))) → take a h ++ (ys ++ drop k (drop a h)) ≡ put_bytes h a (zeros ((m - n) * term_width)))
 places_cleared h ys n m l b long e =
-    let a = 393 + n * 4 in
-    let k = 393 + m * 4 - a in
-    let size : length (take k (drop a h)) ≡ (m - n) * 4 = (let p = length-take k (drop a h) in let q = length-drop a h in omega arith) in
-    let is : ys ≡ zeros ((m - n) * 4) = e ∙ ap zeros size in
-    region_back h ys a k (ap length is ∙ zeros_length ((m - n) * 4) ∙ (let z : (m - n) * 4 ≡ k = omega arith in z)) (omega arith) ∙ ap (put_bytes h a) is
+    let a = terms_start + n * term_width in
+    let k = terms_start + m * term_width - a in
+    let size : length (take k (drop a h)) ≡ (m - n) * term_width = (let p = length-take k (drop a h) in let q = length-drop a h in omega arith) in
+    let is : ys ≡ zeros ((m - n) * term_width) = e ∙ ap zeros size in
+    region_back h ys a k (ap length is ∙ zeros_length ((m - n) * term_width) ∙ (let z : (m - n) * term_width ≡ k = omega arith in z)) (omega arith) ∙ ap (put_bytes h a) is
 
 module _ (h : Bytes) (new : ℕ) where
-  module _ (n : ℕ) (e : n ≡ word_at h 2 2) where
+  module _ (n : ℕ) (e : n ≡ terms_held h) where
     pub lengthen_not : new ≤ n → h ≡ lengthened_to h new
     unfolding lengthened_to
-    lengthen_not l = sym (cond_false (ltb (word_at h 2 2) new) _ h (le-ltb _ new (omega arith)))
+    lengthen_not l = sym (cond_false (ltb (terms_held h) new) _ h (le-ltb _ new (omega arith)))
 
-    pub lengthen_so : n < new → (u : Bytes) → u ≡ put_bytes h (393 + n * 4) (zeros ((new - n) * 4)) → (v : Bytes) → v ≡ put_bytes u 2 (word_bytes 2 new)
+    pub lengthen_so : n < new → (u : Bytes) → u ≡ put_bytes h (terms_start + n * term_width) (zeros ((new - n) * term_width)) → (v : Bytes) → v ≡ put_head_field terms_field u new
         → v ≡ lengthened_to h new
     unfolding lengthened_to terms_lengthened
     lengthen_so l u eu v ev =
-        ev ∙ ap (λ (z : Bytes). put_bytes z 2 (word_bytes 2 new)) eu
-        ∙ ap (λ (m : ℕ). put_bytes (put_bytes h (393 + m * 4) (zeros ((new - m) * 4))) 2 (word_bytes 2 new)) e
-        ∙ sym (cond_true (ltb (word_at h 2 2) new) _ h (lt-ltb _ new (omega arith)))
+        ev ∙ ap (λ (z : Bytes). put_head_field terms_field z new) eu
+        ∙ ap (λ (m : ℕ). put_head_field terms_field (put_bytes h (terms_start + m * term_width) (zeros ((new - m) * term_width))) new) e
+        ∙ sym (cond_true (ltb (terms_held h) new) _ h (lt-ltb _ new (omega arith)))
 
   -- as many certificates as before
-  pub lengthened_certificates : word_at (lengthened_to h new) 6 1 ≡ word_at h 6 1
+  pub lengthened_certificates : certificates_held (lengthened_to h new) ≡ certificates_held h
   unfolding lengthened_to terms_lengthened
   lengthened_certificates =
-      cond_cases (λ (u : Bytes). word_at u 6 1 ≡ word_at h 6 1) (ltb (word_at h 2 2) new) _ h
+      cond_cases (λ (u : Bytes). certificates_held u ≡ certificates_held h) (ltb (terms_held h) new) _ h
       (λ _. let l = word_bytes_length 2 new in
-      word_after _ 2 (word_bytes 2 new) 6 1 (omega arith) ∙ word_before h (393 + word_at h 2 2 * 4) (zeros ((new - word_at h 2 2) * 4)) 6 1 (omega arith))
+      word_after _ 2 (word_bytes 2 new) 6 1 (omega arith) ∙ word_before h (terms_start + terms_held h * term_width) (zeros ((new - terms_held h) * term_width)) 6 1 (omega arith))
       (λ _. refl)
 
 -- ---- one place, as it was read
@@ -91,7 +93,7 @@ module _ (h : Bytes) (k t : ℕ) (q : Bytes) (eq : q ≡ terms_part h) (x : ℕ)
   unfolding replace_bytes
   replace_not f = sym (cond_false (is_replaced t (term_in h k)) _ h (test_is ∙ f))
 
-  pub replace_so : b ≡ true → (u : Bytes) → u ≡ put_bytes h (393 + k * 4) (word_bytes 4 t) → u ≡ replace_bytes h k t
+  pub replace_so : b ≡ true → (u : Bytes) → u ≡ put_bytes h (terms_start + k * term_width) (word_bytes term_width t) → u ≡ replace_bytes h k t
   unfolding replace_bytes
   replace_so f u w = w ∙ sym (cond_true (is_replaced t (term_in h k)) _ h (test_is ∙ f))
 
@@ -171,13 +173,13 @@ module _ (h₀ : Bytes) (first new t : ℕ) where
     replacing_last l g u e = replacing_ends u (i + 1) (replacing_next h i w (omega arith) u e) (omega arith)
 
 -- as many certificates as before
-replace_certificates : (h : Bytes) (k t : ℕ) → word_at (replace_bytes h k t) 6 1 ≡ word_at h 6 1
+replace_certificates : (h : Bytes) (k t : ℕ) → certificates_held (replace_bytes h k t) ≡ certificates_held h
 unfolding replace_bytes
 replace_certificates h k t =
-    cond_cases (λ (u : Bytes). word_at u 6 1 ≡ word_at h 6 1) (is_replaced t (term_in h k)) _ h
-    (λ _. word_before h (393 + k * 4) (word_bytes 4 t) 6 1 (omega arith)) (λ _. refl)
+    cond_cases (λ (u : Bytes). certificates_held u ≡ certificates_held h) (is_replaced t (term_in h k)) _ h
+    (λ _. word_before h (terms_start + k * term_width) (word_bytes term_width t) 6 1 (omega arith)) (λ _. refl)
 
-pub replace_all_certificates : (h : Bytes) (t k n : ℕ) → word_at (replace_all h t k n) 6 1 ≡ word_at h 6 1
+pub replace_all_certificates : (h : Bytes) (t k n : ℕ) → certificates_held (replace_all h t k n) ≡ certificates_held h
 unfolding replace_all
 replace_all_certificates h t k zero = refl
 replace_all_certificates h t k (suc n) = replace_all_certificates (replace_bytes h k t) t (k + 1) n ∙ replace_certificates h k t
@@ -214,13 +216,13 @@ module _ (h : Bytes) (old new t : ℕ) where
         accepted u (sym (cond_true (eqb k 0) u _ (eq-eqb k 0 (nothing_told k found ef q))))
 
     pub record_changed : (first : LogIndex) → found ≡ Some first → (v : Bytes) → v ≡ replace_all u t (first.0 - 1) (new + 1 - first.0)
-        → (z : Bytes) → z ≡ lower_back v t first.0 (word_at v 6 1) → Recorded h old new t (Ok tt) z
+        → (z : Bytes) → z ≡ lower_back v t first.0 (certificates_held v) → Recorded h old new t (Ok tt) z
     unfolding changed_from
     record_changed first q v ev z ez =
         let k = first_replaced (term_row ts) t old (new - old) in
         let p = index_told k found ef first q in
-        let n : word_at v 6 1 ≡ word_at u 6 1 = ap (λ (y : Bytes). word_at y 6 1) ev ∙ replace_all_certificates u t (first.0 - 1) (new + 1 - first.0) in
+        let n : certificates_held v ≡ certificates_held u = ap (λ (y : Bytes). certificates_held y) ev ∙ replace_all_certificates u t (first.0 - 1) (new + 1 - first.0) in
         accepted z
         (ez ∙ (λ i. lower_back (ev i) t first.0 (n i))
-        ∙ ap (λ (j : ℕ). lower_back (replace_all u t (j - 1) (new + 1 - j)) t j (word_at u 6 1)) p.0
+        ∙ ap (λ (j : ℕ). lower_back (replace_all u t (j - 1) (new + 1 - j)) t j (certificates_held u)) p.0
         ∙ sym (cond_false (eqb k 0) u _ (ne_eqb k 0 p.1)))

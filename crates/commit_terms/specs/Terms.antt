@@ -6,15 +6,17 @@ use Rattle.model.specs.Sizes.{Bytes}
 use Rattle.model.specs.Refusal.{old_exceeds_new}
 use Rattle.model.specs.Answer.{Answer, accepted, refused}
 use Rattle.storage_bytes.specs.Words.{word_at, word_bytes, put_bytes}
+use Rattle.storage_bytes.specs.Layout.{terms_start, term_width}
 use Rattle.storage.specs.Tables.{term_row, terms_part}
 use Rattle.storage.specs.Writes.{terms_lengthened}
+use Rattle.storage.specs.Head.{terms_held, certificates_held}
 use Rattle.term_marks.specs.Marks.{lower_back}
 use Rattle.commit_terms.specs.declared.terms.OldExceedsNew.{OldExceedsNew}
 
 -- the list with zeros to new, where it is shorter
 unfoldable pub lengthened_to : Bytes → ℕ → Bytes
 unfolding terms_lengthened word_at
-lengthened_to h new = cond (ltb (word_at h 2 2) new) (terms_lengthened h new) h
+lengthened_to h new = cond (ltb (terms_held h) new) (terms_lengthened h new) h
 
 -- the term of index k + 1
 abbrev pub term_in : Bytes → ℕ → ℕ
@@ -32,7 +34,7 @@ first_replaced row t k (suc n) = cond (is_replaced t (row k)) (k + 1) (first_rep
 
 unfoldable pub replace_bytes : Bytes → ℕ → ℕ → Bytes
 unfolding is_replaced put_bytes
-replace_bytes h k t = cond (is_replaced t (term_in h k)) (put_bytes h (393 + k * 4) (word_bytes 4 t)) h
+replace_bytes h k t = cond (is_replaced t (term_in h k)) (put_bytes h (terms_start + k * term_width) (word_bytes term_width t)) h
 
 -- n places, from that of index k + 1 on
 unfoldable pub replace_all : Bytes → ℕ → ℕ → ℕ → Bytes
@@ -46,7 +48,7 @@ replace_all h t k (suc n) = replace_all (replace_bytes h k t) t (k + 1) n
 unfoldable pub changed_from : Bytes → ℕ → ℕ → ℕ → Bytes
 unfolding replace_all lower_back word_at
 changed_from h new t first =
-    cond (eqb first 0) h (lower_back (replace_all h t (first - 1) (new + 1 - first)) t first (word_at h 6 1))
+    cond (eqb first 0) h (lower_back (replace_all h t (first - 1) (new + 1 - first)) t first (certificates_held h))
 
 unfoldable pub record_bytes : Bytes → ℕ → ℕ → ℕ → Bytes
 unfolding lengthened_to first_replaced changed_from

@@ -6,6 +6,7 @@ ghost use Rattle.storage.specs.Tables.{term_row};
 ghost use Rattle.table_rows.specs.TermSearch.{found_index};
 ghost use Rattle.commit_terms.specs.Terms.{lengthened_to, is_replaced, first_replaced, replace_bytes, replace_all, terms_answer, terms_bytes};
 ghost use Rattle.answers.specs.declared.answer.Refusal.{Refusal};
+ghost use Rattle.model.specs.Sizes.{index_limit};
 
 use answers::answer::Refusal;
 use records::head::CommitTerms;
@@ -32,7 +33,7 @@ impl From<OldExceedsNew> for Refusal {
 // The list is lengthened with zeros to `new`: the places first, then the count, once. The places are lent on the spot, as the table is in
 // `storage::rows::set`.
 fn lengthen(history: &mut History, new: LogIndex)
-    requires { new.0 ≤ 256 }
+    requires { new.0 ≤ index_limit }
     ensures { history.new ≡ lengthened_to history.old new.0 }
 {
     let recorded = last_recorded(history);
@@ -55,7 +56,7 @@ fn is_replaced(x: Term, term: Term) -> bool
 // The first index from old + 1 to new whose place the term replaces, where there is one. Nothing is written.
 #[tactic(auto, using(crate::proofs::TermTurns::searching_starts, crate::proofs::TermTurns::searching_found, crate::proofs::TermTurns::searching_next, crate::proofs::TermTurns::searching_none))]
 fn first_replaced(terms: &Terms, old: LogIndex, new: LogIndex, term: Term) -> Option<LogIndex>
-    requires { (old.0 ≤ new.0) × (new.0 ≤ 256) }
+    requires { (old.0 ≤ new.0) × (new.0 ≤ index_limit) }
     ensures { result ≡ found_index (first_replaced (term_row terms.now) term.0 old.0 (new.0 - old.0)) }
 {
     for i in old.0 + 1..=new.0 {
@@ -70,7 +71,7 @@ fn first_replaced(terms: &Terms, old: LogIndex, new: LogIndex, term: Term) -> Op
 // The place of the index, where the term replaces it.
 #[tactic(auto, using(crate::proofs::TermTurns::replace_so, crate::proofs::TermTurns::replace_not))]
 fn replace_term(history: &mut History, index: LogIndex, term: Term)
-    requires { (1 ≤ index.0) × (index.0 ≤ 256) }
+    requires { (1 ≤ index.0) × (index.0 ≤ index_limit) }
     ensures { history.new ≡ replace_bytes history.old (index.0 - 1) term.0 }
 {
     let x = term_of(TERMS.array(history), index);
@@ -82,7 +83,7 @@ fn replace_term(history: &mut History, index: LogIndex, term: Term)
 // Each place from the first index to new.
 #[tactic(auto, using(crate::proofs::TermTurns::replacing_next, crate::proofs::TermTurns::replacing_ends, crate::proofs::TermTurns::replacing_starts))]
 fn replace_terms(history: &mut History, first: LogIndex, new: LogIndex, term: Term)
-    requires { (1 ≤ first.0) × (new.0 ≤ 256) }
+    requires { (1 ≤ first.0) × (new.0 ≤ index_limit) }
     ensures { history.new ≡ replace_all history.old term.0 (first.0 - 1) (new.0 + 1 - first.0) }
 {
     for i in first.0..=new.0 {
@@ -93,7 +94,7 @@ fn replace_terms(history: &mut History, first: LogIndex, new: LogIndex, term: Te
 // The indexes after old, through new, were committed in the term. A repeated record writes nothing.
 #[tactic(auto, using(storage::proofs::WellFormed::certificates_fit, crate::proofs::TermTurns::lengthened_certificates, crate::proofs::TermTurns::replace_all_certificates, table_rows::proofs::TermSearchLaws::index_told))]
 pub fn record_commit_terms(history: &mut History, t: CommitTerms) -> Result<(), OldExceedsNew>
-    requires { (well_formed history.old ≡ true) × (t.new.0 ≤ 256) }
+    requires { (well_formed history.old ≡ true) × (t.new.0 ≤ index_limit) }
     ensures { (result ≡ terms_answer t.old.0 t.new.0) × (history.new ≡ terms_bytes history.old t.old.0 t.new.0 t.term.0) }
 {
     if t.new < t.old {

@@ -8,12 +8,12 @@ use mathlib.Core.Logic.{⊎_elim}
 use mathlib.Core.List.{List, []}
 use lib.ListN.{length, get_or, set, take}
 use lib.Seq.{set-get_or}
-use Rattle.model.specs.Sizes.{Bytes}
 use Rattle.model.specs.Entry.{Prefix, same}
 use Rattle.model.specs.History.{Finding, History, with_views, with_unseen, with_committed, with_findings}
-use Rattle.storage_bytes.specs.Words.{word_at}
+use Rattle.model.specs.Sizes.{Bytes, node_count, index_limit}
 use Rattle.storage.specs.Tables.{PrefixRow, NodeRow, rows_of_prefixes, prefixes_part}
 use Rattle.storage.specs.Decode.{prefix_at, resolve}
+use Rattle.storage.specs.Head.{prefixes_held, committed_number, owner_of}
 use Rattle.storage.proofs.RowFacts.{Facts}
 use Rattle.storage.proofs.Meanings.{Stands, prefixes_read, owner_read, last_read, node_written, committed_written, prefixes_stored, committed_stored}
 use Rattle.prefix_lookup.specs.Prefix.{slice_of}
@@ -40,10 +40,10 @@ module _ (h : Bytes) (x : History) (s : Stands h x) where
   facts = formed h s.right
 
   abbrev rows : List PrefixRow
-  rows = rows_of_prefixes (prefixes_part h) (word_at h 0 2)
+  rows = rows_of_prefixes (prefixes_part h) (prefixes_held h)
 
-  count : length rows ≡ word_at h 0 2
-  count = rows_length (prefixes_part h) (word_at h 0 2)
+  count : length rows ≡ prefixes_held h
+  count = rows_length (prefixes_part h) (prefixes_held h)
 
   known : Facts rows
   known = formed_rows h facts
@@ -51,38 +51,38 @@ module _ (h : Bytes) (x : History) (s : Stands h x) where
   resolves : resolve rows ≡ x.prefixes
   resolves = prefixes_stored h x s
 
-  number : (p : ℕ) → p ≤ word_at h 0 2 → p ≤ length rows
+  number : (p : ℕ) → p ≤ prefixes_held h → p ≤ length rows
   number p l = subst (λ (m : ℕ). p ≤ m) (sym count) l
 
   -- ---- what is read
 
-  pub committed_is : x.committed ≡ at (word_at h 4 2)
+  pub committed_is : x.committed ≡ at (committed_number h)
   committed_is = sym (committed_stored h x s)
 
-  pub owner_is : x.owner ≡ word_at h 8 1
+  pub owner_is : x.owner ≡ owner_of h
   owner_is = ap (λ (y : History). y.owner) (sym s.decodes) ∙ owner_read h
 
-  last_is : (n : ℕ) → n < 64 → get_or x.lasts n 0 ≡ (node_of h n).last
+  last_is : (n : ℕ) → n < node_count → get_or x.lasts n 0 ≡ (node_of h n).last
   last_is n l = ap (λ (y : History). get_or y.lasts n 0) (sym s.decodes) ∙ last_read h n l
 
-  pub prefixes_held : length x.prefixes ≡ word_at h 0 2
-  prefixes_held = ap (λ (y : History). length y.prefixes) (sym s.decodes) ∙ prefixes_read h
+  pub prefixes_counted : length x.prefixes ≡ prefixes_held h
+  prefixes_counted = ap (λ (y : History). length y.prefixes) (sym s.decodes) ∙ prefixes_read h
 
-  pub empty_is : (p : ℕ) → p ≤ word_at h 0 2 → at p ≡ [] → p ≡ 0
+  pub empty_is : (p : ℕ) → p ≤ prefixes_held h → at p ≡ [] → p ≡ 0
   empty_is p l e =
       known.distinct p 0 (number p l) (omega arith) (ap (λ (ps : List Prefix). prefix_at ps p) resolves ∙ e)
 
-  same_is : (p q : ℕ) → p ≤ word_at h 0 2 → q ≤ word_at h 0 2 → same_from (rows_of h) p p q ≡ same (at p) (at q)
+  same_is : (p q : ℕ) → p ≤ prefixes_held h → q ≤ prefixes_held h → same_from (rows_of h) p p q ≡ same (at p) (at q)
   same_is p q l m =
-      same_prefix (rows_of h) rows known (rows_at (prefixes_part h) (word_at h 0 2)) p q (number p l) (number q m)
+      same_prefix (rows_of h) rows known (rows_at (prefixes_part h) (prefixes_held h)) p q (number p l) (number q m)
       ∙ ap (λ (ps : List Prefix). same (prefix_at ps p) (prefix_at ps q)) resolves
 
-  part_of : (p i : ℕ) → p ≤ word_at h 0 2 → i ≤ length (at p) → Part h x (slice_of (rows_of h) p i) (at p) i
+  part_of : (p i : ℕ) → p ≤ prefixes_held h → i ≤ length (at p) → Part h x (slice_of (rows_of h) p i) (at p) i
   part_of p i l r = ⊎_elim (λ b. absurd (let z = b.1 in omega arith)) (λ b. b) (slice_is h x s p i l)
 
   -- ---- two stored prefixes compared
 
-  module _ (c p : ℕ) (lc : c ≤ word_at h 0 2) (lp : p ≤ word_at h 0 2) where
+  module _ (c p : ℕ) (lc : c ≤ prefixes_held h) (lp : p ≤ prefixes_held h) where
     -- through an index that both reach, and through one that the first does not
     pub agree_at : (i : ℕ) → i ≤ length (at c) → i ≤ length (at p) → agree_in h c p i ≡ same (take i (at c)) (take i (at p))
     unfolding agree_in
@@ -102,7 +102,7 @@ module _ (h : Bytes) (x : History) (s : Stands h x) where
   -- ---- what is written
 
   -- a node's unseen mark
-  pub unseen_written : (n m : ℕ) → n < 64 → m ≤ 256 → Stands (unseen_set h n m) (changed x n m x.committed x.owner x.findings)
+  pub unseen_written : (n m : ℕ) → n < node_count → m ≤ index_limit → Stands (unseen_set h n m) (changed x n m x.committed x.owner x.findings)
   unfolding unseen_set
   unseen_written n m l b =
       let r = facts.node n l in
@@ -116,12 +116,12 @@ module _ (h : Bytes) (x : History) (s : Stands h x) where
       (node_written h x s n row l (record { front = r.front; last = r.last; unseen = b }))
 
 -- the committed prefix and its owner, with the mark cleared
-pub keep_written : (h : Bytes) (x : History) (s : Stands h x) (n p : ℕ) → n < 64 → p ≤ word_at h 0 2
+pub keep_written : (h : Bytes) (x : History) (s : Stands h x) (n p : ℕ) → n < node_count → p ≤ prefixes_held h
     → Stands (keep_bytes h n p) (changed x n 0 (prefix_at x.prefixes p) n x.findings)
 unfolding keep_bytes
 keep_written h x s n p l b =
     let y = changed x n 0 x.committed x.owner x.findings in
     let w = unseen_written h x s n 0 l (omega arith) in
-    let here = prefixes_held h x s in
-    let there = prefixes_held (unseen_set h n 0) y w in
+    let here = prefixes_counted h x s in
+    let there = prefixes_counted (unseen_set h n 0) y w in
     committed_written (unseen_set h n 0) y w p n (omega arith) (omega arith)

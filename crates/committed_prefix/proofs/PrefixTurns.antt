@@ -4,8 +4,8 @@ use Prim.Native.Nat.{ℕ, ◌≤◌}
 use mathlib.Core.Path.{◌≡◌, refl, sym, ◌∙◌, ap, subst}
 use mathlib.Core.Bool.{Bool, false}
 use Rattle.model.specs.Sizes.{Bytes}
-use Rattle.storage_bytes.specs.Words.{word_at}
 use Rattle.storage.specs.Tables.{PrefixRow, prefix_row, prefixes_part}
+use Rattle.storage.specs.Head.{prefixes_held, committed_number}
 use Rattle.prefix_lookup.specs.Prefix.{stored_of, slice_of}
 use Rattle.log_comparison.specs.Comparison.{same_from}
 use Rattle.prefix_lookup.proofs.StoredLaws.{stored_number}
@@ -16,12 +16,12 @@ use Rattle.storage.proofs.WellFormed.{Formed}
 use Rattle.std.specs.Prelude.{Option, Some, None}
 
 -- a part of a stored prefix is stored
-stored_within : (h : Bytes) (p i : ℕ) (q : LogPrefixWitness) → Formed h → p ≤ word_at h 0 2 → slice_of (rows_of h) p i ≡ Some q → q.0 ≤ word_at h 0 2
-stored_within h p i q f l e = slice_within (prefixes_part h) (word_at h 0 2) p i q (whole_table h f) l e
+stored_within : (h : Bytes) (p i : ℕ) (q : LogPrefixWitness) → Formed h → p ≤ prefixes_held h → slice_of (rows_of h) p i ≡ Some q → q.0 ≤ prefixes_held h
+stored_within h p i q f l e = slice_within (prefixes_part h) (prefixes_held h) p i q (whole_table h f) l e
 
 -- the committed prefix, where one is kept, is stored
-pub kept_within : (h : Bytes) → Formed h → (k : Option LogPrefixWitness) → k ≡ stored_of (word_at h 4 2) → (c : LogPrefixWitness) → k ≡ Some c → c.0 ≤ word_at h 0 2
-kept_within h f k ek c g = subst (λ (x : ℕ). x ≤ word_at h 0 2) (sym (stored_number (word_at h 4 2) k ek c g).0) f.committed
+pub kept_within : (h : Bytes) → Formed h → (k : Option LogPrefixWitness) → k ≡ stored_of (committed_number h) → (c : LogPrefixWitness) → k ≡ Some c → c.0 ≤ prefixes_held h
+kept_within h f k ek c g = subst (λ (x : ℕ). x ≤ prefixes_held h) (sym (stored_number (committed_number h) k ek c g).0) f.committed
 
 -- ---- compared
 
@@ -39,7 +39,7 @@ module _ (h : Bytes) (a b i : ℕ) (q : Bytes) (eq : q ≡ prefixes_part h) (r :
   agree_short e =
       sym (ap (λ (x : Option LogPrefixWitness). same_slices (rows_of h) x (slice_of (rows_of h) b i)) (first_slice ∙ e) ∙ none_first (rows_of h) (slice_of (rows_of h) b i))
 
-  pub slice_kept : (p : LogPrefixWitness) → Formed h → a ≤ word_at h 0 2 → r ≡ Some p → p.0 ≤ word_at h 0 2
+  pub slice_kept : (p : LogPrefixWitness) → Formed h → a ≤ prefixes_held h → r ≡ Some p → p.0 ≤ prefixes_held h
   slice_kept p f l e = stored_within h a i p f l (first_slice ∙ e)
 
   module _ (p : LogPrefixWitness) (e : r ≡ Some p) (s : Option LogPrefixWitness) (es : s ≡ slice_of (prefix_row q) b i) where

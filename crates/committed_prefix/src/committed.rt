@@ -1,9 +1,10 @@
 // The committed prefix: looked up, held against another one, and replaced; and a node's unseen mark.
 ghost use Rattle.std.specs.Prelude.{◌≡◌, ◌≤◌, ◌<◌, length};
-ghost use Rattle.storage_bytes.specs.Words.{word_at};
 ghost use Rattle.table_rows.specs.Values.{mark_value};
 ghost use Rattle.prefix_lookup.specs.Prefix.{stored_of};
 ghost use Rattle.committed_prefix.specs.Prefix.{unseen_set, agree_in, keep_bytes};
+ghost use Rattle.storage.specs.Head.{prefixes_held, committed_number};
+ghost use Rattle.model.specs.Sizes.{node_count};
 
 use log_comparison::comparison::same_prefix;
 use prefix_lookup::lookup::slice_through;
@@ -19,7 +20,7 @@ use units::{LogIndex, LogPrefixWitness, NodeId};
 #[tactic(auto, using(model::proofs::Tests::unless_zero), unfolding(prefix_lookup::specs::Prefix::stored_of))]
 pub fn committed_prefix(history: &[u8]) -> Option<LogPrefixWitness>
     requires { 9 ≤ length history.now }
-    ensures { result ≡ stored_of (word_at history.now 4 2) }
+    ensures { result ≡ stored_of (committed_number history.now) }
 {
     let p = committed(history);
     (p != LogPrefixWitness::EMPTY).then_some(p)
@@ -28,7 +29,7 @@ pub fn committed_prefix(history: &[u8]) -> Option<LogPrefixWitness>
 // The node's unseen mark is set, or cleared; its view stays.
 #[tactic(auto, unfolding(crate::specs::Prefix::unseen_set))]
 pub fn set_unseen(history: &mut History, node: NodeId, mark: Option<LogIndex>)
-    requires { node.0 < 64 }
+    requires { node.0 < node_count }
     ensures { history.new ≡ unseen_set history.old node.0 (mark_value mark) }
 {
     let x = node_of(history, node);
@@ -42,7 +43,7 @@ pub fn agree_through(
     b: LogPrefixWitness,
     index: LogIndex,
 ) -> bool
-    requires { (a.0 ≤ word_at history.bytes.now 0 2) × (b.0 ≤ word_at history.bytes.now 0 2) }
+    requires { (a.0 ≤ prefixes_held history.bytes.now) × (b.0 ≤ prefixes_held history.bytes.now) }
     ensures { result ≡ agree_in history.entry.bytes.now a.0 b.0 index.0 }
 {
     let bytes = history.bytes;
@@ -59,7 +60,7 @@ pub fn agree_through(
 // The prefix becomes the committed one, and the node its owner; the node's unseen mark is cleared.
 #[tactic(auto, unfolding(crate::specs::Prefix::keep_bytes))]
 pub fn keep(history: &mut History, node: NodeId, p: LogPrefixWitness)
-    requires { node.0 < 64 }
+    requires { node.0 < node_count }
     ensures { history.new ≡ keep_bytes history.old node.0 p.0 }
 {
     set_unseen(history, node, None);

@@ -12,15 +12,15 @@ use lib.Dec.{ltb}
 use lib.ListN.{length}
 use borrow.Author.Tests.{lt-ltb, le-ltb}
 use Rattle.std.specs.Prelude.{Result, Ok, Err}
-use Rattle.model.specs.Sizes.{Bytes}
 use Rattle.model.specs.Refusal.{findingsFull}
 use Rattle.model.specs.Record.{check}
 use Rattle.model.specs.History.{Finding, Certificate, History, noted, with_certificates, with_findings}
 use Rattle.model.specs.Check.{moved, lackings, some_relevant, check_findings, check_refusal, check_value, check_effect}
 use Rattle.model.specs.Answer.{refusal}
+use Rattle.model.specs.Sizes.{Bytes, finding_limit}
 use Rattle.model.proofs.Tests.{cond_true, cond_false}
 use Rattle.storage_bytes.specs.Lists.{every}
-use Rattle.storage_bytes.specs.Words.{word_at}
+use Rattle.storage_bytes.specs.Layout.{findings_length}
 use Rattle.storage.specs.Tables.{CertificateRow, certificate_row, certificates_part, finding_row, finding_rows, findings_part}
 use Rattle.storage.specs.Decode.{prefix_at}
 use Rattle.storage.specs.Rules.{finding_right}
@@ -31,7 +31,9 @@ use Rattle.storage.proofs.Answered.{Means, accepts, refuses}
 use Rattle.log_violation.proofs.Kept.{findings_kept_lem}
 use Rattle.log_violation.proofs.ViolationLaws.{Holds, all_hold, all_length, findings_long}
 use Rattle.log_violation.specs.declared.violation.FindingsFull.{FindingsFull}
+use Rattle.log_violation.specs.Violation.{too_many}
 use Rattle.storage.specs.Values.{certificates_of, committed_end}
+use Rattle.storage.specs.Head.{prefixes_held, committed_number, certificates_held, findings_held}
 use Rattle.certificate_judgement.specs.Judgement.{lackings_in, flags_in}
 use Rattle.check_marks.specs.Marks.{marks_moved}
 use Rattle.completeness.specs.Check.{check_reply, check_held, check_table, check_written, judged_answer, judged_bytes, CheckedAs}
@@ -44,7 +46,7 @@ use Rattle.completeness.proofs.CheckLaws.{check_cases}
 use Rattle.completeness.proofs.NothingCommitted.{nothing_refused, nothing_flagged, nothing_changed}
 
 module _ (h : Bytes) (x : History) (s : Stands h x) where
-  rows : (c : CertificateRow) → Memᴰ c (certificates_of h) → CertificateNamed (word_at h 0 2) c
+  rows : (c : CertificateRow) → Memᴰ c (certificates_of h) → CertificateNamed (prefixes_held h) c
   rows = stored h s.right
 
   notes_fit : (g : Finding) → Memᴰ g (lackings_in h (certificates_of h)) → Fitting g
@@ -61,7 +63,7 @@ module _ (h : Bytes) (x : History) (s : Stands h x) where
   unfolding check_table check_held
   holds =
       subst (Holds (check_table h) (check_held h)) found
-      (all_hold (lackings_in h (certificates_of h)) (findings_part h) (word_at h 7 1) x.findings (findings_long h s.right)
+      (all_hold (lackings_in h (certificates_of h)) (findings_part h) (findings_held h) x.findings (findings_long h s.right)
       (λ g m. fitting g (notes_fit g m)) (inl ((formed h s.right).findings, findings_stored h x s)))
 
   flag : flags_in h 0 (certificates_of h) ≡ check_value x
@@ -70,11 +72,11 @@ module _ (h : Bytes) (x : History) (s : Stands h x) where
       flags_mean h x s (certificates_of h) 0 ∙ ap (λ (cs : List Certificate). cond (some_relevant x.committed x.terms cs) 4 0) (certificates_stored h x s)
 
   -- the marks have moved, as the model's
-  marks : Stands (marks_moved h (committed_end h) 0 (word_at h 6 1)) (with_certificates x (map (moved x.committed) x.certificates))
+  marks : Stands (marks_moved h (committed_end h) 0 (certificates_held h)) (with_certificates x (map (moved x.committed) x.certificates))
   unfolding moved
   marks =
       subst (λ (n : ℕ). Stands (marks_moved h (committed_end h) 0 n) (with_certificates x (map (moved x.committed) x.certificates)))
-      (tabulate_length (certificate_row (certificates_part h)) 0 (word_at h 6 1))
+      (tabulate_length (certificate_row (certificates_part h)) 0 (certificates_held h))
       (subst (λ (cs : List Certificate). Stands (marks_moved h (committed_end h) 0 (length (certificates_of h))) (with_certificates x cs))
       (λ i. map (raised (end_is h x s i)) (certificates_stored h x s i))
       (marks_mean (certificates_of h) [] h x s (committed_end h) (end_small h s.right) (sym (certificates_stored h x s))))
@@ -85,59 +87,59 @@ module _ (h : Bytes) (x : History) (s : Stands h x) where
       (noted_right (lackings_in h (certificates_of h)) x.findings (findings_right h x s) (λ g m. (notes_fit g m).0))
 
   -- not too many: accepted
-  module _ (few : check_held h ≤ 128) (e : finding_rows (check_table h) (check_held h) ≡ check_findings x) where
+  module _ (few : check_held h ≤ finding_limit) (e : finding_rows (check_table h) (check_held h) ≡ check_findings x) where
     count : length (check_findings x) ≡ check_held h
     count = sym (ap length e) ∙ tabulate_length (finding_row (check_table h)) 0 (check_held h)
 
     model_accepts : refusal x check ≡ none
     unfolding check_refusal
-    model_accepts = cond_false (ltb 128 (length (check_findings x))) (some findingsFull) none (le-ltb 128 (length (check_findings x)) (let z = count in omega arith))
+    model_accepts = cond_false (ltb finding_limit (length (check_findings x))) (some findingsFull) none (le-ltb finding_limit (length (check_findings x)) (let z = count in omega arith))
 
     accepted : judged_answer h ≡ Ok (check_value x)
     unfolding judged_answer
-    accepted = cond_false (ltb 128 (check_held h)) (Err (record {})) _ (le-ltb 128 _ few) ∙ ap Ok flag
+    accepted = cond_false (ltb finding_limit (check_held h)) (Err (record {})) _ (le-ltb finding_limit _ few) ∙ ap Ok flag
 
-    table_kept : length (check_table h) ≡ 1024
+    table_kept : length (check_table h) ≡ findings_length
     unfolding check_table
-    table_kept = all_length (lackings_in h (certificates_of h)) (findings_part h) (word_at h 7 1) ∙ findings_long h s.right
+    table_kept = all_length (lackings_in h (certificates_of h)) (findings_part h) (findings_held h) ∙ findings_long h s.right
 
     written : Stands (judged_bytes h) (check_effect x)
     unfolding judged_bytes check_written check_findings check_effect
     written =
-        subst (λ (u : Bytes). Stands u (check_effect x)) (sym (cond_false (ltb 128 (check_held h)) h _ (le-ltb 128 _ few)))
+        subst (λ (u : Bytes). Stands u (check_effect x)) (sym (cond_false (ltb finding_limit (check_held h)) h _ (le-ltb finding_limit _ few)))
         (subst (λ (fs : List Finding). Stands (check_written h (check_table h) (check_held h) (committed_end h)) (with_findings (with_certificates x (map (moved x.committed) x.certificates)) fs)) e
-        (findings_kept_lem (marks_moved h (committed_end h) 0 (word_at h 6 1)) (with_certificates x (map (moved x.committed) x.certificates)) marks
+        (findings_kept_lem (marks_moved h (committed_end h) 0 (certificates_held h)) (with_certificates x (map (moved x.committed) x.certificates)) marks
         (check_table h) (check_held h) (lackings x.committed x.terms x.certificates) table_kept few (ap (every finding_right) e ∙ found_right) e))
 
     accepted_means : Means h x check (check_reply (judged_answer h)) (judged_bytes h)
     accepted_means = accepts h x check _ (judged_bytes h) model_accepts (ap check_reply accepted) written
 
   -- too many: refused
-  module _ (many : check_held h ≡ 129) (more : 128 < length (check_findings x)) where
-    over : ltb 128 (check_held h) ≡ true
-    over = lt-ltb 128 (check_held h) (omega arith)
+  module _ (many : check_held h ≡ too_many) (more : finding_limit < length (check_findings x)) where
+    over : ltb finding_limit (check_held h) ≡ true
+    over = lt-ltb finding_limit (check_held h) (omega arith)
 
     model_refuses : refusal x check ≡ some findingsFull
     unfolding check_refusal
-    model_refuses = cond_true (ltb 128 (length (check_findings x))) (some findingsFull) none (lt-ltb 128 _ more)
+    model_refuses = cond_true (ltb finding_limit (length (check_findings x))) (some findingsFull) none (lt-ltb finding_limit _ more)
 
     refused : judged_answer h ≡ Err (record {})
     unfolding judged_answer
-    refused = cond_true (ltb 128 (check_held h)) (Err (record {})) _ over
+    refused = cond_true (ltb finding_limit (check_held h)) (Err (record {})) _ over
 
     unchanged : judged_bytes h ≡ h
     unfolding judged_bytes
-    unchanged = cond_true (ltb 128 (check_held h)) h _ over
+    unchanged = cond_true (ltb finding_limit (check_held h)) h _ over
 
     refused_means : Means h x check (check_reply (judged_answer h)) (judged_bytes h)
     refused_means = refuses h x check _ (judged_bytes h) findingsFull s model_refuses (ap check_reply refused) unchanged
 
 -- nothing is committed: accepted, and nothing changes
-nothing_means : (h : Bytes) (x : History) → Stands h x → word_at h 4 2 ≡ 0 → Means h x check (check_reply (Ok 0)) h
+nothing_means : (h : Bytes) (x : History) → Stands h x → committed_number h ≡ 0 → Means h x check (check_reply (Ok 0)) h
 nothing_means h x s e =
     let none_kept : x.committed ≡ [] = sym (committed_stored h x s) ∙ ap (prefix_at x.prefixes) e in
-    let count : word_at h 7 1 ≡ length x.findings =
-    sym (tabulate_length (finding_row (findings_part h)) 0 (word_at h 7 1)) ∙ ap length (findings_stored h x s) in
+    let count : findings_held h ≡ length x.findings =
+    sym (tabulate_length (finding_row (findings_part h)) 0 (findings_held h)) ∙ ap length (findings_stored h x s) in
     let held = (formed h s.right).findings in
     accepts h x check _ h (nothing_refused x none_kept (omega arith))
     (ap (λ (v : ℕ). check_reply (Ok v)) (sym (nothing_flagged x none_kept)))

@@ -14,6 +14,7 @@ use Rattle.model.specs.Refusal.{findingsFull}
 use Rattle.model.specs.History.{Finding, Certificate, History, noted, with_certificates, with_findings}
 use Rattle.model.specs.Terms.{with_mark}
 use Rattle.model.specs.Check.{last_below, relevant, lacks, lacking, moved, lackings, some_relevant, check_findings, check_refusal, check_value, check_effect}
+use Rattle.model.specs.Sizes.{finding_limit}
 use Rattle.model.proofs.Tests.{tf, cond_false}
 
 -- ---- one certificate
@@ -71,11 +72,11 @@ module _ (x : History) (e : x.committed ≡ []) where
       ap (noted x.findings)
       (ap (λ (p : Prefix). lackings p x.terms x.certificates) e ∙ none_lackings x.terms x.certificates)
 
-  pub nothing_refused : length x.findings ≤ 128 → check_refusal x ≡ none
+  pub nothing_refused : length x.findings ≤ finding_limit → check_refusal x ≡ none
   unfolding check_refusal
   nothing_refused l =
-      cond_false (ltb 128 (length (check_findings x))) (some findingsFull) none
-      (ap (λ (fs : List Finding). ltb 128 (length fs)) findings_stay ∙ le-ltb 128 (length x.findings) l)
+      cond_false (ltb finding_limit (length (check_findings x))) (some findingsFull) none
+      (ap (λ (fs : List Finding). ltb finding_limit (length fs)) findings_stay ∙ le-ltb finding_limit (length x.findings) l)
 
   pub nothing_flagged : check_value x ≡ 0
   unfolding check_value

@@ -11,20 +11,20 @@ use mathlib.Core.Option.{Option, none, some}
 use lib.Dec.{leb, ltb, eqb}
 use lib.ListN.{length, take, length-map}
 use borrow.Author.Tests.{lt-ltb, le-ltb, leb-false}
-use Rattle.model.specs.Sizes.{Bytes}
 use Rattle.model.specs.Entry.{Prefix}
 use Rattle.model.specs.Refusal.{Refusal, lengthExceedsFront, certificatesFull, numberTaken}
 use Rattle.model.specs.History.{Certificate, History, front_of, with_certificates}
 use Rattle.model.specs.Election as model
 use Rattle.model.specs.Election.{held, taken, in_order, election_refusal, certificate, election_effect}
+use Rattle.model.specs.Sizes.{Bytes, node_count, certificate_limit, term_end}
 use Rattle.model.proofs.Tests.{tf, cond_true, cond_false}
-use Rattle.storage_bytes.specs.Words.{word_at}
 use Rattle.storage.specs.Values.{certificates_of}
 use Rattle.storage.specs.Tables.{CertificateRow, certificate_row, certificates_part}
 use Rattle.storage.specs.Decode.{prefix_at, log_in, certificate_in}
 use Rattle.storage.specs.Order.{place_of, held_of}
 use Rattle.storage.specs.Rules.{numbered}
 use Rattle.storage.specs.Writes.{CertificateFits, certificate_added}
+use Rattle.storage.specs.Head.{prefixes_held, certificates_held}
 use Rattle.storage_bytes.proofs.ListLaws.{tabulate_length}
 use Rattle.storage.proofs.DecodeLaws.{CertificateNamed}
 use Rattle.storage.proofs.WellFormed.{certificates_are, formed}
@@ -110,9 +110,9 @@ module _ (h : Bytes) (x : History) (s : Stands h x) where
   abbrev number : ℕ → ℕ
   number t = held_of t cs
 
-  count_is : word_at h 6 1 ≡ length x.certificates
+  count_is : certificates_held h ≡ length x.certificates
   count_is =
-      sym (tabulate_length (certificate_row (certificates_part h)) 0 (word_at h 6 1))
+      sym (tabulate_length (certificate_row (certificates_part h)) 0 (certificates_held h))
       ∙ sym (length-map cs (certificate_in x.prefixes))
       ∙ ap length (certificates_stored h x s)
 
@@ -125,28 +125,28 @@ module _ (h : Bytes) (x : History) (s : Stands h x) where
   -- the certificates are in order, so the searches find these
   numbering_same : (t : ℕ) → numbering_in h t ≡ found (taken_of t (number t) cs) (place t) (number t)
   numbering_same t =
-      numbering_is (certificate_row (certificates_part h)) t (word_at h 6 1)
+      numbering_is (certificate_row (certificates_part h)) t (certificates_held h)
       (subst (λ (rs : List CertificateRow). numbered rs ≡ true) (certificates_are h) (meanings.kept h x s).numbered)
 
   -- 10 and 11 are the model's
   room_same : (t q : ℕ)
       → refusal_of (answer_of (Some (witness q)) (full_in h) (numbering_in h t))
-      ≡ cond (leb 64 (length x.certificates)) (some certificatesFull) (cond (taken t (held t x.certificates) x.certificates) (some numberTaken) none)
+      ≡ cond (leb certificate_limit (length x.certificates)) (some certificatesFull) (cond (taken t (held t x.certificates) x.certificates) (some numberTaken) none)
   room_same t q =
       let k = taken_same t (number t) ∙ ap (λ (m : ℕ). taken t m x.certificates) (held_same t) in
       let c = count_is in
       ap (λ (m : Result Numbering NumberTaken). refusal_of (answer_of (Some (witness q)) (full_in h) m)) (numbering_same t)
       ∙ room_is q (full_in h) (taken_of t (number t) cs) (place t) (number t)
-      ∙ (λ i. cond (leb 64 (c i)) (some certificatesFull) (cond (k i) (some numberTaken) none))
+      ∙ (λ i. cond (leb certificate_limit (c i)) (some certificatesFull) (cond (k i) (some numberTaken) none))
 
-  module _ (l t : ℕ) (p : Bool) (n : ℕ) (leads : l < 64) (fits : t < 4294967296) where
+  module _ (l t : ℕ) (p : Bool) (n : ℕ) (leads : l < node_count) (fits : t < term_end) where
     model_beyond : length (front_of x l) < n → election_refusal x l t n ≡ some lengthExceedsFront
     unfolding election_refusal
     model_beyond b = cond_true (ltb (length (front_of x l)) n) _ _ (lt-ltb (length (front_of x l)) n b)
 
     model_within : n ≤ length (front_of x l)
         → election_refusal x l t n
-        ≡ cond (leb 64 (length x.certificates)) (some certificatesFull) (cond (taken t (held t x.certificates) x.certificates) (some numberTaken) none)
+        ≡ cond (leb certificate_limit (length x.certificates)) (some certificatesFull) (cond (taken t (held t x.certificates) x.certificates) (some numberTaken) none)
     unfolding election_refusal
     model_within b = cond_false (ltb (length (front_of x l)) n) _ _ (le-ltb (length (front_of x l)) n b)
 
@@ -172,7 +172,7 @@ module _ (h : Bytes) (x : History) (s : Stands h x) where
 
     -- ---- the certificate
 
-    module _ (q : ℕ) (stored : q ≤ word_at h 0 2) (log : prefix_at x.prefixes q ≡ take n (front_of x l)) (room : word_at h 6 1 < 64) where
+    module _ (q : ℕ) (stored : q ≤ prefixes_held h) (log : prefix_at x.prefixes q ≡ take n (front_of x l)) (room : certificates_held h < certificate_limit) where
       abbrev new : CertificateRow
       new = kept l t (number t) p q
 
@@ -183,7 +183,7 @@ module _ (h : Bytes) (x : History) (s : Stands h x) where
       new_fits : CertificateFits new
       new_fits =
           let a = held_within t cs in
-          let c = tabulate_length (certificate_row (certificates_part h)) 0 (word_at h 6 1) in
+          let c = tabulate_length (certificate_row (certificates_part h)) 0 (certificates_held h) in
           let r = (formed h s.right).prefixes in
           record {
             term = fits;
@@ -194,7 +194,7 @@ module _ (h : Bytes) (x : History) (s : Stands h x) where
             present = omega (arith, flag_small p);
           }
 
-      new_named : CertificateNamed (word_at h 0 2) new
+      new_named : CertificateNamed (prefixes_held h) new
       new_named = record { log = stored; mark = omega arith; leader = omega arith; term = omega arith; present = flag_small p }
 
       certificate_is : certificate_in x.prefixes new ≡ certificate x l t p n
@@ -216,12 +216,12 @@ module _ (h : Bytes) (x : History) (s : Stands h x) where
           (subst (λ (rs : List CertificateRow). Stands (certificate_added h (place_of t rs) new) (with_certificates x (in_order (certificate_in x.prefixes new) x.certificates))) e w)
 
     -- an accepted election is kept
-    effect_within : (q : ℕ) → q ≤ word_at h 0 2 → prefix_at x.prefixes q ≡ take n (front_of x l) → (a b : Bool) → full_in h ≡ a
+    effect_within : (q : ℕ) → q ≤ prefixes_held h → prefix_at x.prefixes q ≡ take n (front_of x l) → (a b : Bool) → full_in h ≡ a
         → answer_of (Some (witness q)) a (found b (place t) (number t)) ≡ Ok tt
         → Stands (bytes_of h l t p (Some (witness q)) a (found b (place t) (number t))) (election_effect x l t p n)
     effect_within q stored log true b e r = absurd (tf (sym (ap is_ok r)))
     effect_within q stored log false true e r = absurd (tf (sym (ap is_ok r)))
-    effect_within q stored log false false e r = kept_stands q stored log (leb-false 64 (word_at h 6 1) e)
+    effect_within q stored log false false e r = kept_stands q stored log (leb-false certificate_limit (certificates_held h) e)
 
     -- the bytes after an accepted election stand for the model's history
     pub effect_stands : answer_in h l t n ≡ Ok tt → Stands (bytes_in h l t p n) (election_effect x l t p n)

@@ -4,12 +4,12 @@
 use Prim.Native.Nat.{ℕ, ◌^◌, ◌<◌}
 use mathlib.Core.Path.{◌≡◌, refl, ap, sym, ◌∙◌, subst}
 use mathlib.Core.Bool.{Bool, false}
-use Rattle.model.specs.Sizes.{Bytes}
 use Rattle.model.specs.Refusal.{lengthExceedsFront, certificatesFull, numberTaken}
 use Rattle.model.specs.Record.{election}
 use Rattle.model.specs.History.{History}
 use Rattle.model.specs.Answer.{Answer, accepted, refused}
 use Rattle.model.specs.Election.{election_refusal, election_effect}
+use Rattle.model.specs.Sizes.{Bytes, node_count}
 use Rattle.storage.proofs.Meanings.{Stands}
 use Rattle.storage.proofs.Answered.{Means, accepts, refuses}
 use Rattle.std.specs.Prelude.{Result, Ok, Err, is_ok, ⊤}
@@ -37,7 +37,7 @@ module _ (h : Bytes) (x : History) (s : Stands h x) (l t : ℕ) (p : Bool) (n : 
 
 -- "9 when length exceeds the leader's front, 10 when 64 are held, 11 when its number within its term is taken, in this order.
 -- Else a certificate": what `record_election` promises is what the model says, of any leader and any term of 32 bits
-pub election_recorded : (h : Bytes) (x : History) → Stands h x → (l t : ℕ) (p : Bool) (n : ℕ) → l < 64 → t < 2 ^ 32
+pub election_recorded : (h : Bytes) (x : History) → Stands h x → (l t : ℕ) (p : Bool) (n : ℕ) → l < node_count → t < 2 ^ 32
     → (r : Result ⊤ ElectionRefusal) (h' : Bytes) → Recorded h l t p n r h'
     → Means h x (election l t p n) (election_reply r) h'
 election_recorded h x s l t p n leads fits r h' d =

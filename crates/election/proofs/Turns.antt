@@ -5,10 +5,10 @@ use mathlib.Core.Path.{◌≡◌, ap, sym, ◌∙◌}
 use mathlib.Core.Bool.{Bool, true, false}
 use lib.Dec.{leb}
 use borrow.Author.Tests.{le-leb, lt-leb}
-use Rattle.model.specs.Sizes.{Bytes}
-use Rattle.storage_bytes.specs.Words.{word_at}
+use Rattle.model.specs.Sizes.{Bytes, certificate_limit}
 use Rattle.storage.specs.Tables.{CertificateRow, certificate_row, certificates_part}
 use Rattle.storage.specs.Writes.{certificate_added}
+use Rattle.storage.specs.Head.{certificates_held}
 use Rattle.prefix_lookup.specs.Prefix.{front_through}
 use Rattle.units.specs.declared.LogPrefixWitness.{LogPrefixWitness}
 use Rattle.election.specs.declared.certificate.ElectionRefusal.{ElectionRefusal}
@@ -20,8 +20,8 @@ use Rattle.election.specs.Certify.{full_in, answer_of, kept, bytes_of, answer_in
 use Rattle.std.specs.Prelude.{Option, Some, None, Result, Ok, Err, ⊤}
 
 -- the place is among those held, or behind them
-pub place_fits : (h : Bytes) (t : ℕ) (m : Result Numbering NumberTaken) → m ≡ numbering_in h t → (k : Numbering) → m ≡ Ok k → k.place ≤ word_at h 6 1
-place_fits h t m e k g = judged.next_within (certificate_row (certificates_part h)) t (word_at h 6 1) k (sym e ∙ g)
+pub place_fits : (h : Bytes) (t : ℕ) (m : Result Numbering NumberTaken) → m ≡ numbering_in h t → (k : Numbering) → m ≡ Ok k → k.place ≤ certificates_held h
+place_fits h t m e k g = judged.next_within (certificate_row (certificates_part h)) t (certificates_held h) k (sym e ∙ g)
 
 -- ---- the answers
 
@@ -57,23 +57,23 @@ module _ (h : Bytes) (l t : ℕ) (p : Bool) (n : ℕ) where
         }
 
     -- c certificates are held
-    module _ (log : LogPrefixWitness) (e : s ≡ Some log) (c : ℕ) (ec : c ≡ word_at h 6 1) where
+    module _ (log : LogPrefixWitness) (e : s ≡ Some log) (c : ℕ) (ec : c ≡ certificates_held h) where
       within : front_through h l n ≡ Some log
       within = sym es ∙ e
 
       -- 10
-      pub full : 64 ≤ c → Gives (Err ElectionRefusal.CertificatesFull) h
+      pub full : certificate_limit ≤ c → Gives (Err ElectionRefusal.CertificatesFull) h
       unfolding answer_in bytes_in
       full f =
-          let q : full_in h ≡ true = ap (leb 64) (sym ec) ∙ le-leb 64 c f in
+          let q : full_in h ≡ true = ap (leb certificate_limit) (sym ec) ∙ le-leb certificate_limit c f in
           record {
             answer = is_ten (full_in h) (numbering_in h t) (front_through h l n) log within q;
             bytes = sym (λ i. bytes_of h l t p (within i) (q i) (numbering_in h t));
           }
 
-      module _ (f : c < 64) where
+      module _ (f : c < certificate_limit) where
         room : full_in h ≡ false
-        room = ap (leb 64) (sym ec) ∙ lt-leb 64 c f
+        room = ap (leb certificate_limit) (sym ec) ∙ lt-leb certificate_limit c f
 
         module _ (m : Result Numbering NumberTaken) (em : m ≡ numbering_in h t) where
           -- 11

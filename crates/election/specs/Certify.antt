@@ -2,9 +2,9 @@
 -- Assumes nothing.
 use Rattle.std.specs.Prelude.{ℕ, ◌≡◌, Bool, true, false, cond, leb, Option, Some, None, Result, Ok, Err, ⊤}
 use Rattle.model.specs.Sizes.{Bytes, certificate_limit}
-use Rattle.storage_bytes.specs.Words.{word_at}
 use Rattle.storage.specs.Tables.{CertificateRow}
 use Rattle.storage.specs.Writes.{certificate_added}
+use Rattle.storage.specs.Head.{certificates_held}
 use Rattle.prefix_lookup.specs.Prefix.{front_through}
 use Rattle.election.specs.declared.certificate.ElectionRefusal.{ElectionRefusal}
 use Rattle.answers.specs.declared.answer.Refusal.{Refusal}
@@ -21,7 +21,7 @@ refusal_of ElectionRefusal.NumberTaken = Refusal.NumberTaken
 
 -- as many certificates are held as a history holds
 abbrev pub full_in : Bytes → Bool
-full_in h = leb certificate_limit (word_at h 6 1)
+full_in h = leb certificate_limit (certificates_held h)
 
 -- 9 beyond the leader's front; else 10 where the certificates are full; else 11 where the number is taken
 abbrev pub answer_of : Option LogPrefixWitness → Bool → Result Numbering NumberTaken → Result ⊤ ElectionRefusal

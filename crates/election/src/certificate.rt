@@ -5,6 +5,7 @@ ghost use Rattle.storage.specs.Rules.{well_formed};
 ghost use Rattle.certificate_rows.specs.Values.{certificate_value};
 ghost use Rattle.election.specs.Certify.{refusal_of, kept, Recorded};
 ghost use Rattle.election.specs.declared.certificate.ElectionRefusal.{ElectionRefusal};
+ghost use Rattle.model.specs.Sizes.{node_count};
 
 use answers::answer::Refusal;
 use certificate_rows::certificates::{Certificate, LOG_ABSENT, LOG_PRESENT, add_certificate};
@@ -69,7 +70,7 @@ fn new_certificate(e: Election, number: usize, log: LogPrefixWitness) -> Certifi
 // then 11, else the certificate is put in its place.
 #[tactic(auto, using(crate::proofs::Turns::place_fits))]
 pub fn record_election(history: &mut History, e: Election) -> Result<(), ElectionRefusal>
-    requires { (well_formed history.old ≡ true) × (e.leader.0 < 64) }
+    requires { (well_formed history.old ≡ true) × (e.leader.0 < node_count) }
     ensures { Recorded history.old e.leader.0 e.term.0 (is_some e.length) (unwrap_or e.length 0) result history.new }
 {
     let end = LogIndex(e.length.unwrap_or(0)); // an absent log is no longer than any front

@@ -12,11 +12,12 @@ use Rattle.certificate_order.proofs.Loops.{place_within, held_within}
 use Rattle.election_judging.specs.declared.judging.Numbering.{Numbering}
 use Rattle.election_judging.specs.declared.judging.NumberTaken.{NumberTaken}
 use Rattle.election_judging.specs.Certify.{numbering_of}
+use Rattle.model.specs.Sizes.{certificate_limit}
 
 -- ---- the place and the number, with what was read
 
 module _ (row : ℕ → CertificateRow) (t n place : ℕ) (ep : place ≡ place_from row t n) where
-  pub place_fits : n ≤ 64 → place ≤ 64
+  pub place_fits : n ≤ certificate_limit → place ≤ certificate_limit
   place_fits h = omega (arith, place_within row t n)
 
   module _ (number : ℕ) (en : number ≡ held_before row t place) where

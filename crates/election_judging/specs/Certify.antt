@@ -2,8 +2,8 @@
 -- Assumes nothing.
 use Rattle.std.specs.Prelude.{ℕ, cond, Result, Ok, Err}
 use Rattle.model.specs.Sizes.{Bytes}
-use Rattle.storage_bytes.specs.Words.{word_at}
 use Rattle.storage.specs.Tables.{CertificateRow, certificate_row, certificates_part}
+use Rattle.storage.specs.Head.{certificates_held}
 use Rattle.election_judging.specs.declared.judging.Numbering.{Numbering}
 use Rattle.election_judging.specs.declared.judging.NumberTaken.{NumberTaken}
 use Rattle.storage_bytes.specs.Lists.{some}
@@ -19,4 +19,4 @@ numbering_of row t n =
 
 -- the same in the bytes of a history
 abbrev pub numbering_in : Bytes → ℕ → Result Numbering NumberTaken
-numbering_in h t = numbering_of (certificate_row (certificates_part h)) t (word_at h 6 1)
+numbering_in h t = numbering_of (certificate_row (certificates_part h)) t (certificates_held h)

@@ -7,6 +7,7 @@ use Rattle.model.specs.History.{Finding}
 use Rattle.model.specs.Lists.{before}
 use Rattle.storage_bytes.specs.Words.{word_at}
 use Rattle.storage.specs.Tables.{finding_rows, findings_part}
+use Rattle.storage.specs.Head.{findings_held}
 use Rattle.table_rows.specs.declared.findings.Found.{Found}
 
 unfoldable pub comes_before : Finding → Finding → Bool
@@ -32,4 +33,4 @@ pick_ordered (f ∷ fs) n =
 
 unfoldable pub finding_answer : Bytes → ℕ → Option Found
 unfolding word_at pick_ordered
-finding_answer h n = pick_ordered (finding_rows (findings_part h) (word_at h 7 1)) n
+finding_answer h n = pick_ordered (finding_rows (findings_part h) (findings_held h)) n

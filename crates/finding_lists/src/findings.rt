@@ -5,6 +5,7 @@ ghost use Rattle.storage_bytes.specs.Lists.{tabulate};
 ghost use Rattle.storage.specs.Tables.{finding_row, finding_rows};
 ghost use Rattle.table_rows.specs.Values.{finding_value};
 ghost use Rattle.finding_lists.specs.Findings.{comes_before, count_first, pick_ordered, finding_answer};
+ghost use Rattle.model.specs.Sizes.{finding_limit};
 
 use storage::head::finding_count;
 use storage::rows::StoredRow;
@@ -22,7 +23,7 @@ fn comes_before(f: Found, g: Found) -> bool
 
 // How many of the rows from k on, before m, f does not come before.
 fn count_first(findings: &Findings, k: usize, m: usize, f: Found) -> usize
-    requires { m ≤ 128 }
+    requires { m ≤ finding_limit }
     ensures { result ≡ count_first (finding_value f) (tabulate (finding_row findings.now) k (m - k)) }
 {
     (k..m)
@@ -33,7 +34,7 @@ fn count_first(findings: &Findings, k: usize, m: usize, f: Found) -> usize
 // The n-th of the first m rows in printed order, counted from 0.
 #[tactic(auto, using(crate::proofs::OrderLaws::order_here, crate::proofs::OrderLaws::order_behind, crate::proofs::OrderLaws::order_front, crate::proofs::OrderLaws::order_none))]
 fn finding_in(findings: &Findings, m: usize, n: usize) -> Option<Found>
-    requires { m ≤ 128 }
+    requires { m ≤ finding_limit }
     ensures { result ≡ pick_ordered (finding_rows findings.now m) n }
 {
     let mut left = n;

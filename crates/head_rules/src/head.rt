@@ -1,8 +1,8 @@
 // The storage rules of the head: its counts are within the limits, the committed prefix exists, and its owner is a node. The head's nine
 // bytes or more are lent: the whole history's type would ask for all of it.
 ghost use Rattle.std.specs.Prelude.{◌≡◌, ◌≤◌, length};
-ghost use Rattle.storage_bytes.specs.Words.{word_at};
 ghost use Rattle.storage.specs.Rules.{within_limits, committed_right};
+ghost use Rattle.storage.specs.Head.{prefixes_held, terms_held, committed_number, certificates_held, findings_held, owner_of};
 
 use storage::head::{
     certificate_count, committed, finding_count, last_recorded, owner, prefix_count,
@@ -13,7 +13,7 @@ use units::{CERTIFICATE_LIMIT, FINDING_LIMIT, LogIndex, NodeId, PREFIX_LIMIT};
 #[tactic(auto, unfolding(storage::specs::Rules::within_limits))]
 pub fn within_limits(head: &[u8]) -> bool
     requires { 9 ≤ length head.now }
-    ensures { result ≡ within_limits (word_at head.now 0 2) (word_at head.now 2 2) (word_at head.now 6 1) (word_at head.now 7 1) }
+    ensures { result ≡ within_limits (prefixes_held head.now) (terms_held head.now) (certificates_held head.now) (findings_held head.now) }
 {
     if PREFIX_LIMIT < prefix_count(head) {
         return false;
@@ -31,7 +31,7 @@ pub fn within_limits(head: &[u8]) -> bool
 #[tactic(auto, unfolding(storage::specs::Rules::committed_right))]
 pub fn committed_right(head: &[u8]) -> bool
     requires { 9 ≤ length head.now }
-    ensures { result ≡ committed_right (word_at head.now 0 2) (word_at head.now 4 2) (word_at head.now 8 1) }
+    ensures { result ≡ committed_right (prefixes_held head.now) (committed_number head.now) (owner_of head.now) }
 {
     if prefix_count(head) < committed(head).0 {
         return false;

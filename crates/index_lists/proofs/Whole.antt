@@ -7,7 +7,6 @@ use mathlib.Core.Bool.{true}
 use lib.ListN.{length, length-append}
 use Rattle.std.specs.Prelude.{Option}
 use Rattle.model.specs.Sizes.{Bytes}
-use Rattle.storage_bytes.specs.Words.{word_at}
 use Rattle.storage_bytes.proofs.ListLaws.{tabulate_length}
 use Rattle.storage.specs.Tables.{nodes_part, terms_part, prefixes_part, prefix_row, rows_of_prefixes}
 use Rattle.storage.specs.Rules.{well_formed}
@@ -15,6 +14,7 @@ use Rattle.storage.specs.Decode.{prefix_at, resolve}
 use Rattle.storage.proofs.WellFormed.{formed, formed_rows, rows_index}
 use Rattle.storage.proofs.RowFacts.{row_at, entry_after}
 use Rattle.storage.specs.Values.{index_of, number_index, committed_end}
+use Rattle.storage.specs.Head.{prefixes_held, terms_held, committed_number}
 use Rattle.index_lists.specs.declared.unseen.Unseen.{Unseen}
 use Rattle.units.specs.declared.LogIndex.{LogIndex}
 use Rattle.index_lists.specs.Unseen.{mark_in, unseen_answer}
@@ -24,24 +24,24 @@ pub unseen_lent : (h t : Bytes) (n : ℕ) {r : Option Unseen} → t ≡ nodes_pa
 unfolding unseen_answer
 unseen_lent h t n e q = q ∙ ap (λ (u : Bytes). mark_in u n) e
 
-pub unknown_lent : (h t : Bytes) (count m n : ℕ) {r : Option LogIndex} → t ≡ terms_part h → count ≡ word_at h 2 2 → m ≡ committed_end h
+pub unknown_lent : (h t : Bytes) (count m n : ℕ) {r : Option LogIndex} → t ≡ terms_part h → count ≡ terms_held h → m ≡ committed_end h
     → r ≡ index_in t count m n → r ≡ unknown_answer h n
 unfolding unknown_answer
 unknown_lent h t count m n et ec em q = q ∙ (λ i. index_in (et i) (ec i) (em i) n)
 
 -- ---- the end of the committed prefix
 
-pub end_none : (h : Bytes) → word_at h 4 2 ≡ 0 → committed_end h ≡ 0
+pub end_none : (h : Bytes) → committed_number h ≡ 0 → committed_end h ≡ 0
 unfolding committed_end number_index
 end_none h z = ap (index_of (prefix_row (prefixes_part h))) z
 
 -- one that is kept has an entry
-pub end_some : (h : Bytes) → well_formed h ≡ true → (word_at h 4 2 ≡ 0 → ⊥) → committed_end h ≡ 0 → ⊥
+pub end_some : (h : Bytes) → well_formed h ≡ true → (committed_number h ≡ 0 → ⊥) → committed_end h ≡ 0 → ⊥
 unfolding committed_end
 end_some h right some z =
     let f = formed h right in
-    let n = word_at h 0 2 in
-    let p = word_at h 4 2 in
+    let n = prefixes_held h in
+    let p = committed_number h in
     let rows = rows_of_prefixes (prefixes_part h) n in
     let facts = formed_rows h f in
     let last = entry_after rows facts (p - 1) (omega (arith, f.committed, tabulate_length (prefix_row (prefixes_part h)) 0 n)) in

@@ -7,6 +7,7 @@ use Rattle.storage.specs.Tables.{term_row, terms_part}
 use Rattle.units.specs.declared.LogIndex.{LogIndex}
 use Rattle.index_lists.specs.Picked.{pick_from}
 use Rattle.storage.specs.Values.{committed_end}
+use Rattle.storage.specs.Head.{terms_held}
 
 -- the index after i has a term, of the count that are stored
 unfoldable pub is_known : Bytes → ℕ → ℕ → Bool
@@ -23,4 +24,4 @@ index_in t count m n = pick_from (is_known t count) (λ i. index_of (i + 1)) Non
 
 unfoldable pub unknown_answer : Bytes → ℕ → Option LogIndex
 unfolding index_in committed_end word_at
-unknown_answer h n = index_in (terms_part h) (word_at h 2 2) (committed_end h) n
+unknown_answer h n = index_in (terms_part h) (terms_held h) (committed_end h) n

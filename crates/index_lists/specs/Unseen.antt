@@ -1,8 +1,8 @@
 -- The n-th unseen mark, as the table of nodes has them.
 -- Assumes nothing.
 use Rattle.std.specs.Prelude.{ℕ, Bool, Option, Some, None, eqb}
-use Rattle.model.specs.Sizes.{Bytes}
 use Rattle.model.specs.Lists.{Unseen as Mark}
+use Rattle.model.specs.Sizes.{Bytes, node_count}
 use Rattle.storage_bytes.specs.Words.{word_at}
 use Rattle.storage.specs.Tables.{row_of_node, nodes_part}
 use Rattle.index_lists.specs.declared.unseen.Unseen.{Unseen}
@@ -21,7 +21,7 @@ mark_at t k = mark_of (record { node = k; index = (row_of_node t k).unseen })
 
 unfoldable pub mark_in : Bytes → ℕ → Option Unseen
 unfolding word_at pick_from
-mark_in t n = pick_from (unmarked t) (mark_at t) None 0 64 n
+mark_in t n = pick_from (unmarked t) (mark_at t) None 0 node_count n
 
 unfoldable pub unseen_answer : Bytes → ℕ → Option Unseen
 unfolding mark_in

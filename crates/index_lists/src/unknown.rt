@@ -1,6 +1,7 @@
 // The printed unknown indexes: those of the committed prefix whose commit term is zero or absent, ascending.
 ghost use Rattle.std.specs.Prelude.{◌≡◌, ◌≤◌, ◌-◌};
 ghost use Rattle.index_lists.specs.Unknown.{is_known, index_in, unknown_answer};
+ghost use Rattle.model.specs.Sizes.{index_limit};
 
 use crate::committed::printed_committed;
 use crate::pick::nth_held;
@@ -13,7 +14,7 @@ use units::{LogIndex, Term};
 // The index has a term, of those recorded through `last`.
 #[tactic(auto, unfolding(crate::specs::Unknown::is_known))]
 fn is_known(terms: &Terms, last: LogIndex, index: LogIndex) -> bool
-    requires { (1 ≤ index.0) × (last.0 ≤ 256) }
+    requires { (1 ≤ index.0) × (last.0 ≤ index_limit) }
     ensures { result ≡ is_known terms.now last.0 (index.0 - 1) }
 {
     if last < index {
@@ -24,7 +25,7 @@ fn is_known(terms: &Terms, last: LogIndex, index: LogIndex) -> bool
 
 // The n-th unknown index through `end`, counted from 0.
 fn index_in(terms: &Terms, last: LogIndex, end: LogIndex, n: usize) -> Option<LogIndex>
-    requires { (last.0 ≤ 256) × (end.0 ≤ 256) }
+    requires { (last.0 ≤ index_limit) × (end.0 ≤ index_limit) }
     ensures { result ≡ index_in terms.now last.0 end.0 n }
 {
     nth_held(end.0, n, |i| {

@@ -6,7 +6,7 @@ use crate::pick::nth_held;
 use storage::stored::Stored;
 use storage_bytes::layout::{NODES, Nodes};
 use table_rows::nodes::mark_at;
-use units::{LogIndex, NodeId};
+use units::{LogIndex, NODE_COUNT, NodeId};
 
 #[derive(Clone, Copy)]
 pub struct Unseen {
@@ -18,7 +18,7 @@ pub struct Unseen {
 fn mark_in(nodes: &Nodes, n: usize) -> Option<Unseen>
     ensures { result ≡ mark_in nodes.now n }
 {
-    nth_held(64, n, |k| {
+    nth_held(NODE_COUNT, n, |k| {
         let index = mark_at(nodes, k)?;
         let node = NodeId(k as u8);
         Some(Unseen { node, index })

@@ -3,6 +3,7 @@
 // them over a write. The limit of a node is asked, as it is none of its type.
 ghost use Rattle.std.specs.Prelude.{◌≡◌, true, ◌<◌, Ok, is_some, unwrap_or};
 ghost use Rattle.model.specs.Rows.{verdict};
+ghost use Rattle.model.specs.Sizes.{node_count};
 ghost use Rattle.record_scan.specs.Places as places;
 ghost use Rattle.storage.specs.Rules.{well_formed};
 ghost use Rattle.election.specs.Certify.{answer_in, bytes_in};
@@ -31,7 +32,7 @@ fn of_rows(failed: Option<Failure>) -> Accepted
 
 // Kind 4.
 pub fn take_election(history: &mut History, e: Election) -> Result<Accepted, Refusal>
-    requires { (well_formed history.old ≡ true) × (e.leader.0 < 64) }
+    requires { (well_formed history.old ≡ true) × (e.leader.0 < node_count) }
     ensures { (result ≡ of_election (answer_in history.old e.leader.0 e.term.0 (unwrap_or e.length 0))) × (history.new ≡ bytes_in history.old e.leader.0 e.term.0 (is_some e.length) (unwrap_or e.length 0)) }
 {
     record_election(history, e)?;

@@ -11,9 +11,9 @@ use Rattle.model.specs.Sizes.{Bytes}
 use Rattle.model.specs.History.{Finding}
 use Rattle.model.specs.Leaders.{Leader as Ranked}
 use Rattle.model.proofs.Tests.{cond_true, cond_false}
-use Rattle.storage_bytes.specs.Words.{word_at}
 use Rattle.storage_bytes.specs.Lists.{tabulate}
 use Rattle.storage.specs.Tables.{finding_rows, findings_part}
+use Rattle.storage.specs.Head.{findings_held}
 use Rattle.storage_bytes.proofs.ListLaws.{tabulate_cons, tabulate_none}
 use Rattle.lists.specs.declared.leaders.Leader.{Leader}
 use Rattle.std.specs.Prelude.{Option, None}
@@ -77,14 +77,14 @@ rounds_start fs n e d = λ i. rounds_of fs (sym e i) (sym d i)
 
 -- ---- the answer of the lent table is that of the whole
 
-module _ (h : Bytes) (m n : ℕ) (em : m ≡ word_at h 7 1) where
+module _ (h : Bytes) (m n : ℕ) (em : m ≡ findings_held h) where
   pub leaders_past : m ≤ n → None ≡ leader_answer h n
   unfolding leader_answer
-  leaders_past l = sym (cond_true (leb (word_at h 7 1) n) _ _ (le-leb (word_at h 7 1) n (omega arith)))
+  leaders_past l = sym (cond_true (leb (findings_held h) n) _ _ (le-leb (findings_held h) n (omega arith)))
 
   pub leaders_lent : n < m → (t : Bytes) {r : Option Leader} → t ≡ findings_part h → r ≡ leader_in (finding_rows t m) n → r ≡ leader_answer h n
   unfolding leader_answer
   leaders_lent l t et q =
       q
       ∙ (λ i. leader_in (finding_rows (et i) (em i)) n)
-      ∙ sym (cond_false (leb (word_at h 7 1) n) None _ (lt-leb (word_at h 7 1) n (omega arith)))
+      ∙ sym (cond_false (leb (findings_held h) n) None _ (lt-leb (findings_held h) n (omega arith)))

@@ -6,13 +6,12 @@ use mathlib.Core.Path.{◌≡◌, sym, ◌∙◌, ap}
 use mathlib.Core.Bool.{cond}
 use mathlib.Core.List.{List}
 use lib.Dec.{eqb}
-use Rattle.model.specs.Sizes.{Bytes}
 use Rattle.model.specs.History.{Finding, History}
 use Rattle.model.specs.Lists.{ordered, finding_list, leaders_of, leader_list, marks_from, unseen_list, unknown_from, unknown_list, committed_owner}
-use Rattle.storage_bytes.specs.Words.{word_at}
 use Rattle.storage.specs.Tables.{nodes_part, terms_part, finding_rows, findings_part, tables_in}
 use Rattle.storage.specs.Decode.{decode}
 use Rattle.storage.specs.Values.{committed_end}
+use Rattle.storage.specs.Head.{terms_held, findings_held, owner_of}
 use Rattle.storage.proofs.Meanings.{Stands, owner_read, end_is, findings_stored}
 use Rattle.index_lists.specs.Picked.{nth}
 use Rattle.index_lists.specs.Committed.{owner_in}
@@ -24,6 +23,7 @@ use Rattle.index_lists.specs.Unknown.{is_known, index_of, index_in, unknown_answ
 use Rattle.lists.proofs.Ordered.{ordered_picked}
 use Rattle.storage_bytes.proofs.ListLaws.{tabulate_length}
 use Rattle.model.specs.Leaders.{ascending}
+use Rattle.model.specs.Sizes.{Bytes, node_count}
 use Rattle.lists.proofs.Printed.{marks_picked, known_read, indexes_picked, leaders_all}
 
 -- ---- the committed prefix: its length is `end_is` of `storage`
@@ -31,7 +31,7 @@ use Rattle.lists.proofs.Printed.{marks_picked, known_read, indexes_picked, leade
 pub owner_told : (h : Bytes) (x : History) → Stands h x → owner_in h ≡ committed_owner x
 unfolding owner_in
 owner_told h x s =
-    let o : word_at h 8 1 ≡ x.owner = sym (owner_read h) ∙ ap (λ (y : History). y.owner) s.decodes in
+    let o : owner_of h ≡ x.owner = sym (owner_read h) ∙ ap (λ (y : History). y.owner) s.decodes in
     λ i. cond (eqb (end_is h x s i) 0) 0 (o i)
 
 -- ---- unseen marks
@@ -39,14 +39,14 @@ owner_told h x s =
 pub unseen_told : (h : Bytes) (x : History) (n : ℕ) → Stands h x → unseen_answer h n ≡ nth mark_of None (unseen_list x) n
 unfolding unseen_answer mark_in unseen_list decode tables_in
 unseen_told h x n s =
-    marks_picked (nodes_part h) 0 64 n ∙ ap (λ (y : History). nth mark_of None (marks_from 0 y.unseen) n) s.decodes
+    marks_picked (nodes_part h) 0 node_count n ∙ ap (λ (y : History). nth mark_of None (marks_from 0 y.unseen) n) s.decodes
 
 -- ---- unknown indexes
 
 pub unknown_told : (h : Bytes) (x : History) (n : ℕ) → Stands h x → unknown_answer h n ≡ nth index_of None (unknown_list x) n
 unfolding unknown_answer index_in unknown_list
 unknown_told h x n s =
-    indexes_picked (is_known (terms_part h) (word_at h 2 2)) (decode h).terms (known_read h) 0 (committed_end h) n
+    indexes_picked (is_known (terms_part h) (terms_held h)) (decode h).terms (known_read h) 0 (committed_end h) n
     ∙ (λ i. nth index_of None (unknown_from (s.decodes i).terms 0 (end_is h x s i)) n)
 
 -- ---- findings
@@ -54,7 +54,7 @@ unknown_told h x n s =
 pub findings_told : (h : Bytes) (x : History) (n : ℕ) → Stands h x → finding_answer h n ≡ nth finding_of None (finding_list x) n
 unfolding finding_answer finding_list
 findings_told h x n s =
-    ordered_picked (finding_rows (findings_part h) (word_at h 7 1)) n
+    ordered_picked (finding_rows (findings_part h) (findings_held h)) n
     ∙ ap (λ (l : List Finding). nth finding_of None (ordered l) n) (findings_stored h x s)
 
 -- ---- leaders
@@ -62,6 +62,6 @@ findings_told h x n s =
 pub leaders_told : (h : Bytes) (x : History) (n : ℕ) → Stands h x → leader_answer h n ≡ nth leader_as None (leader_list x) n
 unfolding leader_answer leader_list
 leaders_told h x n s =
-    leaders_all (finding_rows (findings_part h) (word_at h 7 1)) (word_at h 7 1) n (tabulate_length _ 0 _)
+    leaders_all (finding_rows (findings_part h) (findings_held h)) (findings_held h) n (tabulate_length _ 0 _)
     ∙ ap (λ (l : List Finding). nth leader_as None (ascending (leaders_of l)) n)
     (findings_stored h x s)

@@ -13,10 +13,10 @@ use Rattle.model.specs.Sizes.{Bytes}
 use Rattle.model.specs.History.{Finding}
 use Rattle.model.specs.Lists.{leaders_of, marks_from, unknown_from}
 use Rattle.model.proofs.Tests.{cond_true, cond_false}
-use Rattle.storage_bytes.specs.Words.{word_at}
 use Rattle.storage_bytes.specs.Lists.{tabulate}
 use Rattle.storage.specs.Tables.{NodeRow, row_of_node, term_row, terms_part}
 use Rattle.storage.specs.Decode.{decode}
+use Rattle.storage.specs.Head.{terms_held}
 use Rattle.storage.proofs.Meanings.{terms_read, term_read}
 use Rattle.units.specs.declared.LogIndex.{LogIndex}
 use Rattle.index_lists.specs.Picked.{nth, pick_from}
@@ -48,17 +48,17 @@ marks_picked t k (suc m) n =
 -- ---- unknown indexes
 
 -- what the storage has past its count is absent
-pub known_read : (h : Bytes) (i : ℕ) → is_known (terms_part h) (word_at h 2 2) i ≡ not (eqb (get_or (decode h).terms i 0) 0)
+pub known_read : (h : Bytes) (i : ℕ) → is_known (terms_part h) (terms_held h) i ≡ not (eqb (get_or (decode h).terms i 0) 0)
 unfolding is_known
-known_read h i = go (dec_le (word_at h 2 2) i)
+known_read h i = go (dec_le (terms_held h) i)
   where
-    go : Dec (word_at h 2 2 ≤ i) → cond (leb (word_at h 2 2) i) false (not (eqb (term_row (terms_part h) i) 0)) ≡ not (eqb (get_or (decode h).terms i 0) 0)
+    go : Dec (terms_held h ≤ i) → cond (leb (terms_held h) i) false (not (eqb (term_row (terms_part h) i) 0)) ≡ not (eqb (get_or (decode h).terms i 0) 0)
     go (yes l) =
-        cond_true (leb (word_at h 2 2) i) false _ (le-leb _ _ l)
+        cond_true (leb (terms_held h) i) false _ (le-leb _ _ l)
         ∙ ap (λ (v : ℕ). not (eqb v 0)) (sym (get_or-eq_default (decode h).terms 0 (subst (λ (c : ℕ). c ≤ i) (sym (terms_read h)) l)))
     go (no f) =
-        let l : i < word_at h 2 2 = omega arith in
-        cond_false (leb (word_at h 2 2) i) false _ (lt-leb _ _ l) ∙ ap (λ (v : ℕ). not (eqb v 0)) (sym (term_read h i 0 l))
+        let l : i < terms_held h = omega arith in
+        cond_false (leb (terms_held h) i) false _ (lt-leb _ _ l) ∙ ap (λ (v : ℕ). not (eqb v 0)) (sym (term_read h i 0 l))
 
 unknown_turn : (b : Bool) (i n : ℕ) (xs : List ℕ) (later : ℕ → Option LogIndex) → ((n : ℕ) → later n ≡ nth index_of None xs n)
     → cond (not b) (later n) (cond (eqb n 0) (index_of i) (later (n - 1))) ≡ nth index_of None (cond b (i ∷ []) [] ++ xs) n

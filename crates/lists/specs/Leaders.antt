@@ -6,6 +6,7 @@ use Rattle.model.specs.History.{Finding}
 use Rattle.model.specs.Leaders.{Leader as Ranked, below}
 use Rattle.storage_bytes.specs.Words.{word_at}
 use Rattle.storage.specs.Tables.{finding_rows, findings_part}
+use Rattle.storage.specs.Head.{findings_held}
 use Rattle.lists.specs.declared.leaders.Leader.{Leader}
 
 abbrev pub pair : ℕ → ℕ → Ranked
@@ -62,4 +63,4 @@ leader_in fs n = rounds_of fs (least_in (pair 0 0) fs) n
 unfoldable pub leader_answer : Bytes → ℕ → Option Leader
 unfolding word_at leader_in
 leader_answer h n =
-    cond (leb (word_at h 7 1) n) None (leader_in (finding_rows (findings_part h) (word_at h 7 1)) n)
+    cond (leb (findings_held h) n) None (leader_in (finding_rows (findings_part h) (findings_held h)) n)

@@ -4,6 +4,7 @@ ghost use Rattle.std.specs.Prelude.{◌≡◌, ◌≤◌};
 ghost use Rattle.storage.specs.Tables.{finding_rows};
 ghost use Rattle.table_rows.specs.Values.{finding_value};
 ghost use Rattle.lists.specs.Leaders.{after, lesser_of, better_of, least_in, next_of, leader_in, leader_answer};
+ghost use Rattle.model.specs.Sizes.{finding_limit};
 
 use storage::head::finding_count;
 use storage::rows::StoredRow;
@@ -57,7 +58,7 @@ fn better(f: Found, last: Option<Leader>, best: Option<Leader>) -> Option<Leader
 // The least leader above the last one, of the first m rows.
 #[tactic(auto, using(crate::proofs::LeaderLaws::least_start, crate::proofs::LeaderLaws::least_next, crate::proofs::LeaderLaws::least_done))]
 fn least_from(findings: &Findings, m: usize, last: Option<Leader>) -> Option<Leader>
-    requires { m ≤ 128 }
+    requires { m ≤ finding_limit }
     ensures { result ≡ least_in (after last) (finding_rows findings.now m) }
 {
     let mut best = None;
@@ -70,7 +71,7 @@ fn least_from(findings: &Findings, m: usize, last: Option<Leader>) -> Option<Lea
 // The least leader above one.
 #[tactic(auto, unfolding(crate::specs::Leaders::next_of))]
 fn next_leader(findings: &Findings, m: usize, found: Option<Leader>) -> Option<Leader>
-    requires { m ≤ 128 }
+    requires { m ≤ finding_limit }
     ensures { result ≡ next_of (finding_rows findings.now m) found }
 {
     least_from(findings, m, Some(found?))
@@ -78,7 +79,7 @@ fn next_leader(findings: &Findings, m: usize, found: Option<Leader>) -> Option<L
 
 // The n-th leader of the first m rows, counted from 0.
 fn leader_in(findings: &Findings, m: usize, n: usize) -> Option<Leader>
-    requires { m ≤ 128 }
+    requires { m ≤ finding_limit }
     ensures { result ≡ leader_in (finding_rows findings.now m) n }
 {
     let mut found = least_from(findings, m, None);

@@ -8,9 +8,10 @@ use mathlib.Core.Bool.{Bool, true, false, cond, ◌&&◌, ◌||◌}
 use lib.Dec.{eqb}
 use lib.ListN.{length, get_or}
 use borrow.Author.Tests.{eq-eqb, ne_eqb}
-use Rattle.model.specs.Sizes.{Bytes}
+use Rattle.model.specs.Sizes.{Bytes, content_limit}
 use Rattle.model.proofs.Tests.{cond_true, cond_false}
 use Rattle.storage_bytes.specs.Words.{word_at, bytes_at, same_bytes}
+use Rattle.storage_bytes.specs.Layout.{prefix_width, term_width, byte_width, prefix_term, prefix_size, prefix_content}
 use Rattle.storage.specs.Tables.{PrefixRow, prefix_row}
 use Rattle.std.specs.Cmp.Lexicographic.{pointwise}
 use Rattle.storage_bytes.proofs.ListLaws.{tabulate_length}
@@ -90,9 +91,9 @@ module _ (row : ℕ → PrefixRow) {r : Bool} (p q : ℕ) where
 
 -- ---- the last entries of two rows
 
-content_length : (t : Bytes) (k : ℕ) → length (prefix_row t k).content ≡ min (word_at t (k * 41 + 8) 1) 32
+content_length : (t : Bytes) (k : ℕ) → length (prefix_row t k).content ≡ min (word_at t (k * prefix_width + prefix_size) byte_width) content_limit
 unfolding bytes_at
-content_length t k = tabulate_length (λ i. get_or t i 0) (k * 41 + 9) (min (word_at t (k * 41 + 8) 1) 32)
+content_length t k = tabulate_length (λ i. get_or t i 0) (k * prefix_width + prefix_content) (min (word_at t (k * prefix_width + prefix_size) byte_width) content_limit)
 
 none : (x : Bool) → (x && false) ≡ false
 none true = refl
@@ -106,17 +107,17 @@ same_sized xs ys {m} {n} a b = go (same_bytes xs ys) refl
     go true t = ap (λ (x : Bool). x && true) (eq-eqb m n (sym a ∙ ap length (same_bytes_eq xs ys t) ∙ b))
     go false f = none (eqb m n)
 
-module _ (t : Bytes) (i j a b : ℕ) (ta : a ≡ word_at t (i * 41 + 4) 4) (tb : b ≡ word_at t (j * 41 + 4) 4) where
+module _ (t : Bytes) (i j a b : ℕ) (ta : a ≡ word_at t (i * prefix_width + prefix_term) term_width) (tb : b ≡ word_at t (j * prefix_width + prefix_term) term_width) where
   pub entry_term : (a ≡ b → ⊥) → same_entry (prefix_row t i) (prefix_row t j) ≡ false
   unfolding same_entry
   entry_term d = rw (← ta, ← tb, ne_eqb a b d)
 
-  pub entry_content : a ≡ b → word_at t (i * 41 + 8) 1 ≤ 32 → word_at t (j * 41 + 8) 1 ≤ 32
+  pub entry_content : a ≡ b → word_at t (i * prefix_width + prefix_size) byte_width ≤ content_limit → word_at t (j * prefix_width + prefix_size) byte_width ≤ content_limit
       → pointwise eqb (prefix_row t i).content (prefix_row t j).content ≡ same_entry (prefix_row t i) (prefix_row t j)
   unfolding same_entry
   entry_content e m n =
       pointwise_bytes (prefix_row t i).content (prefix_row t j).content
       ∙ sym (rw (← ta, ← tb, eq-eqb a b e) (same_sized (prefix_row t i).content (prefix_row t j).content (sized i m) (sized j n)))
     where
-      sized : (k : ℕ) → word_at t (k * 41 + 8) 1 ≤ 32 → length (prefix_row t k).content ≡ word_at t (k * 41 + 8) 1
-      sized k l = content_length t k ∙ (let z : min (word_at t (k * 41 + 8) 1) 32 ≡ word_at t (k * 41 + 8) 1 = omega arith in z)
+      sized : (k : ℕ) → word_at t (k * prefix_width + prefix_size) byte_width ≤ content_limit → length (prefix_row t k).content ≡ word_at t (k * prefix_width + prefix_size) byte_width
+      sized k l = content_length t k ∙ (let z : min (word_at t (k * prefix_width + prefix_size) byte_width) content_limit ≡ word_at t (k * prefix_width + prefix_size) byte_width = omega arith in z)

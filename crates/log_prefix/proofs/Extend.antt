@@ -12,6 +12,7 @@ use lib.ListN.{length, length-append}
 use borrow.Author.Tests.{ne_eqb}
 use Rattle.model.specs.Entry.{Entry, Prefix, prefixes, with, with_all}
 use Rattle.model.specs.View.{begun}
+use Rattle.model.specs.Sizes.{index_limit, content_limit}
 use Rattle.model.proofs.Tests.{cond_false, and_both}
 use Rattle.model.proofs.Members.{with_there, with_fresh}
 use Rattle.storage.specs.Tables.{PrefixRow}
@@ -45,7 +46,7 @@ pub record Extended (rs rs' : List PrefixRow) (p n : ℕ) (e : Entry) : Type 0 w
   pub stores : resolve rs' ≡ with prefixes (resolve rs) (prefix_at (resolve rs) p ++ (e ∷ []))
 
 module _ (rs : List PrefixRow) (g : Good rs) (p i : ℕ) (e : Entry) (h : p ≤ length rs)
-    (next : length (prefix_at (resolve rs) p) + 1 ≡ i) (small : i ≤ 256) (short : length e.content ≤ 32) where
+    (next : length (prefix_at (resolve rs) p) + 1 ≡ i) (small : i ≤ index_limit) (short : length e.content ≤ content_limit) where
   f : Facts rs
   f = g.known
 
@@ -130,7 +131,7 @@ extend_last rs p i (e ∷ es) = extend_last (extend_rows rs p i e) (extend_numbe
 -- entries, from index i on, within the limits
 abbrev pub Fits : ℕ → List Entry → Type 0
 Fits i [] = Unit {0}
-Fits i (e ∷ es) = (i ≤ 256) × (length e.content ≤ 32) × Fits (i + 1) es
+Fits i (e ∷ es) = (i ≤ index_limit) × (length e.content ≤ content_limit) × Fits (i + 1) es
 
 -- rows rs', in which number n stands for the prefix of p in rs with the entries es
 pub record ExtendedAll (rs rs' : List PrefixRow) (p n : ℕ) (es : List Entry) : Type 0 where

@@ -3,11 +3,11 @@
 -- Assumes nothing.
 use Rattle.std.specs.Prelude.{ℕ, ◌+◌, ◌-◌, ◌≤◌, ◌<◌, ◌≡◌, cond, List, [], ◌∷◌, ◌++◌, eqb, length, replicate, Option, Some, None}
 use Rattle.model.specs.Entry.{Entry}
-use Rattle.model.specs.Sizes.{Bytes}
-use Rattle.storage_bytes.specs.Words.{word_at}
+use Rattle.model.specs.Sizes.{Bytes, content_limit, prefix_limit}
 use Rattle.storage.specs.Tables.{prefix_row, prefixes_part}
 use Rattle.storage.specs.Writes.{prefix_appended}
 use Rattle.storage.specs.Values.{number_index}
+use Rattle.storage.specs.Head.{prefixes_held}
 use Rattle.log_prefix.specs.declared.prefix.Extended.{Extended}
 use Rattle.record_walk.specs.declared.walk.ShownEntry.{ShownEntry}
 use Rattle.prefix_lookup.specs.Table.{entry_value}
@@ -24,7 +24,7 @@ extension_in h n p e = find (prefix_row (prefixes_part h)) n (row_of p 0 e)
 
 -- the content as it is stored, in 32 bytes
 abbrev pub stored_content : Entry → Bytes
-stored_content e = e.content ++ replicate (32 - length e.content) 0
+stored_content e = e.content ++ replicate (content_limit - length e.content) 0
 
 -- the history with the extension of p by e to index i as its next row
 abbrev pub appended : Bytes → ℕ → ℕ → Entry → Bytes
@@ -81,15 +81,15 @@ written_number h n p i (e ∷ es) = written_number (extended_bytes h n p i e) (e
 
 -- what making the next row asks: a history that holds n prefixes, with room for one more, and an entry as it is read
 pub record Making (h : Bytes) (n : ℕ) (e : ShownEntry) : Type 0 where
-  pub count : n ≡ word_at h 0 2
-  pub room : n < 512
+  pub count : n ≡ prefixes_held h
+  pub room : n < prefix_limit
   pub padded : e.content ≡ stored_content (entry_value e)
 
 -- what `extend` asks: a history that holds n prefixes, with room for the extension, and an entry as it is read
 pub record Extending (h : Bytes) (n p : ℕ) (e : ShownEntry) : Type 0 where
-  pub count : n ≡ word_at h 0 2
+  pub count : n ≡ prefixes_held h
   pub number : p ≤ n
-  pub fits : n ≤ 512
-  pub room : e.index.0 ≡ next_index h p → extended_count h n p (entry_value e) ≤ 512
-  pub short : e.length ≤ 32
+  pub fits : n ≤ prefix_limit
+  pub room : e.index.0 ≡ next_index h p → extended_count h n p (entry_value e) ≤ prefix_limit
+  pub short : e.length ≤ content_limit
   pub padded : e.content ≡ stored_content (entry_value e)

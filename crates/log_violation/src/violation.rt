@@ -1,11 +1,13 @@
 // Findings are noted once (types/violation.rs). A record that may bring many is judged on a copy of the history's table, so that
 // nothing is written before it is accepted; then the copy is written back. A single finding is noted in place (`note_in`).
 ghost use Rattle.std.specs.Prelude.{◌≡◌, ◌≤◌, ◌<◌, [], ◌∷◌, length};
-ghost use Rattle.storage_bytes.specs.Words.{word_at};
+ghost use Rattle.storage_bytes.specs.Layout.{findings_length};
 ghost use Rattle.storage.specs.Tables.{findings_part};
+ghost use Rattle.storage.specs.Head.{findings_held};
 ghost use Rattle.table_rows.specs.Values.{finding_value};
 ghost use Rattle.log_violation.specs.Violation.{same_numbers, is_noted, note_held, note_bytes, NotedAll, findings_kept, fits_answer, room_answer, noted_in};
 ghost use Rattle.answers.specs.declared.answer.Refusal.{Refusal};
+ghost use Rattle.model.specs.Sizes.{finding_limit};
 
 use answers::answer::Refusal;
 use storage::head::{finding_count, set_finding_count};
@@ -37,7 +39,7 @@ fn is_same(x: Found, f: Found) -> bool
 
 // The finding is among the first n.
 fn is_noted(findings: &[u8], n: usize, f: Found) -> bool
-    requires { (n ≤ 128) × (length findings.now ≡ 1024) }
+    requires { (n ≤ finding_limit) × (length findings.now ≡ findings_length) }
     ensures { result ≡ is_noted findings.now n (finding_value f) }
 {
     (0..n).any(|k| is_same(Found::at(findings, k), f))
@@ -45,7 +47,7 @@ fn is_noted(findings: &[u8], n: usize, f: Found) -> bool
 
 // The finding is noted among n, once; how many are held then. One more than the limit: there are too many.
 fn note(findings: &mut [u8], n: usize, f: Found) -> usize
-    requires { length findings.old ≡ 1024 }
+    requires { length findings.old ≡ findings_length }
     ensures { (result ≡ note_held findings.old n (finding_value f)) × (findings.new ≡ note_bytes findings.old n (finding_value f)) }
 {
     if FINDING_LIMIT < n || is_noted(findings, n, f) {
@@ -60,7 +62,7 @@ fn note(findings: &mut [u8], n: usize, f: Found) -> usize
 // The finding is noted among the history's own. Where there is no room for it, nothing is written. The table is lent on the spot: a
 // function that lends a region to be written was tried, and its `Lends` did not prove for a range.
 pub fn note_in(history: &mut History, f: Found) -> Result<(), FindingsFull>
-    requires { word_at history.old 7 1 ≤ 128 }
+    requires { findings_held history.old ≤ finding_limit }
     ensures { (result ≡ room_answer history.old (finding_value f)) × (history.new ≡ noted_in history.old (finding_value f)) }
 {
     let held = finding_count(history);
@@ -86,7 +88,7 @@ pub struct Notes {
 impl Notes {
     // The history's own.
     pub fn of(history: &History) -> Notes
-        ensures { (result.held ≡ word_at history.now 7 1) × (result.rows ≡ findings_part history.now) }
+        ensures { (result.held ≡ findings_held history.now) × (result.rows ≡ findings_part history.now) }
     {
         Notes {
             rows: *FINDINGS.array(history),

@@ -14,21 +14,21 @@ use lib.ListN.{length, get_or, set}
 use lib.Seq.{set-get_or}
 use borrow.Author.Tests.{lt-ltb, ltb-false}
 use Rattle.std.specs.Prelude.{Result, Ok, Err, ⊤}
-use Rattle.model.specs.Sizes.{Bytes}
 use Rattle.model.specs.Entry.{Entry, Prefix, prefixes, with_all}
 use Rattle.model.specs.Refusal.{Refusal, prefixesFull, findingsFull}
 use Rattle.model.specs.Record.{Shown, view, front, last_from, last_index}
 use Rattle.model.specs.History.{Finding, History, noted, with_node, with_findings, with_prefixes, with_views, with_unseen}
 use Rattle.model.specs.Answer.{Answer, accepted, refused}
 use Rattle.model.specs.View.{begun_by, mismatches, stored, view_findings, view_refusal, view_effect}
+use Rattle.model.specs.Sizes.{Bytes, node_count, index_limit, prefix_limit, finding_limit, term_end}
 use Rattle.record_scan.specs.Places.{Walk, first_entry, index_at, term_at, next_at, entries_at, items_at}
 use Rattle.bit_fields.proofs.Widths.{field_lt}
 use Rattle.record_walk.proofs.Walks.{walk_entered}
 use Rattle.storage_bytes.specs.Lists.{every}
-use Rattle.storage_bytes.specs.Words.{word_at}
 use Rattle.storage.specs.Tables.{PrefixRow, NodeRow, prefix_row, prefixes_part, row_of_node, nodes_part, finding_row, finding_rows, findings_part, tables_in, tables_of}
 use Rattle.storage.specs.Decode.{prefix_at}
 use Rattle.storage.specs.Rules.{node_right, finding_right}
+use Rattle.storage.specs.Head.{prefixes_held, findings_held}
 use Rattle.storage_bytes.proofs.ListLaws.{tabulate_length, tabulate_at, every_at}
 use Rattle.storage.proofs.DecodeLaws.{NodeNamed, node_named, FindingNamed}
 use Rattle.storage.proofs.RowFacts.{resolve_count}
@@ -70,7 +70,7 @@ pub record ViewMeans (limit : ℕ) (h : Bytes) (x : History) (s : Bytes) (m node
 abbrev pub ViewsMean : Type 0
 ViewsMean =
     (limit : ℕ) (h : Bytes) (x : History) (s : Bytes) (m node : ℕ)
-    → Stands h x → Walk s first_entry m → node < 64 → ViewMeans (min limit 512) h x s m node
+    → Stands h x → Walk s first_entry m → node < node_count → ViewMeans (min limit prefix_limit) h x s m node
 
 -- ---- no refusal
 
@@ -91,18 +91,18 @@ sound_fits (e ∷ es) i s = (s.0, s.1, sound_fits es (i + 1) s.3)
 pub record Noted (node : ℕ) (f : Finding) : Type 0 where
   pub name : f.name ≡ 3
   pub is_node : f.node ≡ node
-  pub index : f.index ≤ 256
-  pub term : f.term < 4294967296
+  pub index : f.index ≤ index_limit
+  pub term : f.term < term_end
 
-note_noted : (node i t : ℕ) (f : Finding) → i ≤ 256 → t < 4294967296 → (b : Bool) → Memᴰ f (note_of b node i t) → Noted node f
+note_noted : (node i t : ℕ) (f : Finding) → i ≤ index_limit → t < term_end → (b : Bool) → Memᴰ f (note_of b node i t) → Noted node f
 note_noted node i t f hi ht false a = absurd (Memᴰ.not-nil a)
 note_noted node i t f hi ht true a =
     let x = Memᴰ.eq_of_singleton a in
     record {
       name = ap (λ (y : Finding). y.name) x;
       is_node = ap (λ (y : Finding). y.node) x;
-      index = subst (λ (y : Finding). y.index ≤ 256) (sym x) hi;
-      term = subst (λ (y : Finding). y.term < 4294967296) (sym x) ht;
+      index = subst (λ (y : Finding). y.index ≤ index_limit) (sym x) hi;
+      term = subst (λ (y : Finding). y.term < term_end) (sym x) ht;
     }
 
 lack_noted : (row : ℕ → PrefixRow) (n node : ℕ) (es : List Entry) (i : ℕ) → Sound i es
@@ -127,26 +127,26 @@ stored_noted row n node s (suc m) k i p w f a = go (turn row n s k i p) (stored_
     go (lost g z) ih = none_noted (ends_lost row n s k i p g z)
     go (more g z) ih =
         ⊎_elim
-        (note_noted node i (term_at s k) f (subst (λ (j : ℕ). j ≤ 256) g (walk_entered s k (suc m) w (omega arith)).within) (field_lt s (k + 10) 32) (other row n i (term_at s k) (next row n s k i p)))
+        (note_noted node i (term_at s k) f (subst (λ (j : ℕ). j ≤ index_limit) g (walk_entered s k (suc m) w (omega arith)).within) (field_lt s (k + 10) 32) (other row n i (term_at s k) (next row n s k i p)))
         ih
         (Memᴰ.append_cases (note_of (other row n i (term_at s k) (next row n s k i p)) node i (term_at s k)) (subst (Memᴰ f) (stored_goes row n s k i p m node (goes_on row n s k i p g z)) a))
 
 -- ---- a view's last index and a node's mark are within the limits
 
-last_small : (n : ℕ) (s : Bytes) (k d : ℕ) → Walk s k n → d ≤ 256 → last_from d (entries_at s k n) ≤ 256
+last_small : (n : ℕ) (s : Bytes) (k d : ℕ) → Walk s k n → d ≤ index_limit → last_from d (entries_at s k n) ≤ index_limit
 unfolding last_from items_at
 last_small zero s k d w h = h
 last_small (suc n) s k d w h = last_small n s (next_at s k) (index_at s k) (walk_more s k n w) (walk_entered s k (suc n) w (omega arith)).within
 
-unseen_small : (h : Bytes) (x : History) → Stands h x → (k : ℕ) → k < 64 → (row_of_node (nodes_part h) k).unseen ≤ 256
+unseen_small : (h : Bytes) (x : History) → Stands h x → (k : ℕ) → k < node_count → (row_of_node (nodes_part h) k).unseen ≤ index_limit
 unfolding tables_in
 unseen_small h x st k l =
     let row = row_of_node (nodes_part h) k in
-    let there : get_or (tables_of h).nodes k row ≡ row = tabulate_at (row_of_node (nodes_part h)) 0 64 k row l ∙ ap (row_of_node (nodes_part h)) (let z : 0 + k ≡ k = omega arith in z) in
+    let there : get_or (tables_of h).nodes k row ≡ row = tabulate_at (row_of_node (nodes_part h)) 0 node_count k row l ∙ ap (row_of_node (nodes_part h)) (let z : 0 + k ≡ k = omega arith in z) in
     (node_named _ row (subst (λ (r : NodeRow). node_right (length (tables_of h).rows) r ≡ true) there
-    (every_at (node_right (length (tables_of h).rows)) (tables_of h).nodes k row (kept h x st).nodes (subst (λ (j : ℕ). k < j) (sym (tabulate_length (row_of_node (nodes_part h)) 0 64)) l)))).unseen
+    (every_at (node_right (length (tables_of h).rows)) (tables_of h).nodes k row (kept h x st).nodes (subst (λ (j : ℕ). k < j) (sym (tabulate_length (row_of_node (nodes_part h)) 0 node_count)) l)))).unseen
 
-module _ (limit : ℕ) (h : Bytes) (x : History) (s : Bytes) (m node : ℕ) (st : Stands h x) (w : Walk s first_entry m) (hn : node < 64) (hl : limit ≤ 512) where
+module _ (limit : ℕ) (h : Bytes) (x : History) (s : Bytes) (m node : ℕ) (st : Stands h x) (w : Walk s first_entry m) (hn : node < node_count) (hl : limit ≤ prefix_limit) where
   abbrev E : List Shown
   E = entries_at s first_entry m
 
@@ -158,7 +158,7 @@ module _ (limit : ℕ) (h : Bytes) (x : History) (s : Bytes) (m node : ℕ) (st 
 
   -- ---- 6
 
-  total : word_at h 0 2 + missing_in h s m ≡ length (stored x.prefixes F)
+  total : prefixes_held h + missing_in h s m ≡ length (stored x.prefixes F)
   unfolding missing_in place_in stored
   total =
       let rs = (tables_of h).rows in
@@ -183,26 +183,26 @@ module _ (limit : ℕ) (h : Bytes) (x : History) (s : Bytes) (m node : ℕ) (st 
   unfolding notes_in place_in
   noted_in_lem f a =
       let r = place_in h s m in
-      ⊎_elim (stored_noted (prefix_row (prefixes_part h)) (word_at h 0 2) node s m first_entry 1 0 w f)
-      (lack_noted (prefix_row (prefixes_part h)) (word_at h 0 2) node (front_at s r) r.index.0 (front_sound r.left s r.at r.index.0 (place_in_stands h s m w).walk) f)
-      (Memᴰ.append_cases (stored_notes (prefix_row (prefixes_part h)) (word_at h 0 2) node s first_entry m 1 0) a)
+      ⊎_elim (stored_noted (prefix_row (prefixes_part h)) (prefixes_held h) node s m first_entry 1 0 w f)
+      (lack_noted (prefix_row (prefixes_part h)) (prefixes_held h) node (front_at s r) r.index.0 (front_sound r.left s r.at r.index.0 (place_in_stands h s m w).walk) f)
+      (Memᴰ.append_cases (stored_notes (prefix_row (prefixes_part h)) (prefixes_held h) node s first_entry m 1 0) a)
 
   holds : Holds (table_in h s m node) (held_in h s m node) (view_findings x node F)
   unfolding table_in held_in view_findings
   holds =
-      subst (λ (gs : List Finding). Holds (bytes_all (findings_part h) (word_at h 7 1) (notes_in h s m node)) (held_all (findings_part h) (word_at h 7 1) (notes_in h s m node)) (noted x.findings gs)) notes
-      (all_hold (notes_in h s m node) (findings_part h) (word_at h 7 1) x.findings (findings_long h st.right)
+      subst (λ (gs : List Finding). Holds (bytes_all (findings_part h) (findings_held h) (notes_in h s m node)) (held_all (findings_part h) (findings_held h) (notes_in h s m node)) (noted x.findings gs)) notes
+      (all_hold (notes_in h s m node) (findings_part h) (findings_held h) x.findings (findings_long h st.right)
       (λ g k. let n = noted_in_lem g k in
       record { name = (let a = n.name in omega arith); node = (let a = n.is_node in omega arith); index = (let a = n.index in omega arith); term = n.term })
       (inl ((formed h st.right).findings, findings_stored h x st)))
 
-  same_seven : ltb 128 (held_in h s m node) ≡ ltb 128 (length (view_findings x node F))
+  same_seven : ltb finding_limit (held_in h s m node) ≡ ltb finding_limit (length (view_findings x node F))
   same_seven =
       ⊎_elim
       (λ a.
       let l : length (view_findings x node F) ≡ held_in h s m node = sym (ap length a.1) ∙ tabulate_length (finding_row (table_in h s m node)) 0 (held_in h s m node) in
-      ap (ltb 128) (sym l))
-      (λ b. lt-ltb 128 (held_in h s m node) (let c = b.0 in omega arith) ∙ sym (lt-ltb 128 (length (view_findings x node F)) b.1))
+      ap (ltb finding_limit) (sym l))
+      (λ b. lt-ltb finding_limit (held_in h s m node) (let c = b.0 in omega arith) ∙ sym (lt-ltb finding_limit (length (view_findings x node F)) b.1))
       holds
 
   -- ---- the answer
@@ -211,7 +211,7 @@ module _ (limit : ℕ) (h : Bytes) (x : History) (s : Bytes) (m node : ℕ) (st 
   unfolding observed view_refusal
   answer_is =
       ap refusal_is (λ j. cond (ltb limit (total j)) (Err ViewRefusal.PrefixesFull) (cond (same_seven j) (Err ViewRefusal.FindingsFull) (Ok tt)))
-      ∙ three (ltb limit (length (stored x.prefixes F))) (ltb 128 (length (view_findings x node F)))
+      ∙ three (ltb limit (length (stored x.prefixes F))) (ltb finding_limit (length (view_findings x node F)))
     where
       three : (a b : Bool) → refusal_is (cond a (Err ViewRefusal.PrefixesFull) (cond b (Err ViewRefusal.FindingsFull) (Ok tt))) ≡ cond a (some prefixesFull) (cond b (some findingsFull) none)
       three true b = refl
@@ -224,32 +224,32 @@ module _ (limit : ℕ) (h : Bytes) (x : History) (s : Bytes) (m node : ℕ) (st 
   refused_bytes : (r : Refusal) → view_refusal limit x node E ≡ some r → observed_bytes limit h s m node ≡ h
   unfolding view_refusal observed_bytes
   refused_bytes r e =
-      (λ j. cond (ltb limit (total j)) h (cond (same_seven j) h (view_written h (word_at h 0 2) s m node (table_in h s m node) (held_in h s m node))))
-      ∙ go (ltb limit (length (stored x.prefixes F))) (ltb 128 (length (view_findings x node F))) e
+      (λ j. cond (ltb limit (total j)) h (cond (same_seven j) h (view_written h (prefixes_held h) s m node (table_in h s m node) (held_in h s m node))))
+      ∙ go (ltb limit (length (stored x.prefixes F))) (ltb finding_limit (length (view_findings x node F))) e
     where
       go : (a b : Bool) → cond a (some prefixesFull) (cond b (some findingsFull) none) ≡ some r
-          → cond a h (cond b h (view_written h (word_at h 0 2) s m node (table_in h s m node) (held_in h s m node))) ≡ h
+          → cond a h (cond b h (view_written h (prefixes_held h) s m node (table_in h s m node) (held_in h s m node))) ≡ h
       go true b q = refl
       go false true q = refl
       go false false q = absurd (let z : ◌≡◌ {A = ℕ} 0 1 = cc in omega arith)
 
   pub record Fine : Type 0 where
     pub few : length (stored x.prefixes F) ≤ limit
-    pub few_findings : length (view_findings x node F) ≤ 128
-    pub bytes : observed_bytes limit h s m node ≡ view_written h (word_at h 0 2) s m node (table_in h s m node) (held_in h s m node)
+    pub few_findings : length (view_findings x node F) ≤ finding_limit
+    pub bytes : observed_bytes limit h s m node ≡ view_written h (prefixes_held h) s m node (table_in h s m node) (held_in h s m node)
 
   fine : view_refusal limit x node E ≡ none → Fine
   unfolding view_refusal observed_bytes
   fine e =
-      let p = neither_full (ltb limit (length (stored x.prefixes F))) (ltb 128 (length (view_findings x node F))) e in
+      let p = neither_full (ltb limit (length (stored x.prefixes F))) (ltb finding_limit (length (view_findings x node F))) e in
       record {
         few = ltb-false limit (length (stored x.prefixes F)) p.0;
-        few_findings = ltb-false 128 (length (view_findings x node F)) p.1;
-        bytes = (λ j. cond ((ap (ltb limit) total ∙ p.0) j) h (cond ((same_seven ∙ p.1) j) h (view_written h (word_at h 0 2) s m node (table_in h s m node) (held_in h s m node))));
+        few_findings = ltb-false finding_limit (length (view_findings x node F)) p.1;
+        bytes = (λ j. cond ((ap (ltb limit) total ∙ p.0) j) h (cond ((same_seven ∙ p.1) j) h (view_written h (prefixes_held h) s m node (table_in h s m node) (held_in h s m node))));
       }
 
   module _ (ok : Fine) where
-    held_few : (held_in h s m node ≤ 128) × (finding_rows (table_in h s m node) (held_in h s m node) ≡ view_findings x node F)
+    held_few : (held_in h s m node ≤ finding_limit) × (finding_rows (table_in h s m node) (held_in h s m node) ≡ view_findings x node F)
     held_few = ⊎_elim (λ a. a) (λ b. absurd (let c = b.1 in let d = ok.few_findings in omega arith)) holds
 
     all_right : every finding_right (finding_rows (table_in h s m node) (held_in h s m node)) ≡ true
@@ -268,17 +268,17 @@ module _ (limit : ℕ) (h : Bytes) (x : History) (s : Bytes) (m node : ℕ) (st 
               index = n.index;
             }
 
-    room : written_count h (word_at h 0 2) 0 1 F ≤ 512
+    room : written_count h (prefixes_held h) 0 1 F ≤ prefix_limit
     room = (let a = front_count h s m st.right w in let b = total in let c = ok.few in omega arith)
 
     abbrev h₁ : Bytes
-    h₁ = written_bytes h (word_at h 0 2) 0 1 F
+    h₁ = written_bytes h (prefixes_held h) 0 1 F
 
     abbrev p₁ : ℕ
-    p₁ = written_number h (word_at h 0 2) 0 1 F
+    p₁ = written_number h (prefixes_held h) 0 1 F
 
-    whole : Whole h x 0 F h₁ (written_count h (word_at h 0 2) 0 1 F) p₁
-    whole = front_stands F h x st (word_at h 0 2) 0 1 refl (omega arith) refl sound room
+    whole : Whole h x 0 F h₁ (written_count h (prefixes_held h) 0 1 F) p₁
+    whole = front_stands F h x st (prefixes_held h) 0 1 refl (omega arith) refl sound room
 
     abbrev x₁ : History
     x₁ = with_prefixes x (with_all prefixes x.prefixes (begun_by F))
@@ -289,7 +289,7 @@ module _ (limit : ℕ) (h : Bytes) (x : History) (s : Bytes) (m node : ℕ) (st 
     unseen_same : (row_of_node (nodes_part h₁) node).unseen ≡ get_or x.unseen node 0
     unseen_same = sym (unseen_read h₁ node hn) ∙ ap (λ (y : History). get_or y.unseen node 0) whole.stands.decodes
 
-    named : NodeNamed (word_at h₁ 0 2) row
+    named : NodeNamed (prefixes_held h₁) row
     named =
         record {
           front = subst (λ (n : ℕ). p₁ ≤ n) whole.holds whole.within;
@@ -301,7 +301,7 @@ module _ (limit : ℕ) (h : Bytes) (x : History) (s : Bytes) (m node : ℕ) (st 
     unfolding view_replaced
     second = node_written h₁ x₁ whole.stands node row hn named
 
-    third : Stands (view_written h (word_at h 0 2) s m node (table_in h s m node) (held_in h s m node))
+    third : Stands (view_written h (prefixes_held h) s m node (table_in h s m node) (held_in h s m node))
         (with_findings (with_node x₁ node (prefix_at x₁.prefixes p₁) (last_index E) (row_of_node (nodes_part h₁) node).unseen) (finding_rows (table_in h s m node) (held_in h s m node)))
     unfolding view_written view_findings
     third =
@@ -327,8 +327,8 @@ module _ (limit : ℕ) (h : Bytes) (x : History) (s : Bytes) (m node : ℕ) (st 
 
 pub views_mean : ViewsMean
 views_mean limit h x s m node st w hn =
-    let most = min limit 512 in
-    let hl : most ≤ 512 = omega arith in
+    let most = min limit prefix_limit in
+    let hl : most ≤ prefix_limit = omega arith in
     record {
       answers = answer_is most h x s m node st w hn hl;
       accepted = λ e. accepted_bytes most h x s m node st w hn hl (fine most h x s m node st w hn hl e);
@@ -342,15 +342,15 @@ view_reply (Ok v) = accepted 0 0
 view_reply (Err ViewRefusal.PrefixesFull) = refused prefixesFull
 view_reply (Err ViewRefusal.FindingsFull) = refused findingsFull
 
-by_answer : (h : Bytes) (x : History) (node : ℕ) (E : List Shown) (h' : Bytes) (r : Result ⊤ ViewRefusal) → Stands h x → refusal_is r ≡ view_refusal 512 x node E
-    → (view_refusal 512 x node E ≡ none → Stands h' (view_effect x node E)) → ((w : Refusal) → view_refusal 512 x node E ≡ some w → h' ≡ h)
+by_answer : (h : Bytes) (x : History) (node : ℕ) (E : List Shown) (h' : Bytes) (r : Result ⊤ ViewRefusal) → Stands h x → refusal_is r ≡ view_refusal prefix_limit x node E
+    → (view_refusal prefix_limit x node E ≡ none → Stands h' (view_effect x node E)) → ((w : Refusal) → view_refusal prefix_limit x node E ≡ some w → h' ≡ h)
     → Means h x (view node E) (view_reply r) h'
 by_answer h x node E h' (Ok v) st e a k = accepts h x (view node E) _ h' (sym e) refl (a (sym e))
 by_answer h x node E h' (Err ViewRefusal.PrefixesFull) st e a k = refuses h x (view node E) _ h' prefixesFull st (sym e) refl (k prefixesFull (sym e))
 by_answer h x node E h' (Err ViewRefusal.FindingsFull) st e a k = refuses h x (view node E) _ h' findingsFull st (sym e) refl (k findingsFull (sym e))
 
-pub view_mean : (h : Bytes) (x : History) (s : Bytes) (m node : ℕ) → Stands h x → Walk s first_entry m → node < 64
-    → Means h x (view node (entries_at s first_entry m)) (view_reply (observed 512 h s m node)) (observed_bytes 512 h s m node)
+pub view_mean : (h : Bytes) (x : History) (s : Bytes) (m node : ℕ) → Stands h x → Walk s first_entry m → node < node_count
+    → Means h x (view node (entries_at s first_entry m)) (view_reply (observed prefix_limit h s m node)) (observed_bytes prefix_limit h s m node)
 view_mean h x s m node st w l =
-    let v = views_mean 512 h x s m node st w l in
-    by_answer h x node (entries_at s first_entry m) _ (observed 512 h s m node) st v.answers v.accepted v.refused
+    let v = views_mean prefix_limit h x s m node st w l in
+    by_answer h x node (entries_at s first_entry m) _ (observed prefix_limit h s m node) st v.answers v.accepted v.refused

@@ -8,17 +8,17 @@ use mathlib.Core.List.{List, [], ◌∷◌, ◌++◌, append-nil, append_assoc}
 use lib.Dec.{eqb}
 use lib.ListN.{length, length-append}
 use borrow.Author.Tests.{eqb-true, eqb-false}
-use Rattle.model.specs.Sizes.{Bytes}
 use Rattle.model.specs.Entry.{Entry, Prefix, prefixes, with, with_all}
 use Rattle.model.specs.Record.{front_from}
 use Rattle.model.specs.History.{History, with_prefixes}
 use Rattle.model.specs.View.{begun}
+use Rattle.model.specs.Sizes.{Bytes, index_limit, content_limit, prefix_limit, term_end}
 use Rattle.model.proofs.Tests.{either}
 use Rattle.record_scan.specs.Places.{Walk, index_at, next_at, entries_at}
 use Rattle.bit_fields.proofs.Widths.{field_lt}
 use Rattle.record_walk.proofs.Walks.{walk_entered}
-use Rattle.storage_bytes.specs.Words.{word_at}
 use Rattle.storage.specs.Decode.{prefix_at}
+use Rattle.storage.specs.Head.{prefixes_held}
 use Rattle.storage.proofs.Meanings.{Stands}
 use Rattle.log_prefix.specs.Extension.{extended_bytes, extended_count, extended_number, written_bytes, written_count, written_number}
 use Rattle.view_judging.proofs.Places.{front_suc, front_cut, front_zero, walk_more, content_short}
@@ -30,7 +30,7 @@ use Rattle.view_writing.proofs.Stored.{Step, extension_step}
 -- the entries from index i on
 abbrev pub Sound : ℕ → List Entry → Type 0
 Sound i [] = Unit {0}
-Sound i (e ∷ es) = (i ≤ 256) × (length e.content ≤ 32) × (e.term < 4294967296) × Sound (i + 1) es
+Sound i (e ∷ es) = (i ≤ index_limit) × (length e.content ≤ content_limit) × (e.term < term_end) × Sound (i + 1) es
 
 -- so are those of a readable view's front
 pub front_sound : (n : ℕ) (s : Bytes) (k i : ℕ) → Walk s k n → Sound i (front_from i (entries_at s k n))
@@ -40,7 +40,7 @@ front_sound (suc n) s k i w =
     (λ t.
     let e = eqb-true (index_at s k) i t in
     subst (Sound i) (sym (front_suc s k n i e)) (
-      subst (λ (j : ℕ). j ≤ 256) e (walk_entered s k (suc n) w (omega arith)).within,
+      subst (λ (j : ℕ). j ≤ index_limit) e (walk_entered s k (suc n) w (omega arith)).within,
       content_short s k n w,
       field_lt s (k + 10) 32,
       front_sound n s (next_at s k) (i + 1) (walk_more s k n w),
@@ -52,11 +52,11 @@ front_sound (suc n) s k i w =
 
 pub record Whole (h : Bytes) (x : History) (p : ℕ) (es : List Entry) (h' : Bytes) (n' p' : ℕ) : Type 0 where
   pub stands : Stands h' (with_prefixes x (with_all prefixes x.prefixes (begun (prefix_at x.prefixes p) es)))
-  pub holds : n' ≡ word_at h' 0 2
+  pub holds : n' ≡ prefixes_held h'
   pub within : p' ≤ n'
   pub is : prefix_at (with_all prefixes x.prefixes (begun (prefix_at x.prefixes p) es)) p' ≡ prefix_at x.prefixes p ++ es
 
-none_left : (h : Bytes) (x : History) → Stands h x → (n p i : ℕ) → n ≡ word_at h 0 2 → p ≤ n
+none_left : (h : Bytes) (x : History) → Stands h x → (n p i : ℕ) → n ≡ prefixes_held h → p ≤ n
     → Whole h x p [] (written_bytes h n p i []) (written_count h n p i []) (written_number h n p i [])
 unfolding written_bytes written_count written_number begun with_all
 none_left h x s n p i en hp =
@@ -83,17 +83,17 @@ one_more h x n p i e es a b =
           ∙ b.is ∙ ap (λ (z : Prefix). z ++ es) a.is ∙ append_assoc q (e ∷ []) es;
     }
 
-pub front_stands : (es : List Entry) (h : Bytes) (x : History) → Stands h x → (n p i : ℕ) → n ≡ word_at h 0 2 → p ≤ n
-    → length (prefix_at x.prefixes p) + 1 ≡ i → Sound i es → written_count h n p i es ≤ 512
+pub front_stands : (es : List Entry) (h : Bytes) (x : History) → Stands h x → (n p i : ℕ) → n ≡ prefixes_held h → p ≤ n
+    → length (prefix_at x.prefixes p) + 1 ≡ i → Sound i es → written_count h n p i es ≤ prefix_limit
     → Whole h x p es (written_bytes h n p i es) (written_count h n p i es) (written_number h n p i es)
 front_stands [] h x s n p i en hp next sound room = none_left h x s n p i en hp
 front_stands (e ∷ es) h x s n p i en hp next sound room =
     let c = written_cons h n p i e es in
-    let r : extended_count h n p e ≤ 512 =
+    let r : extended_count h n p e ≤ prefix_limit =
     (let g = count_grows es (extended_bytes h n p i e) (extended_count h n p e) (extended_number h n p e) (i + 1) in let y = c.1 in omega arith) in
     let a = extension_step h x s n p i e en hp next sound.0 sound.1 sound.2 r in
     let x' = with_prefixes x (with prefixes x.prefixes (prefix_at x.prefixes p ++ (e ∷ []))) in
     let b = front_stands es (extended_bytes h n p i e) x' a.stands (extended_count h n p e) (extended_number h n p e) (i + 1) a.holds a.within
     (ap (λ (q : Prefix). length q + 1) a.is ∙ ap (λ (m : ℕ). m + 1) (length-append (prefix_at x.prefixes p) (e ∷ []) ∙ next))
-    sound.3 (subst (λ (m : ℕ). m ≤ 512) c.1 room) in
+    sound.3 (subst (λ (m : ℕ). m ≤ prefix_limit) c.1 room) in
     one_more h x n p i e es a b

@@ -10,14 +10,15 @@ use lib.Dec.{ltb, eqb}
 use lib.ListN.{length}
 use borrow.Author.Tests.{lt-ltb, le-ltb, eq-eqb}
 use Rattle.std.specs.Prelude.{Result, Ok, Err, ⊤}
-use Rattle.model.specs.Sizes.{Bytes}
 use Rattle.model.specs.Entry.{Entry}
 use Rattle.model.specs.Record.{front}
+use Rattle.model.specs.Sizes.{Bytes, prefix_limit, finding_limit}
 use Rattle.model.proofs.Tests.{cond_true, cond_false}
 use Rattle.record_scan.specs.Places.{Walk, first_entry, entries_at}
-use Rattle.storage_bytes.specs.Words.{word_at}
+use Rattle.storage_bytes.specs.Layout.{findings_length}
 use Rattle.storage.specs.Tables.{prefix_row, prefixes_part, findings_part}
 use Rattle.storage.specs.Rules.{well_formed}
+use Rattle.storage.specs.Head.{prefixes_held, findings_held}
 use Rattle.storage.proofs.WellFormed.{formed}
 use Rattle.prefix_lookup.specs.Prefix.{search_from, find}
 use Rattle.log_violation.specs.Violation.{findings_kept}
@@ -78,27 +79,27 @@ rest_count h n s r (inr (e, es, q, z)) =
     ∙ sym (ap (λ (xs : List Entry). n + length xs) q)
 
 missing_count : (h s : Bytes) (m : ℕ)
-    → written_count h (word_at h 0 2) (place_in h s m).prefix.0 (place_in h s m).index.0 (front_at s (place_in h s m)) ≡ word_at h 0 2 + missing_in h s m
+    → written_count h (prefixes_held h) (place_in h s m).prefix.0 (place_in h s m).index.0 (front_at s (place_in h s m)) ≡ prefixes_held h + missing_in h s m
 unfolding missing_in
-missing_count h s m = rest_count h (word_at h 0 2) s (place_in h s m) (place_in_ended h s m)
+missing_count h s m = rest_count h (prefixes_held h) s (place_in h s m) (place_in_ended h s m)
 
 pub front_count : (h s : Bytes) (m : ℕ) → well_formed h ≡ true → Walk s first_entry m
-    → written_count h (word_at h 0 2) 0 1 (front (entries_at s first_entry m)) ≡ word_at h 0 2 + missing_in h s m
+    → written_count h (prefixes_held h) 0 1 (front (entries_at s first_entry m)) ≡ prefixes_held h + missing_in h s m
 front_count h s m right w = (rest_of h (formed h right) s m w).counts ∙ missing_count h s m
 
 -- ---- written
 
 -- from the first prefix that is not stored on as from the first entry
 rest_written_lem : (h s : Bytes) (m node : ℕ) (t : Bytes) (held : ℕ)
-    → Rest h s m (place_in h s m) → rest_written h (word_at h 0 2) s (place_in h s m) node t held ≡ view_written h (word_at h 0 2) s m node t held
+    → Rest h s m (place_in h s m) → rest_written h (prefixes_held h) s (place_in h s m) node t held ≡ view_written h (prefixes_held h) s m node t held
 unfolding rest_written view_written
 rest_written_lem h s m node t held w = sym (λ i. findings_kept (view_replaced (w.bytes i) node (w.number i) (w.last i)) t held)
 
 -- ---- the answer
 
 module _ {h s : Bytes} {m node missing held count : ℕ} {r : Place} {t : Bytes} (right : well_formed h ≡ true) (walk : ∥ Walk s first_entry m ∥₁)
-    (j : ViewJudged h s m node missing held r t) (e : count ≡ word_at h 0 2) where
-  total : count + missing ≡ word_at h 0 2 + missing_in h s m
+    (j : ViewJudged h s m node missing held r t) (e : count ≡ prefixes_held h) where
+  total : count + missing ≡ prefixes_held h + missing_in h s m
   total = λ i. e i + j.lack i
 
   rest : Rest h s m (place_in h s m)
@@ -115,44 +116,44 @@ module _ {h s : Bytes} {m node missing held count : ℕ} {r : Place} {t : Bytes}
     pub observed_six : most < count + missing → As limit (Err ViewRefusal.PrefixesFull) h
     unfolding observed observed_bytes
     observed_six l =
-        let b : ltb limit (word_at h 0 2 + missing_in h s m) ≡ true = lt-ltb limit _ (subst₂ (λ (x y : ℕ). x < y) em total l) in
-        (sym (cond_true (ltb limit (word_at h 0 2 + missing_in h s m)) (Err ViewRefusal.PrefixesFull) _ b), sym (cond_true (ltb limit (word_at h 0 2 + missing_in h s m)) h _ b))
+        let b : ltb limit (prefixes_held h + missing_in h s m) ≡ true = lt-ltb limit _ (subst₂ (λ (x y : ℕ). x < y) em total l) in
+        (sym (cond_true (ltb limit (prefixes_held h + missing_in h s m)) (Err ViewRefusal.PrefixesFull) _ b), sym (cond_true (ltb limit (prefixes_held h + missing_in h s m)) h _ b))
 
     module _ (l : count + missing ≤ most) where
-      no_six : ltb limit (word_at h 0 2 + missing_in h s m) ≡ false
+      no_six : ltb limit (prefixes_held h + missing_in h s m) ≡ false
       no_six = le-ltb limit _ (subst₂ (λ (x y : ℕ). x ≤ y) total em l)
 
-      pub observed_seven : 128 < held → As limit (Err ViewRefusal.FindingsFull) h
+      pub observed_seven : finding_limit < held → As limit (Err ViewRefusal.FindingsFull) h
       unfolding observed observed_bytes
       observed_seven g =
-          let b : ltb 128 (held_in h s m node) ≡ true = lt-ltb 128 _ (subst (λ (x : ℕ). 128 < x) j.holds g) in (
-            sym (cond_false (ltb limit (word_at h 0 2 + missing_in h s m)) (Err ViewRefusal.PrefixesFull) _ no_six ∙ cond_true (ltb 128 (held_in h s m node)) (Err ViewRefusal.FindingsFull) _ b),
-            sym (cond_false (ltb limit (word_at h 0 2 + missing_in h s m)) h _ no_six ∙ cond_true (ltb 128 (held_in h s m node)) h _ b),
+          let b : ltb finding_limit (held_in h s m node) ≡ true = lt-ltb finding_limit _ (subst (λ (x : ℕ). finding_limit < x) j.holds g) in (
+            sym (cond_false (ltb limit (prefixes_held h + missing_in h s m)) (Err ViewRefusal.PrefixesFull) _ no_six ∙ cond_true (ltb finding_limit (held_in h s m node)) (Err ViewRefusal.FindingsFull) _ b),
+            sym (cond_false (ltb limit (prefixes_held h + missing_in h s m)) h _ no_six ∙ cond_true (ltb finding_limit (held_in h s m node)) h _ b),
           )
 
-      pub observed_ok : held ≤ 128 → (u : Bytes) → u ≡ rest_written h count s r node t held → As limit (Ok tt) u
+      pub observed_ok : held ≤ finding_limit → (u : Bytes) → u ≡ rest_written h count s r node t held → As limit (Ok tt) u
       unfolding observed observed_bytes
       observed_ok g u w =
-          let b : ltb 128 (held_in h s m node) ≡ false = le-ltb 128 _ (subst (λ (x : ℕ). x ≤ 128) j.holds g) in (
-            sym (cond_false (ltb limit (word_at h 0 2 + missing_in h s m)) (Err ViewRefusal.PrefixesFull) _ no_six ∙ cond_false (ltb 128 (held_in h s m node)) (Err ViewRefusal.FindingsFull) _ b),
+          let b : ltb finding_limit (held_in h s m node) ≡ false = le-ltb finding_limit _ (subst (λ (x : ℕ). x ≤ finding_limit) j.holds g) in (
+            sym (cond_false (ltb limit (prefixes_held h + missing_in h s m)) (Err ViewRefusal.PrefixesFull) _ no_six ∙ cond_false (ltb finding_limit (held_in h s m node)) (Err ViewRefusal.FindingsFull) _ b),
             w ∙ (λ i. rest_written h (e i) s (j.place i) node (j.table i) (j.holds i)) ∙ rest_written_lem h s m node _ _ rest
-                ∙ sym (cond_false (ltb limit (word_at h 0 2 + missing_in h s m)) h _ no_six ∙ cond_false (ltb 128 (held_in h s m node)) h _ b),
+                ∙ sym (cond_false (ltb limit (prefixes_held h + missing_in h s m)) h _ no_six ∙ cond_false (ltb finding_limit (held_in h s m node)) h _ b),
           )
 
       -- there is room for what is missing
-      pub observed_room : limit ≤ 512 → Storing h count s r
+      pub observed_room : limit ≤ prefix_limit → Storing h count s r
       observed_room g =
           record {
             right = right;
             count = e;
             stands = subst₂ (Stand s) (sym e) (sym j.place) (place_in_stands h s m (walked s first_entry m walk));
             next = ap (λ (x : Place). x.index.0) j.place ∙ rest.next ∙ sym (ap (λ (x : Place). next_index h x.prefix.0) j.place);
-            room = subst (λ (x : ℕ). x ≤ 512)
+            room = subst (λ (x : ℕ). x ≤ prefix_limit)
                 (sym ((λ i. written_count h (e i) (j.place i).prefix.0 (j.place i).index.0 (front_at s (j.place i))) ∙ missing_count h s m))
                 (let a = total in let b = em in omega arith);
           }
 
 -- the table with its LG-03 is as long as the history's
-pub table_length : (h s : Bytes) (m node : ℕ) → well_formed h ≡ true → length (table_in h s m node) ≡ 1024
+pub table_length : (h s : Bytes) (m node : ℕ) → well_formed h ≡ true → length (table_in h s m node) ≡ findings_length
 unfolding table_in
-table_length h s m node right = all_length (notes_in h s m node) (findings_part h) (word_at h 7 1) ∙ findings_long h right
+table_length h s m node right = all_length (notes_in h s m node) (findings_part h) (findings_held h) ∙ findings_long h right

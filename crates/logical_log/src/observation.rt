@@ -3,6 +3,7 @@ ghost use Rattle.std.specs.Prelude.{◌≡◌, true, min};
 ghost use Rattle.storage.specs.Rules.{well_formed};
 ghost use Rattle.logical_log.specs.Observation.{refusal_of, observed, observed_bytes};
 ghost use Rattle.logical_log.specs.declared.observation.ViewRefusal.{ViewRefusal};
+ghost use Rattle.model.specs.Sizes.{prefix_limit};
 
 use answers::answer::Refusal;
 use log_violation::violation::FindingsFull;
@@ -50,7 +51,7 @@ pub fn observe_prefixes(
     limit: usize,
 ) -> Result<(), ViewRefusal>
     requires { well_formed history.old ≡ true }
-    ensures { (result ≡ observed (min limit 512) history.old view.entry.bytes.now view.entry.entries view.entry.node.0) × (history.new ≡ observed_bytes (min limit 512) history.old view.entry.bytes.now view.entry.entries view.entry.node.0) }
+    ensures { (result ≡ observed (min limit prefix_limit) history.old view.entry.bytes.now view.entry.entries view.entry.node.0) × (history.new ≡ observed_bytes (min limit prefix_limit) history.old view.entry.bytes.now view.entry.entries view.entry.node.0) }
 {
     let judged = judge_view(Stored { bytes: &*history }, view);
     let count = prefix_count(history);

@@ -13,7 +13,6 @@ use mathlib.Core.Option.{Option, none, some}
 use lib.Dec.{leb, ltb}
 use lib.ListN.{length, take, length-map}
 use borrow.Author.Tests.{ltb-true, ltb-false, lt-ltb, leb-false}
-use Rattle.model.specs.Sizes.{Bytes}
 use Rattle.model.specs.Entry.{Prefix, prefixes}
 use Rattle.model.specs.Refusal.{Refusal, number, prefixesFull, findingsFull, old_exceeds_new, lengthExceedsFront, certificatesFull, numberTaken}
 use Rattle.model.specs.Record.{Record, view, commit, terms, election, check, rows, front}
@@ -27,6 +26,7 @@ use Rattle.model.specs.Answer.{refusal, effect}
 use Rattle.model.specs.Ledger.{Ledger}
 use Rattle.model.specs.Run.{history_of, Event, events_of}
 use Rattle.model.specs.Statements.{Distinct, front_in, fronts_in, accepted_fronts, PrefixOf, PrefixIn, StoredOnce, StoredExactly, Counts, SixExactly, brought_by, SevenExactly, Bounded, AlwaysBounded}
+use Rattle.model.specs.Sizes.{Bytes, prefix_limit, certificate_limit, finding_limit}
 use Rattle.model.proofs.Tests.{either, cond_cases, cond_true, cond_false}
 use Rattle.model.proofs.Members.{all_old, all_new, all_cases, all_distinct, equally_long}
 use Rattle.model.proofs.Run.{by_events}
@@ -176,10 +176,10 @@ six_exactly ss n xs count c =
       λ x. (stored_mem h.prefixes (front xs) q).1 (⊎_elim (λ k. inl ((stored_exactly ss q).1 k)) (λ k. inr k) x),
     ))
     count c in
-    subst (λ (k : ℕ). (refusal h (view n xs) ≡ some prefixesFull) ↔ (512 < k)) size
-    (exceeds 512 (length (stored h.prefixes (front xs))) prefixesFull
-    (cond (ltb 128 (length (view_findings h n (front xs)))) (some findingsFull) none)
-    (apart findingsFull prefixesFull (ltb 128 (length (view_findings h n (front xs)))) (λ e. omega arith)))
+    subst (λ (k : ℕ). (refusal h (view n xs) ≡ some prefixesFull) ↔ (prefix_limit < k)) size
+    (exceeds prefix_limit (length (stored h.prefixes (front xs))) prefixesFull
+    (cond (ltb finding_limit (length (view_findings h n (front xs)))) (some findingsFull) none)
+    (apart findingsFull prefixesFull (ltb finding_limit (length (view_findings h n (front xs)))) (λ e. omega arith)))
 
 -- ---- the findings
 
@@ -230,24 +230,24 @@ placed_length c (d ∷ ds) =
 
 -- as many prefixes, certificates and findings as fit
 Fit : History → Type 0
-Fit h = (length h.prefixes ≤ 512) × (length h.certificates ≤ 64) × (length h.findings ≤ 128)
+Fit h = (length h.prefixes ≤ prefix_limit) × (length h.certificates ≤ certificate_limit) × (length h.findings ≤ finding_limit)
 
 fit_after : (h : History) (r : Record) → refusal h r ≡ none → Bounded h → Fit (effect h r)
 unfolding Fit view_effect view_refusal commit_effect commit_refusal terms_effect election_effect election_refusal check_effect check_refusal
 fit_after h (view n xs) e b =
-    let six = passed 512 (length (stored h.prefixes (front xs))) prefixesFull _ e in
-    (six.0, b.certificates_fit, (passed 128 (length (view_findings h n (front xs))) findingsFull none six.1).0)
+    let six = passed prefix_limit (length (stored h.prefixes (front xs))) prefixesFull _ e in
+    (six.0, b.certificates_fit, (passed finding_limit (length (view_findings h n (front xs))) findingsFull none six.1).0)
 fit_after h (commit n i) e b =
-    (b.prefixes_fit, b.certificates_fit, (passed 128 (length (commit_findings h n i)) findingsFull none e).0)
+    (b.prefixes_fit, b.certificates_fit, (passed finding_limit (length (commit_findings h n i)) findingsFull none e).0)
 fit_after h (terms old new t) e b =
     (b.prefixes_fit, (let l = length-map h.certificates (lowered t (first_changed old new t h.terms)) in let f = b.certificates_fit in omega arith), b.findings_fit)
 fit_after h (election l t p n) e b =
     let nine = unrefused (ltb (length (front_of h l)) n) lengthExceedsFront _ e in
-    let ten = unrefused (leb 64 (length h.certificates)) certificatesFull _ nine.1 in
-    let room = leb-false 64 (length h.certificates) ten.0 in
+    let ten = unrefused (leb certificate_limit (length h.certificates)) certificatesFull _ nine.1 in
+    let room = leb-false certificate_limit (length h.certificates) ten.0 in
     (b.prefixes_fit, (let k = placed_length (certificate h l t p n) h.certificates in omega arith), b.findings_fit)
 fit_after h check e b =
-    (b.prefixes_fit, (let l = length-map h.certificates (moved h.committed) in let f = b.certificates_fit in omega arith), (passed 128 (length (check_findings h)) findingsFull none e).0)
+    (b.prefixes_fit, (let l = length-map h.certificates (moved h.committed) in let f = b.certificates_fit in omega arith), (passed finding_limit (length (check_findings h)) findingsFull none e).0)
 fit_after h (rows rs) e b = (b.prefixes_fit, b.certificates_fit, b.findings_fit)
 
 pub always_bounded : AlwaysBounded
@@ -259,21 +259,21 @@ always_bounded =
     record { prefixes_fit = fit.0; certificates_fit = fit.1; findings_fit = fit.2; findings_once = once_after h r b.findings_once })
 
 -- 7 after 6, whose test is t
-seven_test : (t : Bool) (k : ℕ) (o : Option Refusal) → o ≡ cond t (some prefixesFull) (cond (ltb 128 k) (some findingsFull) none)
-    → (o ≡ some findingsFull) ↔ ((o ≡ some prefixesFull → ⊥) × (128 < k))
+seven_test : (t : Bool) (k : ℕ) (o : Option Refusal) → o ≡ cond t (some prefixesFull) (cond (ltb finding_limit k) (some findingsFull) none)
+    → (o ≡ some findingsFull) ↔ ((o ≡ some prefixesFull → ⊥) × (finding_limit < k))
 seven_test true k o e =
     (λ f. let z : ◌≡◌ {A = ℕ} 0 1 = cc in absurd (omega arith), λ p. absurd (p.0 e))
 seven_test false k o e = (
   λ f. (
     λ s. let z : ◌≡◌ {A = ℕ} 0 1 = cc in omega arith,
-    (exceeds 128 k findingsFull none (λ x. let z : ◌≡◌ {A = ℕ} 0 1 = cc in omega arith)).0 (sym e ∙ f),
+    (exceeds finding_limit k findingsFull none (λ x. let z : ◌≡◌ {A = ℕ} 0 1 = cc in omega arith)).0 (sym e ∙ f),
   ),
-  λ p. e ∙ (exceeds 128 k findingsFull none (λ x. let z : ◌≡◌ {A = ℕ} 0 1 = cc in omega arith)).1 p.1,
+  λ p. e ∙ (exceeds finding_limit k findingsFull none (λ x. let z : ◌≡◌ {A = ℕ} 0 1 = cc in omega arith)).1 p.1,
 )
 
 -- a kind that brings none is never refused with 7
-never : (h : History) (n : ℕ) (o : Option Refusal) → length h.findings ≡ n → length h.findings ≤ 128 → (o ≡ some findingsFull → ⊥)
-    → (o ≡ some findingsFull) ↔ ((o ≡ some prefixesFull → ⊥) × (128 < n))
+never : (h : History) (n : ℕ) (o : Option Refusal) → length h.findings ≡ n → length h.findings ≤ finding_limit → (o ≡ some findingsFull → ⊥)
+    → (o ≡ some findingsFull) ↔ ((o ≡ some prefixesFull → ⊥) × (finding_limit < n))
 never h n o e b f = (λ x. absurd (f x), λ p. absurd (let q = p.1 in omega arith))
 
 election_not_seven : (a b c : Bool) → cond a (some lengthExceedsFront) (cond b (some certificatesFull) (cond c (some numberTaken) none)) ≡ some findingsFull → ⊥
@@ -283,15 +283,15 @@ election_not_seven false false true e = unlike _ _ (λ x. omega arith) e
 election_not_seven false false false e = let w : ◌≡◌ {A = ℕ} 0 1 = cc in omega arith
 
 seven_by : (h : History) (r : Record) (k : ℕ) → Bounded h → length (effect h r).findings ≡ k
-    → (refusal h r ≡ some findingsFull) ↔ ((refusal h r ≡ some prefixesFull → ⊥) × (128 < k))
+    → (refusal h r ≡ some findingsFull) ↔ ((refusal h r ≡ some prefixesFull → ⊥) × (finding_limit < k))
 unfolding view_effect view_refusal commit_effect commit_refusal terms_effect election_effect election_refusal check_effect check_refusal
 seven_by h (view n xs) k b e =
-    seven_test (ltb 512 (length (stored h.prefixes (front xs)))) k _ (rw (← e))
+    seven_test (ltb prefix_limit (length (stored h.prefixes (front xs)))) k _ (rw (← e))
 seven_by h (commit n i) k b e = seven_test false k _ (rw (← e))
 seven_by h (terms old new t) k b e =
     never h k _ e b.findings_fit (apart old_exceeds_new findingsFull (ltb new old) (λ x. omega arith))
 seven_by h (election l t p n) k b e = never h k _ e b.findings_fit
-    (election_not_seven (ltb (length (front_of h l)) n) (leb 64 (length h.certificates))
+    (election_not_seven (ltb (length (front_of h l)) n) (leb certificate_limit (length h.certificates))
     (taken t (held t h.certificates) h.certificates))
 seven_by h check k b e = seven_test false k _ (rw (← e))
 seven_by h (rows rs) k b e = never h k none e b.findings_fit (apart old_exceeds_new findingsFull false (λ x. omega arith))

@@ -4,7 +4,7 @@ use Rattle.std.specs.Prelude.{ℕ, ◌≡◌, List, [], ◌∷◌, get_or, set, 
 use Rattle.std.proofs.Math.Decide.{ℕ_discrete}
 use Rattle.std.proofs.Common.{ap}
 use Rattle.std.proofs.Math.Option.{Option}
-use Rattle.model.specs.Sizes.{nodes}
+use Rattle.model.specs.Sizes.{node_count}
 use Rattle.model.specs.Entry.{Prefix, lists, with_all}
 
 -- a finding: its name, node, index and term; 3 is LG-03, 4 LG-04, 5 LG-05
@@ -43,9 +43,9 @@ abbrev pub fresh : History
 fresh =
     record {
       prefixes = [];
-      fronts = replicate nodes [];
-      lasts = replicate nodes 0;
-      unseen = replicate nodes 0;
+      fronts = replicate node_count [];
+      lasts = replicate node_count 0;
+      unseen = replicate node_count 0;
       committed = [];
       owner = 0;
       terms = [];

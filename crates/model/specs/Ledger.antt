@@ -3,7 +3,7 @@
 -- Assumes nothing.
 use Rattle.std.specs.Prelude.{ℕ, zero, suc, Bool, true, false, cond, not, ◌&&◌, ◌||◌, List, [], ◌∷◌, ◌++◌, leb, ltb, length, get_or, take, set, replicate}
 use Rattle.std.proofs.Math.Option.{Option, none, some}
-use Rattle.model.specs.Sizes.{Bytes, nodes}
+use Rattle.model.specs.Sizes.{Bytes, node_count}
 use Rattle.model.specs.Entry.{Prefix, begins}
 use Rattle.model.specs.Record.{Record, view, commit, terms, election, check, rows, front_from, front}
 use Rattle.model.specs.Reading.{Reading, readable, unreadable, read}
@@ -27,7 +27,7 @@ pub record Ledger : Type 0 where
 
 -- "at first all empty"
 abbrev pub empty : Ledger
-empty = record { fronts = replicate nodes []; committed = []; terms = λ i. none; elections = [] }
+empty = record { fronts = replicate node_count []; committed = []; terms = λ i. none; elections = [] }
 
 -- "if the index is above zero and the node's front reaches it, the front's entries through it replace the committed
 -- entries, provided they are longer and begin with them"

@@ -2,15 +2,25 @@
 -- Node 0 to 63, index, count and length 0 to 256, term 32 bits, content 0 to 32 bytes. A history holds 512 distinct
 -- nonempty prefixes, 64 certificates and 128 distinct findings. Here each is a number; the code keeps them apart as units.
 -- Assumes nothing.
-use Rattle.std.specs.Prelude.{ℕ, List}
+use Rattle.std.specs.Prelude.{ℕ, ◌+◌, List}
 
 -- a record is any list of bytes
 abbrev pub Bytes : Type 0
 Bytes = List ℕ
 
--- a node is below this
-abbrev pub nodes : ℕ
-nodes = 64
+-- the greatest node, and how many there are
+abbrev pub last_node : ℕ
+last_node = 63
+
+abbrev pub node_count : ℕ
+node_count = last_node + 1
+
+-- the greatest term, and what is past it: every number of 32 bits is a term
+abbrev pub term_limit : ℕ
+term_limit = 4294967295
+
+abbrev pub term_end : ℕ
+term_end = term_limit + 1
 
 abbrev pub index_limit : ℕ
 index_limit = 256

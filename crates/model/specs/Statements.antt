@@ -6,7 +6,6 @@ use Rattle.std.specs.Prelude.{ℕ, min, ◌<◌, ◌≤◌, ◌≡◌, ◌↔◌
 use Rattle.std.proofs.Math.Option.{none, some}
 use mathlib.Core.Logic.{◌⊎◌}
 use mathlib.Core.List.{Memᴰ}
-use Rattle.model.specs.Sizes.{Bytes}
 use Rattle.model.specs.Entry.{Prefix, last_term}
 use Rattle.model.specs.Refusal.{Refusal, prefixesFull, findingsFull}
 use Rattle.model.specs.Record.{Shown, Record, view, commit, terms, election, check, rows, front}
@@ -20,6 +19,7 @@ use Rattle.model.specs.Leaders.{Leader}
 use Rattle.model.specs.Ledger.{Ledger, ledger_leaders}
 use Rattle.model.specs.Lists.{finding_list, leader_list}
 use Rattle.model.specs.Run.{history_of, ledger_of, Event, events_of}
+use Rattle.model.specs.Sizes.{Bytes, prefix_limit, certificate_limit, finding_limit}
 
 -- ---- refused records (Run)
 
@@ -75,7 +75,7 @@ abbrev pub SixExactly : Type 0
 SixExactly =
     (ss : List Bytes) (n : ℕ) (xs : List Shown) (count : ℕ)
     → Counts count (λ q. PrefixIn (accepted_fronts ss) q ⊎ PrefixOf (front xs) q)
-    → (refusal (history_of ss) (view n xs) ≡ some prefixesFull) ↔ (512 < count)
+    → (refusal (history_of ss) (view n xs) ≡ some prefixesFull) ↔ (prefix_limit < count)
 
 -- the findings that a record brings, whether new or held already
 abbrev pub brought_by : History → Record → List Finding
@@ -91,13 +91,13 @@ abbrev pub SevenExactly : Type 0
 SevenExactly =
     (ss : List Bytes) (r : Record) (count : ℕ)
     → Counts count (λ f. Memᴰ f (history_of ss).findings ⊎ Memᴰ f (brought_by (history_of ss) r))
-    → (refusal (history_of ss) r ≡ some findingsFull) ↔ ((refusal (history_of ss) r ≡ some prefixesFull → ⊥) × (128 < count))
+    → (refusal (history_of ss) r ≡ some findingsFull) ↔ ((refusal (history_of ss) r ≡ some prefixesFull → ⊥) × (finding_limit < count))
 
 -- From fresh, there are never more than 512 prefixes, 64 certificates and 128 findings, and no finding is held twice.
 pub record Bounded (h : History) : Type 0 where
-  pub prefixes_fit : length h.prefixes ≤ 512
-  pub certificates_fit : length h.certificates ≤ 64
-  pub findings_fit : length h.findings ≤ 128
+  pub prefixes_fit : length h.prefixes ≤ prefix_limit
+  pub certificates_fit : length h.certificates ≤ certificate_limit
+  pub findings_fit : length h.findings ≤ finding_limit
   pub findings_once : Distinct h.findings
 
 abbrev pub AlwaysBounded : Type 0

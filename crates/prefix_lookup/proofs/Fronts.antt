@@ -5,12 +5,12 @@ use mathlib.Core.Path.{◌≡◌, sym, subst}
 use mathlib.Core.Logic.{◌⊎◌, inl, inr, ⊎_elim}
 use mathlib.Core.List.{List}
 use lib.ListN.{length, take}
-use Rattle.model.specs.Sizes.{Bytes}
 use Rattle.model.specs.Entry.{Prefix}
 use Rattle.model.specs.History.{History, front_of}
-use Rattle.storage_bytes.specs.Words.{word_at}
+use Rattle.model.specs.Sizes.{Bytes, node_count}
 use Rattle.storage.specs.Tables.{prefix_row, rows_of_prefixes, prefixes_part}
 use Rattle.storage.specs.Decode.{prefix_at}
+use Rattle.storage.specs.Head.{prefixes_held}
 use Rattle.storage.proofs.WellFormed.{formed, formed_rows}
 use Rattle.storage.proofs.Meanings.{Stands, front_read, prefixes_stored}
 use Rattle.prefix_lookup.specs.Prefix.{witness, slice_of, front_in, front_through}
@@ -25,7 +25,7 @@ module _ (h : Bytes) (x : History) where
     pub part : ℕ
     pub told : y ≡ Some (witness part)
     pub reaches : i ≤ length f
-    pub within : part ≤ word_at h 0 2
+    pub within : part ≤ prefixes_held h
     pub first : prefix_at x.prefixes part ≡ take i f
 
   -- y is f through index i: beyond its end exactly where f is shorter, else a part
@@ -34,10 +34,10 @@ module _ (h : Bytes) (x : History) where
 
   module _ (s : Stands h x) where
     -- a stored prefix, by number
-    pub slice_is : (p i : ℕ) → p ≤ word_at h 0 2 → Cut (slice_of (prefix_row (prefixes_part h)) p i) (prefix_at x.prefixes p) i
+    pub slice_is : (p i : ℕ) → p ≤ prefixes_held h → Cut (slice_of (prefix_row (prefixes_part h)) p i) (prefix_at x.prefixes p) i
     slice_is p i l =
         let resolves = prefixes_stored h x s in
-        let count = rows_length (prefixes_part h) (word_at h 0 2) in
+        let count = rows_length (prefixes_part h) (prefixes_held h) in
         ⊎_elim
         (λ b. inl (b.0, subst (λ (ps : List Prefix). length (prefix_at ps p) < i) resolves b.1))
         (λ b.
@@ -48,10 +48,10 @@ module _ (h : Bytes) (x : History) where
           within = subst (λ (m : ℕ). b.0 ≤ m) count b.3;
           first = subst (λ (ps : List Prefix). prefix_at ps b.0 ≡ take i (prefix_at ps p)) resolves b.4;
         }))
-        (slice_cases (prefix_row (prefixes_part h)) (rows_of_prefixes (prefixes_part h) (word_at h 0 2)) (formed_rows h (formed h s.right))
-        (rows_at (prefixes_part h) (word_at h 0 2)) p i (subst (λ (m : ℕ). p ≤ m) (sym count) l))
+        (slice_cases (prefix_row (prefixes_part h)) (rows_of_prefixes (prefixes_part h) (prefixes_held h)) (formed_rows h (formed h s.right))
+        (rows_at (prefixes_part h) (prefixes_held h)) p i (subst (λ (m : ℕ). p ≤ m) (sym count) l))
 
-    module _ (n : ℕ) (here : n < 64) where
+    module _ (n : ℕ) (here : n < node_count) where
       -- a node's front
       pub front_is : front_of x n ≡ prefix_at x.prefixes (front_in h n)
       front_is = subst (λ (y : History). front_of y n ≡ prefix_at y.prefixes (front_in h n)) s.decodes (front_read h n here)

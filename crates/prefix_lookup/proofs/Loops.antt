@@ -12,9 +12,9 @@ use borrow.Author.Tests.{eqb-true, eqb-false, eq-eqb, ne_eqb, le-leb, lt-leb, lt
 use Rattle.model.specs.Sizes.{Bytes}
 use Rattle.model.proofs.Tests.{cond_true, cond_false}
 use Rattle.storage_bytes.specs.Words.{word_at, bytes_at}
+use Rattle.storage_bytes.specs.Layout.{part, prefix_width, number_width, term_width, byte_width, prefix_term, prefix_size}
 use Rattle.storage.specs.Tables.{PrefixRow, prefix_row}
 use Rattle.storage.specs.Rules.{same_row}
-use Rattle.storage_bytes.specs.Layout.{part}
 use Rattle.storage_bytes.proofs.ListLaws.{tabulate_length}
 use Rattle.storage_bytes.proofs.ByteTurns.{part_bytes, pointwise_bytes}
 use Rattle.std.specs.Cmp.Lexicographic.{pointwise}
@@ -55,7 +55,7 @@ content_is : (bs : Bytes) (n : ℕ) → n ≤ length bs → take n bs ≡ bytes_
 unfolding part
 content_is bs n h = part_bytes bs 0 n (omega arith)
 
-module _ (t c : Bytes) (k p term n a b m : ℕ) (ea : a ≡ word_at t (k * 41) 2) where
+module _ (t c : Bytes) (k p term n a b m : ℕ) (ea : a ≡ word_at t (k * prefix_width) number_width) where
   abbrev Extension : PrefixRow
   Extension = row_of p 0 (record { term = term; content = bytes_at c 0 n })
 
@@ -63,12 +63,12 @@ module _ (t c : Bytes) (k p term n a b m : ℕ) (ea : a ≡ word_at t (k * 41) 2
   unfolding same_row
   match_parent d = rw (← ea, ne_eqb a p d)
 
-  module _ (da : a ≡ p) (eb : b ≡ word_at t (k * 41 + 4) 4) where
+  module _ (da : a ≡ p) (eb : b ≡ word_at t (k * prefix_width + prefix_term) term_width) where
     pub match_term : (b ≡ term → ⊥) → false ≡ same_row (prefix_row t k) Extension
     unfolding same_row
     match_term d = rw (← ea, eq-eqb a p da, ← eb, ne_eqb b term d)
 
-    module _ (db : b ≡ term) (em : m ≡ word_at t (k * 41 + 8) 1) where
+    module _ (db : b ≡ term) (em : m ≡ word_at t (k * prefix_width + prefix_size) byte_width) where
       size_is : length (bytes_at c 0 n) ≡ n
       unfolding bytes_at
       size_is = tabulate_length _ 0 n

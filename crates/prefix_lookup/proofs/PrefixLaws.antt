@@ -14,6 +14,7 @@ use lib.ListN.{length, get_or, length-append, get_or-map}
 use borrow.Author.Tests.{eqb-true, eqb-false, ltb-true, ltb-false}
 use Rattle.model.specs.Entry.{Entry, Prefix, last_term}
 use Rattle.model.specs.View.{remembered}
+use Rattle.model.specs.Sizes.{content_limit}
 use Rattle.model.proofs.Tests.{tf, either, cond_true, cond_false, and_left}
 use Rattle.storage.specs.Tables.{PrefixRow}
 use Rattle.storage.specs.Decode.{prefix_at, entry_of, resolve}
@@ -89,7 +90,7 @@ module _ (test : ℕ → Bool) where
 -- ---- the row of an extension
 
 module _ (row : ℕ → PrefixRow) (rs : List PrefixRow) (f : Facts rs) (at : Rows row rs)
-    (p i : ℕ) (e : Entry) (h : p ≤ length rs) (short : length e.content ≤ 32) where
+    (p i : ℕ) (e : Entry) (h : p ≤ length rs) (short : length e.content ≤ content_limit) where
   abbrev Next : Prefix
   Next = prefix_at (resolve rs) p ++ (e ∷ [])
 

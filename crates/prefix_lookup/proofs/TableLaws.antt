@@ -6,13 +6,15 @@ use mathlib.Core.Path.{◌≡◌, refl, sym, ◌∙◌, ap, subst, subst₂}
 use mathlib.Core.Bool.{true}
 use mathlib.Core.Logic.{⊎_elim}
 use lib.ListN.{length}
-use Rattle.model.specs.Sizes.{Bytes}
+use Rattle.model.specs.Sizes.{Bytes, content_limit}
 use Rattle.storage_bytes.specs.Words.{word_at}
+use Rattle.storage_bytes.specs.Layout.{prefixes_start, prefixes_length, prefix_width, number_width, byte_width, prefix_size}
 use Rattle.storage.specs.Tables.{PrefixRow, prefix_row, rows_of_prefixes, prefixes_part}
 use Rattle.storage.specs.Values.{index_of}
 use Rattle.storage_bytes.proofs.ListLaws.{tabulate_length, tabulate_at}
 use Rattle.storage_bytes.proofs.PartLaws.{part_length}
 use Rattle.storage.specs.Rules.{well_formed}
+use Rattle.storage.specs.Head.{prefixes_held}
 use Rattle.storage.proofs.WellFormed.{Formed, formed}
 use Rattle.storage.proofs.RowFacts.{Facts, empty_row, rows_sized, facts_of}
 use Rattle.prefix_lookup.specs.Table.{Table}
@@ -35,15 +37,15 @@ pub table_facts : (t : Bytes) (n : ℕ) → Table t n → Facts (rows_of_prefixe
 table_facts t n h = facts_of (rows_of_prefixes t n) (rows_sized t n) h.right
 
 -- the table of a well-formed history, and as it is lent
-pub whole_table : (h : Bytes) → Formed h → Table (prefixes_part h) (word_at h 0 2)
-whole_table h f = record { long = part_length h 3145 20992 (omega (arith, f.long)); fits = f.prefixes; right = f.rows }
+pub whole_table : (h : Bytes) → Formed h → Table (prefixes_part h) (prefixes_held h)
+whole_table h f = record { long = part_length h prefixes_start prefixes_length (omega (arith, f.long)); fits = f.prefixes; right = f.rows }
 
-pub table_lent : (h q : Bytes) (n : ℕ) → Formed h → q ≡ prefixes_part h → n ≡ word_at h 0 2 → Table q n
+pub table_lent : (h q : Bytes) (n : ℕ) → Formed h → q ≡ prefixes_part h → n ≡ prefixes_held h → Table q n
 table_lent h q n f e m = subst₂ Table (sym e) (sym m) (whole_table h f)
 
 -- of a stored history, a cut asks only that its prefix is stored
-pub lent_asks : (h : Bytes) → well_formed h ≡ true → (q : Bytes) → q ≡ prefixes_part h → (p : ℕ) → p ≤ word_at h 0 2 → (n : ℕ) × Table q n × (p ≤ n)
-lent_asks h w q e p l = (word_at h 0 2, table_lent h q _ (formed h w) e refl, l)
+pub lent_asks : (h : Bytes) → well_formed h ≡ true → (q : Bytes) → q ≡ prefixes_part h → (p : ℕ) → p ≤ prefixes_held h → (n : ℕ) × Table q n × (p ≤ n)
+lent_asks h w q e p l = (prefixes_held h, table_lent h q _ (formed h w) e refl, l)
 
 -- a slice of a stored prefix is stored
 pub slice_within : (t : Bytes) (n p i : ℕ) (q : LogPrefixWitness) → Table t n → p ≤ n → slice_of (prefix_row t) p i ≡ Some q → q.0 ≤ n
@@ -58,17 +60,17 @@ slice_within t n p i q w l e =
     (slice_cases (prefix_row t) (rows_of_prefixes t n) (table_facts t n w) (rows_at t n) p i (omega arith))
 
 -- a row's parent is a smaller number than its own
-pub table_parent : (t : Bytes) (n k : ℕ) → Table t n → k < n → word_at t (k * 41) 2 ≤ k
+pub table_parent : (t : Bytes) (n k : ℕ) → Table t n → k < n → word_at t (k * prefix_width) number_width ≤ k
 table_parent t n k h l =
     row_parent (prefix_row t) (rows_of_prefixes t n) (table_facts t n h) (rows_at t n) k (subst (λ (j : ℕ). k < j) (sym (rows_length t n)) l)
 
-pub table_size : (t : Bytes) (n k : ℕ) → Table t n → k < n → word_at t (k * 41 + 8) 1 ≤ 32
+pub table_size : (t : Bytes) (n k : ℕ) → Table t n → k < n → word_at t (k * prefix_width + prefix_size) byte_width ≤ content_limit
 table_size t n k h l =
     let m : k < length (rows_of_prefixes t n) = subst (λ (j : ℕ). k < j) (sym (rows_length t n)) l in
-    subst (λ (r : PrefixRow). r.size ≤ 32) (sym (rows_at t n k m)) ((table_facts t n h).small k m).1
+    subst (λ (r : PrefixRow). r.size ≤ content_limit) (sym (rows_at t n k m)) ((table_facts t n h).small k m).1
 
 -- where number p goes through index x, its parent a goes through one less
-pub table_index : (t : Bytes) (n p : ℕ) → Table t n → p ≤ n → (p ≡ 0 → ⊥) → (a : ℕ) → a ≡ word_at t ((p - 1) * 41) 2
+pub table_index : (t : Bytes) (n p : ℕ) → Table t n → p ≤ n → (p ≡ 0 → ⊥) → (a : ℕ) → a ≡ word_at t ((p - 1) * prefix_width) number_width
     → (x : ℕ) → x ≡ index_of (prefix_row t) p → x - 1 ≡ index_of (prefix_row t) a
 table_index t n p h l z a e x ex =
     let m : suc (p - 1) ≤ length (rows_of_prefixes t n) = omega (arith, rows_length t n) in

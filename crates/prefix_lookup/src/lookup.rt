@@ -4,6 +4,7 @@ ghost use Rattle.storage.specs.Tables.{prefix_row};
 ghost use Rattle.storage.specs.Rules.{same_row};
 ghost use Rattle.prefix_lookup.specs.Table.{Table, entry_value};
 ghost use Rattle.prefix_lookup.specs.Prefix.{row_of, find, is_of, first, stored_of, slice_of, front_through};
+ghost use Rattle.model.specs.Sizes.{node_count, content_limit, prefix_limit};
 
 use crate::table::Prefixes;
 use prefix_rows::prefixes::{content_at, index_at, parent_at, size_at, term_at, through};
@@ -15,7 +16,7 @@ use units::{LogIndex, LogPrefixWitness, NodeId, Term};
 
 // Row k extends the prefix by the entry (`matches_extension`). Field by field, as rows are compared where the rules are tested.
 fn matches_extension(prefixes: &PrefixTable, k: usize, p: LogPrefixWitness, e: &ShownEntry) -> bool
-    requires { (k < 512) × (e.now.length ≤ 32) }
+    requires { (k < prefix_limit) × (e.now.length ≤ content_limit) }
     ensures { result ≡ same_row (prefix_row prefixes.now k) (row_of p.0 0 (entry_value e.now)) }
 {
     if parent_at(prefixes, k) != p {
@@ -32,7 +33,7 @@ fn matches_extension(prefixes: &PrefixTable, k: usize, p: LogPrefixWitness, e: &
 
 // Row k is of the index and term.
 fn is_of(prefixes: &PrefixTable, k: usize, index: LogIndex, term: Term) -> bool
-    requires { k < 512 }
+    requires { k < prefix_limit }
     ensures { result ≡ is_of index.0 term.0 (prefix_row prefixes.now k) }
 {
     index_at(prefixes, k) == index && term_at(prefixes, k) == term
@@ -42,7 +43,7 @@ impl<'a> Prefixes<'a> {
     // The stored prefix that extends the given one by the entry. It comes after that one.
     #[tactic(auto, unfolding(crate::specs::Prefix::find))]
     pub fn find_extension(self, p: LogPrefixWitness, e: ShownEntry) -> Option<LogPrefixWitness>
-        requires { (p.0 ≤ self.count) × (e.length ≤ 32) }
+        requires { (p.0 ≤ self.count) × (e.length ≤ content_limit) }
         ensures { result ≡ stored_of (find (prefix_row self.entry.rows.now) self.entry.count (row_of p.0 0 (entry_value e))) }
     {
         for k in p.0..self.count {
@@ -92,7 +93,7 @@ pub fn slice_through(
 
 // The node's front through the index; a node without a view has the empty front.
 pub fn front_through(history: Stored<'_>, node: NodeId, index: LogIndex) -> Option<LogPrefixWitness>
-    requires { node.0 < 64 }
+    requires { node.0 < node_count }
     ensures { result ≡ front_through history.entry.bytes.now node.0 index.0 }
 {
     let bytes = history.bytes;

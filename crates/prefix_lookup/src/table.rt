@@ -1,7 +1,8 @@
 // The stored prefixes as they are lent to a search.
 ghost use Rattle.std.specs.Prelude.{◌≡◌, ◌≤◌};
-ghost use Rattle.storage_bytes.specs.Words.{word_at};
 ghost use Rattle.storage.specs.Tables.{prefixes_part};
+ghost use Rattle.storage.specs.Head.{prefixes_held};
+ghost use Rattle.model.specs.Sizes.{prefix_limit};
 
 use storage::head::prefix_count;
 use storage_bytes::layout::{History, PREFIXES, PrefixTable};
@@ -12,14 +13,14 @@ use storage_bytes::layout::{History, PREFIXES, PrefixTable};
 pub struct Prefixes<'a> {
     pub rows: &'a PrefixTable,
     pub count: usize,
-    ghost sized: { count ≤ 512 },
+    ghost sized: { count ≤ prefix_limit },
 }
 
 impl<'a> Prefixes<'a> {
     // The history's own.
     pub fn of(history: &'a History) -> Prefixes<'a>
-        requires { word_at history.now 0 2 ≤ 512 }
-        ensures { (result.rows.now ≡ prefixes_part history.now) × (result.count ≡ word_at history.now 0 2) }
+        requires { prefixes_held history.now ≤ prefix_limit }
+        ensures { (result.rows.now ≡ prefixes_part history.now) × (result.count ≡ prefixes_held history.now) }
     {
         Prefixes {
             rows: PREFIXES.array(history),

@@ -4,17 +4,21 @@ ghost use Rattle.std.specs.Prelude.{◌≡◌, ◌+◌, ◌*◌, ◌≤◌, ◌<
 ghost use Rattle.std.proofs.Common.{lit≤};
 ghost use Rattle.storage_bytes.specs.declared.layout.TheConstants.{PREFIXES};
 ghost use Rattle.storage_bytes.specs.Words.{Word, word_at};
+ghost use Rattle.storage_bytes.specs.Layout.{prefix_width, number_width, index_width, term_width, byte_width, prefix_index, prefix_term, prefix_size};
 ghost use Rattle.storage.specs.Writes.{prefix_appended};
 ghost use Rattle.storage.specs.Tables.{prefix_row};
 ghost use Rattle.storage.specs.Values.{Index};
+ghost use Rattle.storage.specs.Head.{prefixes_held};
 ghost use Rattle.storage.proofs.RowLaws.{prefix_length};
 ghost use Rattle.prefix_rows.specs.Values.{row_bytes, row_appended};
+ghost use Rattle.model.specs.Sizes.{content_limit, prefix_limit};
 
 use storage::head::{committed, prefix_count, set_prefix_count};
 use storage::rows::{Row, set};
 use storage::stored::Stored;
 use storage_bytes::layout::{
-    History, PREFIX_CONTENT, PREFIX_WIDTH, PREFIXES, PrefixTable, Region, part,
+    History, PREFIX_CONTENT, PREFIX_INDEX, PREFIX_SIZE, PREFIX_TERM, PREFIX_WIDTH, PREFIXES,
+    PrefixTable, Region, part,
 };
 use storage_bytes::words::{Field, put_bytes, put8};
 use units::{CONTENT_LIMIT, LogIndex, LogPrefixWitness, Term};
@@ -28,19 +32,19 @@ pub struct PrefixRow {
     pub index: LogIndex,
     pub term: Term,
     pub size: usize,
-    pub content: [u8; 32],
+    pub content: [u8; CONTENT_LIMIT],
 }
 
 impl Row for PrefixRow {
     ghost TABLE = { PREFIXES };
 
-    ghost width = { 41 };
+    ghost width = { prefix_width };
 
-    ghost count = { 512 };
+    ghost count = { prefix_limit };
 
     ghost bytes = { row_bytes };
 
-    ghost whole = { λ x. length x.content ≡ 32 };
+    ghost whole = { λ x. length x.content ≡ content_limit };
 
     ghost inside = { lit≤ tt };
 
@@ -54,9 +58,9 @@ impl Row for PrefixRow {
     fn put(self, prefixes: &mut [u8], k: usize) {
         let o = k * PREFIX_WIDTH;
         self.parent.write(prefixes, o);
-        self.index.write(prefixes, o + 2);
-        self.term.write(prefixes, o + 4);
-        put8(prefixes, o + 8, self.size);
+        self.index.write(prefixes, o + PREFIX_INDEX);
+        self.term.write(prefixes, o + PREFIX_TERM);
+        put8(prefixes, o + PREFIX_SIZE, self.size);
         put_bytes(prefixes, o + PREFIX_CONTENT, &self.content);
     }
 }
@@ -64,37 +68,37 @@ impl Row for PrefixRow {
 // Fields alone, each by its name: a search reads two of them of every row, and a row has 41 bytes. One generic function would take a
 // field's place and type at each call, where its name stands now.
 pub fn parent_at(prefixes: &PrefixTable, k: usize) -> LogPrefixWitness
-    requires { k < 512 }
-    ensures { Word prefixes.now (k * 41) 2 result.0 }
+    requires { k < prefix_limit }
+    ensures { Word prefixes.now (k * prefix_width) number_width result.0 }
 {
     LogPrefixWitness::read(prefixes, k * PREFIX_WIDTH)
 }
 
 pub fn index_at(prefixes: &PrefixTable, k: usize) -> LogIndex
-    requires { k < 512 }
-    ensures { Word prefixes.now (k * 41 + 2) 2 result.0 }
+    requires { k < prefix_limit }
+    ensures { Word prefixes.now (k * prefix_width + prefix_index) index_width result.0 }
 {
-    LogIndex::read(prefixes, k * PREFIX_WIDTH + 2)
+    LogIndex::read(prefixes, k * PREFIX_WIDTH + PREFIX_INDEX)
 }
 
 pub fn term_at(prefixes: &PrefixTable, k: usize) -> Term
-    requires { k < 512 }
-    ensures { result.0 ≡ word_at prefixes.now (k * 41 + 4) 4 }
+    requires { k < prefix_limit }
+    ensures { result.0 ≡ word_at prefixes.now (k * prefix_width + prefix_term) term_width }
 {
-    Term::read(prefixes, k * PREFIX_WIDTH + 4)
+    Term::read(prefixes, k * PREFIX_WIDTH + PREFIX_TERM)
 }
 
 pub fn size_at(prefixes: &PrefixTable, k: usize) -> usize
-    requires { k < 512 }
-    ensures { Word prefixes.now (k * 41 + 8) 1 result }
+    requires { k < prefix_limit }
+    ensures { Word prefixes.now (k * prefix_width + prefix_size) byte_width result }
 {
-    usize::from(u8::read(prefixes, k * PREFIX_WIDTH + 8))
+    usize::from(u8::read(prefixes, k * PREFIX_WIDTH + PREFIX_SIZE))
 }
 
 // The content of its last entry. A row that breaks the storage rules may say more than its 32 bytes.
 #[tactic(auto, using(storage_bytes::proofs::ByteTurns::part_bytes))]
 pub fn content_at(prefixes: &PrefixTable, k: usize) -> &[u8]
-    requires { k < 512 }
+    requires { k < prefix_limit }
     ensures { result.now ≡ (prefix_row prefixes.now k).content }
 {
     let n = size_at(prefixes, k).min(CONTENT_LIMIT);
@@ -104,7 +108,7 @@ pub fn content_at(prefixes: &PrefixTable, k: usize) -> &[u8]
 // The index of a prefix's last entry; the empty one has zero.
 #[tactic(auto, unfolding(storage::specs::Values::number_index))]
 pub fn through(prefixes: &PrefixTable, p: LogPrefixWitness) -> LogIndex
-    requires { p.0 ≤ 512 }
+    requires { p.0 ≤ prefix_limit }
     ensures { Index prefixes.now p.0 result.0 }
 {
     if p == LogPrefixWitness::EMPTY {
@@ -116,7 +120,7 @@ pub fn through(prefixes: &PrefixTable, p: LogPrefixWitness) -> LogIndex
 // One more prefix.
 #[tactic(auto, unfolding(storage::specs::Writes::prefix_appended))]
 pub fn append(history: &mut History, row: PrefixRow)
-    requires { word_at history.old 0 2 < 512 }
+    requires { prefixes_held history.old < prefix_limit }
     ensures { history.new ≡ row_appended history.old row }
 {
     let n = prefix_count(history);

@@ -2,6 +2,7 @@
 ghost use Rattle.std.specs.Prelude.{◌≡◌, [], ◌≤◌, ◌<◌};
 ghost use Rattle.storage.specs.Tables.{prefix_row, rows_of_prefixes};
 ghost use Rattle.storage.specs.Rules.{prefix_right, prefixes_right_after};
+ghost use Rattle.model.specs.Sizes.{prefix_limit};
 
 use prefix_rows::prefixes::{index_at, parent_at, size_at, through};
 use storage_bytes::layout::PrefixTable;
@@ -11,7 +12,7 @@ use units::{CONTENT_LIMIT, LogIndex};
 // The storage rules of row k, by the rows before it.
 #[tactic(auto, using(crate::proofs::Turns::right_parent, crate::proofs::Turns::right_rest))]
 fn prefix_right(prefixes: &PrefixTable, k: usize) -> bool
-    requires { k < 512 }
+    requires { k < prefix_limit }
     ensures { result ≡ prefix_right (rows_of_prefixes prefixes.now k) (prefix_row prefixes.now k) }
 {
     let p = parent_at(prefixes, k);
@@ -33,7 +34,7 @@ fn prefix_right(prefixes: &PrefixTable, k: usize) -> bool
 
 // The storage rules of every one of n rows.
 pub fn prefixes_right(prefixes: &PrefixTable, n: usize) -> bool
-    requires { n ≤ 512 }
+    requires { n ≤ prefix_limit }
     ensures { result ≡ prefixes_right_after [] (rows_of_prefixes prefixes.now n) }
 {
     (0..n).all(|k| prefix_right(prefixes, k))

@@ -6,6 +6,7 @@ ghost use Rattle.model.specs.Record as model;
 ghost use Rattle.model.specs.Reading as reading;
 ghost use Rattle.record_scan.specs.Scans.{keyed, ended, scan_part, end_part, done_part};
 ghost use Rattle.record_scan.specs.Places.{index_of, node_of};
+ghost use Rattle.model.specs.Sizes.{index_limit};
 
 use bit_fields::bits::{Fault, holds};
 use record_fields::fields::{
@@ -34,7 +35,7 @@ pub trait Item {
     fn pass(s: &[u8], at: usize, least: u64) -> Result<Passed, Fault>
         requires { at ≤ 2 ^ 32 }
         ensures reads { keyed key (read least s.now at) ≡ scan_part result }
-        ensures near { IfOk result (λ p. (p.key ≤ 256) × (p.next ≤ at + size)) };
+        ensures near { IfOk result (λ p. (p.key ≤ index_limit) × (p.next ≤ at + size)) };
 }
 
 // An entry: index, term, content length, content.

@@ -10,7 +10,7 @@ use native.Mathlib.Omega.{arith}
 use native.Mathlib.Bridge.{le_prop}
 use borrow.Author.Tests.{le-leb}
 use lib.Dec.{leb, ltb}
-use Rattle.model.specs.Sizes.{Bytes}
+use Rattle.model.specs.Sizes.{Bytes, index_limit}
 use Rattle.model.specs.Refusal.{outOfLimit, notAbove}
 use Rattle.model.specs.Record.{Shown}
 use Rattle.model.specs.Reading.{Part, got, fault, require, limited, entry_index, shown, many}
@@ -28,7 +28,7 @@ module _ (s : Bytes) where
   index_low : (least k : ℕ) {i j : ℕ} → entry_index least s k ≡ got i j → entry_index 0 s k ≡ got i j
   unfolding entry_index
   index_low least k {i} {j} e =
-      let g = went s (limited 10 256 s k) _ e in
+      let g = went s (limited 10 index_limit s k) _ e in
       let h = went s (require (ltb 0 g.value) outOfLimit g.value s g.place) _ g.rest in
       let q = required (leb least h.value) notAbove h.value h.place h.rest in
       rw (g.first, h.first) (cond_true (leb 0 h.value) _ _ (le-leb 0 h.value (omega arith)) ∙ (λ d. got (q.same d) (q.next d)))

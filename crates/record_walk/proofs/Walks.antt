@@ -7,7 +7,7 @@ use native.Mathlib.Omega.{arith}
 use lib.ListN.{length, take, replicate, length-append, length-replicate}
 use lib.Seq.{take_at}
 use Rattle.std.specs.Prelude.{Some}
-use Rattle.model.specs.Sizes.{Bytes}
+use Rattle.model.specs.Sizes.{Bytes, content_limit}
 use Rattle.model.specs.Record.{last_from}
 use Rattle.model.specs.Reading.{shown, row}
 use Rattle.record_scan.specs.Places.{index_of, node_of, shown_at, next_at, entries_at, index_at, length_at, content_at, row_at, after_row, rows_at, Walk, RowWalk}
@@ -65,11 +65,11 @@ entry_taken same {k} took =
 pub entry_content : (s : Bytes) (k : ℕ) → take (length_at s k) (shown_entry s k).content ≡ (shown_at s k).entry.content
 entry_content s k = take_at (content_at s k) _ (length_at s k) (bytes_length s (k + 48) (length_at s k))
 
--- the array has 32 bytes
-pub entry_length : (s : Bytes) (k : ℕ) → length_at s k ≤ 32 → length (shown_entry s k).content ≡ 32
+-- the array is as long as the longest content
+pub entry_length : (s : Bytes) (k : ℕ) → length_at s k ≤ content_limit → length (shown_entry s k).content ≡ content_limit
 entry_length s k h =
     let n : ℕ = length_at s k in
-    length-append (content_at s k) (replicate (32 - n) 0) ∙ omega (arith, bytes_length s (k + 48) n, length-replicate {A = ℕ} (32 - n) 0)
+    length-append (content_at s k) (replicate (content_limit - n) 0) ∙ omega (arith, bytes_length s (k + 48) n, length-replicate {A = ℕ} (content_limit - n) 0)
 
 -- the same for rows
 

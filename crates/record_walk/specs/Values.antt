@@ -2,16 +2,16 @@
 -- Assumes nothing.
 use Rattle.std.specs.Prelude.{ℕ, ◌+◌, ◌-◌, ◌*◌, ◌^◌, ◌≤◌, List, ◌++◌, eqb, length, replicate, suc, ◌≡◌, Option, Some, None}
 use Rattle.std.specs.Bool.{then_some}
-use Rattle.model.specs.Sizes.{Bytes}
+use Rattle.model.specs.Sizes.{Bytes, content_limit}
 use Rattle.model.specs.Reading.{field_at}
 use Rattle.record_walk.specs.declared.walk.ShownEntry.{ShownEntry}
 use Rattle.record_walk.specs.declared.walk.Configuration.{Configuration}
 use Rattle.record_walk.specs.declared.walk.Row.{Row}
 use Rattle.record_scan.specs.Places.{index_at, term_at, length_at, content_at, next_at, after_row}
 
--- n bytes, and zeros up to 32
+-- n bytes, and zeros up to the most that an entry has
 abbrev pub padded : List ℕ → ℕ → List ℕ
-padded bs n = bs ++ replicate (32 - n) 0
+padded bs n = bs ++ replicate (content_limit - n) 0
 
 -- the entry at bit k
 abbrev pub shown_entry : Bytes → ℕ → ShownEntry
@@ -27,7 +27,7 @@ shown_entry s k =
 -- an entry stands at bit k: what a walk knows of each of its entries
 pub record Here (s : Bytes) (k : ℕ) : Type 0 where
   pub near : k ≤ 2 ^ 32
-  pub short : length_at s k ≤ 32
+  pub short : length_at s k ≤ content_limit
   pub whole : next_at s k ≤ 8 * length s
 
 -- the configuration at bit k, where one is present

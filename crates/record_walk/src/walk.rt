@@ -6,9 +6,10 @@ ghost use Rattle.model.specs.Record as model;
 ghost use Rattle.record_scan.specs.Places as places;
 ghost use Rattle.record_walk.specs.Values.{padded, shown_entry, configuration_value, row_value, Here, RowHere, EntryTaken};
 ghost use Rattle.std.specs.Iterator.{at_most};
+ghost use Rattle.model.specs.Sizes.{content_limit};
 
 use bit_fields::bits::bits_at;
-use units::{LogIndex, NodeId, Term};
+use units::{CONTENT_LIMIT, LogIndex, NodeId, Term};
 
 // Where a view's entries begin, in bits.
 pub const FIRST_ENTRY: usize = 20;
@@ -24,14 +25,14 @@ pub struct ShownEntry {
     pub index: LogIndex,
     pub term: Term,
     pub length: usize,
-    pub content: [u8; 32],
+    pub content: [u8; CONTENT_LIMIT],
     pub next: usize,
 }
 
 impl ShownEntry {
     // The bytes that count.
     pub fn content(&self) -> &[u8]
-        requires { self.now.length ≤ 32 }
+        requires { self.now.length ≤ content_limit }
         ensures { result.now ≡ take self.now.length self.now.content }
     {
         &self.content[..self.length]
@@ -60,14 +61,14 @@ pub struct Row {
 // The n bytes from bit `at` on, each through a window of two bytes, and zeros after them. Where `at` begins a byte, both
 // bytes of the window are that one.
 #[tactic(auto, unfolding(model::specs::Reading::bytes_at))]
-fn content_at(s: &[u8], at: usize, n: usize) -> [u8; 32]
-    requires { (n ≤ 32) × (at ≤ 2 ^ 33) × (at + 8 * n ≤ 8 * length s.now) }
+fn content_at(s: &[u8], at: usize, n: usize) -> [u8; CONTENT_LIMIT]
+    requires { (n ≤ content_limit) × (at ≤ 2 ^ 33) × (at + 8 * n ≤ 8 * length s.now) }
     ensures { result ≡ padded (reading.bytes_at s.now at n) n }
 {
     let first = at / 8;
     let second = (at + 7) / 8;
     let shift = 8 - at % 8;
-    let mut out = [0u8; 32];
+    let mut out = [0u8; CONTENT_LIMIT];
     for i in 0..n {
         let window = u16::from(s[first + i]) * 256 + u16::from(s[second + i]);
         out[i] = ((window >> shift) % 256) as u8;

@@ -7,7 +7,7 @@ use mathlib.Core.Bool.{Bool, true, false, cond}
 use mathlib.Core.List.{List}
 use lib.Dec.{eqb, leb, ltb}
 use lib.ListN.{length}
-use Rattle.model.specs.Sizes.{Bytes}
+use Rattle.model.specs.Sizes.{Bytes, index_limit}
 use Rattle.model.specs.Refusal.{Refusal, bitsMissing, filling, outOfLimit, notAbove}
 use Rattle.model.specs.Record.{Shown, Row, Record, view, commit, terms, election, check, rows}
 use Rattle.model.specs.Reading.{Reading, readable, unreadable, Part, got, fault, Reader, onward, field_at, bytes_at, field, limited, yes_no, content, governed, entry_index, row_node, many, shown, configuration, row, view_fields, commit_fields, terms_fields, election_fields, rows_fields, fields_of, filled, finish, record_fields, read}
@@ -70,7 +70,7 @@ module _ (s : Bytes) where
   entry_index_plain : (least k : ℕ) → Plain (entry_index least s k)
   unfolding entry_index
   entry_index_plain least k =
-      onward_plain s (limited 10 256 s k) _ (limited_plain 10 256 k) (λ i j.
+      onward_plain s (limited 10 index_limit s k) _ (limited_plain 10 index_limit k) (λ i j.
       onward_plain s (cond (ltb 0 i) (got i j) (fault outOfLimit)) _ (test_plain (ltb 0 i) i j outOfLimit refl) (λ a l. test_plain (leb least a) a l notAbove refl))
 
   row_node_plain : (least k : ℕ) → Plain (row_node least s k)
@@ -99,16 +99,16 @@ module _ (s : Bytes) where
   unfolding configuration
   configuration_plain k =
       onward_plain s (yes_no s k) _ (yes_no_plain k) (λ p k₁.
-      onward_plain s (governed p 10 256 s k₁) _ (governed_plain p 10 256 k₁) (λ i k₂.
+      onward_plain s (governed p 10 index_limit s k₁) _ (governed_plain p 10 index_limit k₁) (λ i k₂.
       onward_plain s (governed p 32 _ s k₂) _ (governed_plain p 32 _ k₂) (λ d k₃. got_plain _ _)))
 
   row_plain : (least k : ℕ) → Plain (row least s k)
   unfolding row
   row_plain least k =
       onward_plain s (row_node least s k) _ (row_node_plain least k) (λ n k₁.
-      onward_plain s (limited 10 256 s k₁) _ (limited_plain 10 256 k₁) (λ f k₂.
-      onward_plain s (limited 10 256 s k₂) _ (limited_plain 10 256 k₂) (λ c k₃.
-      onward_plain s (limited 10 256 s k₃) _ (limited_plain 10 256 k₃) (λ l k₄.
+      onward_plain s (limited 10 index_limit s k₁) _ (limited_plain 10 index_limit k₁) (λ f k₂.
+      onward_plain s (limited 10 index_limit s k₂) _ (limited_plain 10 index_limit k₂) (λ c k₃.
+      onward_plain s (limited 10 index_limit s k₃) _ (limited_plain 10 index_limit k₃) (λ l k₄.
       onward_plain s (configuration s k₄) _ (configuration_plain k₄) (λ fc k₅.
       onward_plain s (configuration s k₅) _ (configuration_plain k₅) (λ ac k₆. got_plain _ _))))))
 
@@ -118,20 +118,20 @@ module _ (s : Bytes) where
   unfolding view_fields
   view_plain k =
       onward_plain s (field 6 s k) _ (field_plain 6 k) (λ n k₁.
-      onward_plain s (limited 10 256 s k₁) _ (limited_plain 10 256 k₁) (λ c k₂.
+      onward_plain s (limited 10 index_limit s k₁) _ (limited_plain 10 index_limit k₁) (λ c k₂.
       onward_plain s (many shown _ 0 c s k₂) _ (many_plain shown _ shown_plain c 0 k₂) (λ es k₃. got_plain _ _)))
 
   commit_plain : (k : ℕ) → Plain (commit_fields s k)
   unfolding commit_fields
   commit_plain k =
       onward_plain s (field 6 s k) _ (field_plain 6 k) (λ n k₁.
-      onward_plain s (limited 10 256 s k₁) _ (limited_plain 10 256 k₁) (λ i k₂. got_plain _ _))
+      onward_plain s (limited 10 index_limit s k₁) _ (limited_plain 10 index_limit k₁) (λ i k₂. got_plain _ _))
 
   terms_plain : (k : ℕ) → Plain (terms_fields s k)
   unfolding terms_fields
   terms_plain k =
-      onward_plain s (limited 10 256 s k) _ (limited_plain 10 256 k) (λ o k₁.
-      onward_plain s (limited 10 256 s k₁) _ (limited_plain 10 256 k₁) (λ n k₂.
+      onward_plain s (limited 10 index_limit s k) _ (limited_plain 10 index_limit k) (λ o k₁.
+      onward_plain s (limited 10 index_limit s k₁) _ (limited_plain 10 index_limit k₁) (λ n k₂.
       onward_plain s (field 32 s k₂) _ (field_plain 32 k₂) (λ t k₃. got_plain _ _)))
 
   election_plain : (k : ℕ) → Plain (election_fields s k)
@@ -140,12 +140,12 @@ module _ (s : Bytes) where
       onward_plain s (field 6 s k) _ (field_plain 6 k) (λ l k₁.
       onward_plain s (field 32 s k₁) _ (field_plain 32 k₁) (λ t k₂.
       onward_plain s (yes_no s k₂) _ (yes_no_plain k₂) (λ p k₃.
-      onward_plain s (governed p 10 256 s k₃) _ (governed_plain p 10 256 k₃) (λ n k₄. got_plain _ _))))
+      onward_plain s (governed p 10 index_limit s k₃) _ (governed_plain p 10 index_limit k₃) (λ n k₄. got_plain _ _))))
 
   rows_plain : (k : ℕ) → Plain (rows_fields s k)
   unfolding rows_fields
   rows_plain k =
-      onward_plain s (limited 10 256 s k) _ (limited_plain 10 256 k) (λ c k₁.
+      onward_plain s (limited 10 index_limit s k) _ (limited_plain 10 index_limit k) (λ c k₁.
       onward_plain s (many row _ 0 c s k₁) _ (many_plain row _ row_plain c 0 k₁) (λ rs k₂. got_plain _ _))
 
   pick_plain : (b : Bool) (f g : Reader Record) (k : ℕ) → Plain (f s k) → Plain (g s k) → Plain (cond b f g s k)

@@ -6,7 +6,7 @@ use Rattle.std.specs.Bool.{then_some}
 use native.Mathlib.Omega.{arith}
 use mathlib.Core.Path.{◌≡◌, refl, ap, sym, ◌∙◌}
 use mathlib.Core.Bool.{Bool, true, false, cond}
-use Rattle.model.specs.Sizes.{Bytes}
+use Rattle.model.specs.Sizes.{Bytes, index_limit}
 use Rattle.model.specs.Refusal.{filling}
 use Rattle.model.specs.Record.{Record, election}
 use Rattle.model.specs.Reading.{Reader, Part, field, limited, governed, yes_no, readable, unreadable, got, filled, finish}
@@ -60,26 +60,26 @@ module _ (s : Bytes) (k : ℕ) {b : Bytes} {j : ℕ} where
       → field 6 s k ≡ unit_part (λ n. n.0) q (k + 6)
   node_taken = taken (field 6) (unit_part (λ n. n.0)) 6
 
-  pub index_taken : {r q : Result LogIndex Fault} → limited 10 256 b j ≡ unit_part (λ i. i.0) r (j + 10) → r ≡ q → b ≡ s → j ≡ k
-      → limited 10 256 s k ≡ unit_part (λ i. i.0) q (k + 10)
-  index_taken = taken (limited 10 256) (unit_part (λ i. i.0)) 10
+  pub index_taken : {r q : Result LogIndex Fault} → limited 10 index_limit b j ≡ unit_part (λ i. i.0) r (j + 10) → r ≡ q → b ≡ s → j ≡ k
+      → limited 10 index_limit s k ≡ unit_part (λ i. i.0) q (k + 10)
+  index_taken = taken (limited 10 index_limit) (unit_part (λ i. i.0)) 10
 
   pub term_taken : {r q : Result Term Fault} → field 32 b j ≡ unit_part (λ t. t.0) r (j + 32) → r ≡ q → b ≡ s → j ≡ k
       → field 32 s k ≡ unit_part (λ t. t.0) q (k + 32)
   term_taken = taken (field 32) (unit_part (λ t. t.0)) 32
 
-  pub count_taken : {r q : Result ℕ Fault} → limited 10 256 b j ≡ part_of r (j + 10) → r ≡ q → b ≡ s → j ≡ k → limited 10 256 s k ≡ part_of q (k + 10)
-  count_taken = taken (limited 10 256) part_of 10
+  pub count_taken : {r q : Result ℕ Fault} → limited 10 index_limit b j ≡ part_of r (j + 10) → r ≡ q → b ≡ s → j ≡ k → limited 10 index_limit s k ≡ part_of q (k + 10)
+  count_taken = taken (limited 10 index_limit) part_of 10
 
   pub yes_no_taken : {r q : Result Bool Fault} → yes_no b j ≡ part_of r (j + 1) → r ≡ q → b ≡ s → j ≡ k → yes_no s k ≡ part_of q (k + 1)
   yes_no_taken = taken yes_no part_of 1
 
-  pub length_taken : (p : Bool) {r q : Result ℕ Fault} → governed p 10 256 b j ≡ part_of r (j + 10) → r ≡ q → b ≡ s → j ≡ k
-      → governed p 10 256 s k ≡ part_of q (k + 10)
-  length_taken p = taken (governed p 10 256) part_of 10
+  pub length_taken : (p : Bool) {r q : Result ℕ Fault} → governed p 10 index_limit b j ≡ part_of r (j + 10) → r ≡ q → b ≡ s → j ≡ k
+      → governed p 10 index_limit s k ≡ part_of q (k + 10)
+  length_taken p = taken (governed p 10 index_limit) part_of 10
 
 -- an absent log has length zero, so an Option keeps both
-pub kept_length : (l t : ℕ) (p : Bool) (n : ℕ) → n ≤ cond p 256 0 → (o : Option ℕ) → o ≡ then_some p n
+pub kept_length : (l t : ℕ) (p : Bool) (n : ℕ) → n ≤ cond p index_limit 0 → (o : Option ℕ) → o ≡ then_some p n
     → readable (election l t p n) ≡ readable (election l t (is_some o) (unwrap_or o 0))
 kept_length l t true n h o e = sym (ap (λ (x : Option ℕ). readable (election l t (is_some x) (unwrap_or x 0))) e)
 kept_length l t false n h o e =

@@ -12,10 +12,10 @@ use native.Mathlib.Omega.{arith}
 use borrow.Author.Tests.{eqb-true}
 use lib.Dec.{eqb}
 use lib.ListN.{length}
-use Rattle.model.specs.Sizes.{Bytes}
 use Rattle.model.specs.Refusal.{filling}
 use Rattle.model.specs.Record.{Shown, Row, Record, view, commit, terms, election, check, rows}
 use Rattle.model.specs.Reading.{field_at, readable, unreadable, Part, got, fault, Reader, field, limited, governed, yes_no, many, shown, row, view_fields, commit_fields, terms_fields, election_fields, rows_fields, fields_of, filled, finish, record_fields, read}
+use Rattle.model.specs.Sizes.{Bytes, index_limit}
 use Rattle.units.specs.declared.NodeId.{NodeId}
 use Rattle.records.specs.declared.head.Head.{Head}
 use Rattle.records.specs.Heads.{reading_of, head_of, Within, Told}
@@ -43,7 +43,7 @@ module _ (s : Bytes) (k : ℕ) {r : Record} {j : ℕ} where
   unfolding view_fields
   view_kind e =
       let g₁ = went s (field 6 s k) _ e in
-      let g₂ = went s (limited 10 256 s g₁.place) _ g₁.rest in
+      let g₂ = went s (limited 10 index_limit s g₁.place) _ g₁.rest in
       let g₃ = went s (many shown index_of 0 g₂.value s g₂.place) _ g₂.rest in
       ap kind_of (got_same g₃.rest).0
 
@@ -51,14 +51,14 @@ module _ (s : Bytes) (k : ℕ) {r : Record} {j : ℕ} where
   unfolding commit_fields
   commit_kind e =
       let g₁ = went s (field 6 s k) _ e in
-      let g₂ = went s (limited 10 256 s g₁.place) _ g₁.rest in
+      let g₂ = went s (limited 10 index_limit s g₁.place) _ g₁.rest in
       ap kind_of (got_same g₂.rest).0
 
   terms_kind : terms_fields s k ≡ got r j → kind_of r ≡ 3
   unfolding terms_fields
   terms_kind e =
-      let g₁ = went s (limited 10 256 s k) _ e in
-      let g₂ = went s (limited 10 256 s g₁.place) _ g₁.rest in
+      let g₁ = went s (limited 10 index_limit s k) _ e in
+      let g₂ = went s (limited 10 index_limit s g₁.place) _ g₁.rest in
       let g₃ = went s (field 32 s g₂.place) _ g₂.rest in
       ap kind_of (got_same g₃.rest).0
 
@@ -68,7 +68,7 @@ module _ (s : Bytes) (k : ℕ) {r : Record} {j : ℕ} where
       let g₁ = went s (field 6 s k) _ e in
       let g₂ = went s (field 32 s g₁.place) _ g₁.rest in
       let g₃ = went s (yes_no s g₂.place) _ g₂.rest in
-      let g₄ = went s (governed g₃.value 10 256 s g₃.place) _ g₃.rest in
+      let g₄ = went s (governed g₃.value 10 index_limit s g₃.place) _ g₃.rest in
       ap kind_of (got_same g₄.rest).0
 
   check_kind : ◌≡◌ {A = Part Record} (got check k) (got r j) → kind_of r ≡ 5
@@ -77,7 +77,7 @@ module _ (s : Bytes) (k : ℕ) {r : Record} {j : ℕ} where
   rows_kind : rows_fields s k ≡ got r j → kind_of r ≡ 6
   unfolding rows_fields
   rows_kind e =
-      let g₁ = went s (limited 10 256 s k) _ e in
+      let g₁ = went s (limited 10 index_limit s k) _ e in
       let g₂ = went s (many row node_of 0 g₁.value s g₁.place) _ g₁.rest in
       ap kind_of (got_same g₂.rest).0
 
@@ -129,7 +129,7 @@ whole s r e =
 -- a readable view: its node and its entries stand in the bytes, and the entries can be walked
 pub record ViewRead (s : Bytes) (n : ℕ) (es : List Shown) : Type 0 where
   pub node : n ≡ field_at s 4 6
-  pub count : length es ≤ 256
+  pub count : length es ≤ index_limit
   pub entries : es ≡ entries_at s first_entry (length es)
   pub walk : Walk s first_entry (length es)
 
@@ -139,8 +139,8 @@ view_read s n es e =
     let w = whole s (view n es) e in
     let g₁ = went s (field 6 s 4) _ w.fields in
     let v₁ = field_is s 4 6 g₁.first in
-    let g₂ = went s (limited 10 256 s g₁.place) _ g₁.rest in
-    let v₂ = limited_is s g₁.place 10 256 g₂.first in
+    let g₂ = went s (limited 10 index_limit s g₁.place) _ g₁.rest in
+    let v₂ = limited_is s g₁.place 10 index_limit g₂.first in
     let g₃ = went s (many shown index_of 0 g₂.value s g₂.place) _ g₂.rest in
     let r = (got_same g₃.rest).0 in
     let p : g₂.place ≡ first_entry = omega (arith, v₁.next, v₂.field.next) in
@@ -163,7 +163,7 @@ view_read s n es e =
 
 -- readable rows
 pub record RowsRead (s : Bytes) (rs : List Row) : Type 0 where
-  pub count : length rs ≤ 256
+  pub count : length rs ≤ index_limit
   pub values : rs ≡ rows_at s first_row (length rs)
   pub walk : RowWalk s first_row (length rs)
 
@@ -171,8 +171,8 @@ pub rows_read : (s : Bytes) (rs : List Row) → read s ≡ readable (rows rs) �
 unfolding fields_of rows_fields
 rows_read s rs e =
     let w = whole s (rows rs) e in
-    let g₁ = went s (limited 10 256 s 4) _ w.fields in
-    let v₁ = limited_is s 4 10 256 g₁.first in
+    let g₁ = went s (limited 10 index_limit s 4) _ w.fields in
+    let v₁ = limited_is s 4 10 index_limit g₁.first in
     let g₂ = went s (many row node_of 0 g₁.value s g₁.place) _ g₁.rest in
     let r = (got_same g₂.rest).0 in
     let p : g₁.place ≡ first_row = omega (arith, v₁.field.next) in
@@ -190,16 +190,16 @@ rows_read s rs e =
     rows_of q = cc
 
 -- a readable election: an absent log has length zero
-pub election_read : (s : Bytes) (l t : ℕ) (p : Bool) (n : ℕ) → read s ≡ readable (election l t p n) → n ≤ cond p 256 0
+pub election_read : (s : Bytes) (l t : ℕ) (p : Bool) (n : ℕ) → read s ≡ readable (election l t p n) → n ≤ cond p index_limit 0
 unfolding fields_of election_fields governed
 election_read s l t p n e =
     let w = whole s (election l t p n) e in
     let g₁ = went s (field 6 s 4) _ w.fields in
     let g₂ = went s (field 32 s g₁.place) _ g₁.rest in
     let g₃ = went s (yes_no s g₂.place) _ g₂.rest in
-    let g₄ = went s (governed g₃.value 10 256 s g₃.place) _ g₃.rest in
+    let g₄ = went s (governed g₃.value 10 index_limit s g₃.place) _ g₃.rest in
     let r = same (got_same g₄.rest).0 in
-    subst (λ (q : Bool). n ≤ cond q 256 0) r.0 (omega (arith, r.1, (limited_is s g₃.place 10 (cond g₃.value 256 0) g₄.first).within))
+    subst (λ (q : Bool). n ≤ cond q index_limit 0) r.0 (omega (arith, r.1, (limited_is s g₃.place 10 (cond g₃.value index_limit 0) g₄.first).within))
   where
     same : {a b x y u v : ℕ} {p q : Bool} → ◌≡◌ {A = Record} (election a x p u) (election b y q v) → (q ≡ p) × (u ≡ v)
     same q = (cc, cc)
@@ -214,20 +214,20 @@ limits s (Ok (Head.View n c)) e =
 limits s (Ok (Head.Commit n i)) e =
     let w = whole s (commit n.0 i.0) e in
     let g₁ = went s (field 6 s 4) _ w.fields in
-    let g₂ = went s (limited 10 256 s g₁.place) _ g₁.rest in
+    let g₂ = went s (limited 10 index_limit s g₁.place) _ g₁.rest in
     let r = commit_same (got_same g₂.rest).0 in
-    (omega (arith, r.0, field_below s 4 6 g₁.first), omega (arith, r.1, (limited_is s g₁.place 10 256 g₂.first).within))
+    (omega (arith, r.0, field_below s 4 6 g₁.first), omega (arith, r.1, (limited_is s g₁.place 10 index_limit g₂.first).within))
   where
     commit_same : {a b x y : ℕ} → ◌≡◌ {A = Record} (commit a x) (commit b y) → (a ≡ b) × (x ≡ y)
     commit_same q = (cc, cc)
 limits s (Ok (Head.Terms x)) e =
     let w = whole s (terms x.old.0 x.new.0 x.term.0) e in
-    let g₁ = went s (limited 10 256 s 4) _ w.fields in
-    let g₂ = went s (limited 10 256 s g₁.place) _ g₁.rest in
+    let g₁ = went s (limited 10 index_limit s 4) _ w.fields in
+    let g₂ = went s (limited 10 index_limit s g₁.place) _ g₁.rest in
     let g₃ = went s (field 32 s g₂.place) _ g₂.rest in
     let r = terms_same (got_same g₃.rest).0 in (
-      omega (arith, r.0, (limited_is s 4 10 256 g₁.first).within),
-      omega (arith, r.1, (limited_is s g₁.place 10 256 g₂.first).within),
+      omega (arith, r.0, (limited_is s 4 10 index_limit g₁.first).within),
+      omega (arith, r.1, (limited_is s g₁.place 10 index_limit g₂.first).within),
       omega (arith, r.2, field_below s g₂.place 32 g₃.first),
     )
   where
@@ -238,11 +238,11 @@ limits s (Ok (Head.Election x)) e =
     let g₁ = went s (field 6 s 4) _ w.fields in
     let g₂ = went s (field 32 s g₁.place) _ g₁.rest in
     let g₃ = went s (yes_no s g₂.place) _ g₂.rest in
-    let g₄ = went s (governed g₃.value 10 256 s g₃.place) _ g₃.rest in
+    let g₄ = went s (governed g₃.value 10 index_limit s g₃.place) _ g₃.rest in
     let r = election_same (got_same g₄.rest).0 in (
       omega (arith, r.0, field_below s 4 6 g₁.first),
       omega (arith, r.1, field_below s g₁.place 32 g₂.first),
-      omega (arith, r.2, governed_within s g₃.place g₃.value 10 256 g₄.first),
+      omega (arith, r.2, governed_within s g₃.place g₃.value 10 index_limit g₄.first),
     )
   where
     election_same : {a b x y u v : ℕ} {p q : Bool} → ◌≡◌ {A = Record} (election a x p u) (election b y q v) → (a ≡ b) × (x ≡ y) × (u ≡ v)

@@ -2,10 +2,10 @@
 -- Assumes nothing.
 use Rattle.std.specs.Prelude.{ℕ, ◌^◌, ◌≤◌, ◌<◌, ◌≡◌, cond, length, is_some, unwrap_or, Result, Ok, Err}
 use Rattle.std.specs.Bool.{then_some}
-use Rattle.model.specs.Sizes.{Bytes}
 use Rattle.model.specs.Refusal.{Refusal, unknownKind, bitsMissing, filling, outOfLimit, notAbove, prefixesFull, findingsFull, old_exceeds_new, lengthExceedsFront, certificatesFull, numberTaken}
 use Rattle.model.specs.Record.{Record, view, commit, terms, election, check, rows}
 use Rattle.model.specs.Reading.{Reader, Reading, readable, unreadable, filled, finish, read}
+use Rattle.model.specs.Sizes.{Bytes, node_count, index_limit}
 use Rattle.bit_fields.specs.declared.bits.Fault.{Fault}
 use Rattle.records.specs.declared.head.Head.{Head}
 use Rattle.bit_fields.specs.Answers.{refusal_of}
@@ -55,12 +55,12 @@ head_of (unreadable r) = Err (fault_of r)
 
 -- the fields of an answer are within document 01's limits
 abbrev pub Within : Result Head Fault → Type 0
-Within (Ok (Head.View n c)) = (n.0 < 64) × (c ≤ 256)
-Within (Ok (Head.Commit n i)) = (n.0 < 64) × (i.0 ≤ 256)
-Within (Ok (Head.Terms x)) = (x.old.0 ≤ 256) × (x.new.0 ≤ 256) × (x.term.0 < 2 ^ 32)
-Within (Ok (Head.Election x)) = (x.leader.0 < 64) × (x.term.0 < 2 ^ 32) × (unwrap_or x.length 0 ≤ 256)
+Within (Ok (Head.View n c)) = (n.0 < node_count) × (c ≤ index_limit)
+Within (Ok (Head.Commit n i)) = (n.0 < node_count) × (i.0 ≤ index_limit)
+Within (Ok (Head.Terms x)) = (x.old.0 ≤ index_limit) × (x.new.0 ≤ index_limit) × (x.term.0 < 2 ^ 32)
+Within (Ok (Head.Election x)) = (x.leader.0 < node_count) × (x.term.0 < 2 ^ 32) × (unwrap_or x.length 0 ≤ index_limit)
 Within (Ok Head.Check) = Unit {0}
-Within (Ok (Head.Rows c)) = c ≤ 256
+Within (Ok (Head.Rows c)) = c ≤ index_limit
 Within (Err f) = Unit {0}
 
 -- what `read` promises of its answer r to any bytes: it is the model's, it stands for just what the model reads, and its

@@ -5,13 +5,14 @@ ghost use Rattle.std.specs.Prelude.{◌≡◌, ◌≤◌, take};
 ghost use Rattle.model.specs.Reading as reading;
 ghost use Rattle.record_scan.specs.Places as places;
 ghost use Rattle.records_bench.specs.Used.{sum_of, contents_of, used_of, count_of};
+ghost use Rattle.model.specs.Sizes.{content_limit, index_limit};
 
 use record_walk::walk::{Entries, FIRST_ENTRY, ShownEntry};
 use records::head::{Head, read};
 
 // The sum of the bytes of an entry's content.
 fn content_sum(e: &ShownEntry) -> u64
-    requires { e.now.length ≤ 32 }
+    requires { e.now.length ≤ content_limit }
     ensures { (result ≡ sum_of (take e.now.length e.now.content)) × (result ≤ 8160) }
 {
     let mut sum: u64 = 0;
@@ -23,7 +24,7 @@ fn content_sum(e: &ShownEntry) -> u64
 
 // The sum of the content bytes of a view's entries.
 fn walk(s: &[u8], count: usize) -> u64
-    requires { (count ≤ 256) × places.Walk s.now places.first_entry count }
+    requires { (count ≤ index_limit) × places.Walk s.now places.first_entry count }
     ensures { result ≡ contents_of (places.entries_at s.now places.first_entry count) }
 {
     let entries = Entries {

@@ -4,6 +4,7 @@ ghost use Rattle.storage_bytes.specs.Lists.{every};
 ghost use Rattle.storage.specs.Tables.{finding_rows};
 ghost use Rattle.storage.specs.Rules.{finding_right};
 ghost use Rattle.table_rows.specs.Values.{finding_value};
+ghost use Rattle.model.specs.Sizes.{finding_limit};
 
 use storage::rows::all_rows;
 use storage_bytes::layout::Findings;
@@ -29,7 +30,7 @@ fn finding_right(f: Found) -> bool
 
 // The storage rules of every one of m rows.
 pub fn findings_right(findings: &Findings, m: usize) -> bool
-    requires { m ≤ 128 }
+    requires { m ≤ finding_limit }
     ensures { result ≡ every finding_right (finding_rows findings.now m) }
 {
     all_rows(findings, m, finding_right)

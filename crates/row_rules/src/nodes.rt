@@ -8,7 +8,7 @@ ghost use Rattle.table_rows.specs.Values.{node_value};
 use storage::rows::all_rows;
 use storage_bytes::layout::Nodes;
 use table_rows::nodes::Node;
-use units::LogIndex;
+use units::{LogIndex, NODE_COUNT};
 
 // The storage rules of one row, where n prefixes are stored.
 #[tactic(auto, unfolding(storage::specs::Rules::node_right))]
@@ -29,5 +29,5 @@ fn node_right(n: usize, x: Node) -> bool
 pub fn nodes_right(nodes: &Nodes, n: usize) -> bool
     ensures { result ≡ every (node_right n) (node_rows nodes.now) }
 {
-    all_rows(nodes, 64, |x: Node| node_right(n, x))
+    all_rows(nodes, NODE_COUNT, |x: Node| node_right(n, x))
 }

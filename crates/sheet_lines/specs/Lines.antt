@@ -1,9 +1,9 @@
 -- Document 01, "The printed sheet": the bytes of each line.
 -- Assumes nothing.
-use Rattle.std.specs.Prelude.{ℕ, cond, [], ◌∷◌, ◌++◌, eqb}
+use Rattle.std.specs.Prelude.{ℕ, ◌+◌, cond, [], ◌∷◌, ◌++◌, eqb}
 use Rattle.model.specs.Sizes.{Bytes}
 use Rattle.answers.specs.declared.numbers.Reply.{Reply}
-use Rattle.sheet_numbers.specs.Decimal.{decimal}
+use Rattle.sheet_numbers.specs.Decimal.{decimal, digits_room}
 
 -- a number behind a space
 abbrev pub field : ℕ → Bytes
@@ -15,6 +15,35 @@ line_end = 10 ∷ []
 -- " ok", or the refusal behind a space
 abbrev pub outcome : ℕ → Bytes
 outcome refusal = cond (eqb refusal 0) (32 ∷ 111 ∷ 107 ∷ []) (field refusal)
+
+-- how many bytes each takes at most: a number behind a space, the last number of a line with its end, and the last two
+abbrev pub field_room : ℕ
+field_room = 1 + digits_room
+
+abbrev pub last_room : ℕ
+last_room = field_room + 1
+
+abbrev pub pair_room : ℕ
+pair_room = field_room + last_room
+
+-- a record's line, and those of the lists: the word, and its numbers
+abbrev pub record_room : ℕ
+record_room = digits_room + field_room + field_room + pair_room
+
+abbrev pub finding_room : ℕ
+finding_room = 4 + digits_room + field_room + pair_room
+
+abbrev pub leader_room : ℕ
+leader_room = 6 + pair_room
+
+abbrev pub unseen_room : ℕ
+unseen_room = 6 + pair_room
+
+abbrev pub unknown_room : ℕ
+unknown_room = 7 + last_room
+
+abbrev pub committed_room : ℕ
+committed_room = 9 + pair_room
 
 -- number, kind, `ok` or refusal, value, node
 unfoldable pub record_line : ℕ → ℕ → Reply → Bytes

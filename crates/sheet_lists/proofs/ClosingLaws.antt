@@ -33,8 +33,8 @@ use Rattle.units.specs.declared.LogIndex.{LogIndex}
 use Rattle.index_lists.specs.Unknown.{unknown_answer}
 use Rattle.sheet_numbers.specs.Filled.{Filled}
 use Rattle.sheet_numbers.specs.declared.decimal.Sheet.{Sheet}
-use Rattle.sheet_lines.specs.Lines.{finding_line, leader_line, unseen_line, unknown_line, committed_line}
-use Rattle.sheet_lists.specs.Closing.{lines_of, joined, of_finding, of_leader, of_unseen, closing, closing_of}
+use Rattle.sheet_lines.specs.Lines.{finding_line, leader_line, unseen_line, unknown_line, committed_line, committed_room}
+use Rattle.sheet_lists.specs.Closing.{lines_of, joined, of_finding, of_leader, of_unseen, closing, closing_of, longest_list, closing_room}
 use Rattle.sheet_lists.proofs.ListBounds.{findings_bound, leaders_bound, unseen_bound, unknown_bound}
 use Rattle.sheet_numbers.proofs.PutLaws.{filled_none, filled_then, filled_as}
 
@@ -51,7 +51,7 @@ pub closed_right : (b h : Bytes) (s p q r u s' : Sheet) → b ≡ h → well_for
     → Filled 12544 p (joined (map of_leader (leader_list (decode b)))) q
     → Filled 12544 q (joined (map of_unseen (unseen_list (decode b)))) r
     → Filled 7424 r (joined (map unknown_line (unknown_list (decode b)))) u
-    → (n o : ℕ) → n ≡ committed_end b → o ≡ owner_in b → Filled 52 u (committed_line n o) s' → Filled 55092 s (closing_of h) s'
+    → (n o : ℕ) → n ≡ committed_end b → o ≡ owner_in b → Filled committed_room u (committed_line n o) s' → Filled closing_room s (closing_of h) s'
 unfolding closing
 closed_right b h s p q r u s' e w fp fq fr fu n o en eo fc =
     let x = decode b in
@@ -63,7 +63,7 @@ closed_right b h s p q r u s' e w fp fq fr fu n o en eo fc =
     ∙ sym (cond_true (well_formed b) _ [] w) ∙ ap closing_of e)
     (omega arith)
 
-pub closed_broken : (h : Bytes) (s : Sheet) → well_formed h ≡ false → Filled 55092 s (closing_of h) s
+pub closed_broken : (h : Bytes) (s : Sheet) → well_formed h ≡ false → Filled closing_room s (closing_of h) s
 closed_broken h s w = filled_as (filled_none s) _ (sym (cond_false (well_formed h) (closing (decode h)) [] w)) (omega arith)
 
 -- ---- the lines of a list
@@ -93,15 +93,15 @@ module _ (w : ℕ) (ls : List Bytes) (s : Sheet) where
       filled_as (filled_then p n) _ (sym (lines_more ls k v q) ∙ ap (λ (j : ℕ). joined (take j ls)) (sym (add-one k))) (omega arith)
 
   -- a line more has room
-  pub put_room : (k : ℕ) (a : Sheet) → Filled_to w ls s k a → k < 256 → s.end + 256 * w ≤ length s.out.now → a.end + w ≤ length a.out.now
+  pub put_room : (k : ℕ) (a : Sheet) → Filled_to w ls s k a → k < longest_list → s.end + longest_list * w ≤ length s.out.now → a.end + w ≤ length a.out.now
   put_room k a p l h =
-      let m : (k + 1) * w ≤ 256 * w = mul-le-mul_right w (let q : k + 1 ≤ 256 = omega arith in q) in
+      let m : (k + 1) * w ≤ longest_list * w = mul-le-mul_right w (let q : k + 1 ≤ longest_list = omega arith in q) in
       omega (arith, p.put.next, p.put.within, p.kept, m)
 
-  pub put_all : (k : ℕ) (a : Sheet) → Filled_to w ls s k a → k ≤ 256 → length ls ≤ k → Filled (256 * w) s (joined ls) a
+  pub put_all : (k : ℕ) (a : Sheet) → Filled_to w ls s k a → k ≤ longest_list → length ls ≤ k → Filled (longest_list * w) s (joined ls) a
   put_all k a p l h = filled_as p _ (ap joined (take_all k ls h)) (mul-le-mul_right w l)
 
-  pub put_end : (k : ℕ) (a : Sheet) → Filled_to w ls s k a → k ≤ 256 → None ≡ slice_get ls k → Filled (256 * w) s (joined ls) a
+  pub put_end : (k : ℕ) (a : Sheet) → Filled_to w ls s k a → k ≤ longest_list → None ≡ slice_get ls k → Filled (longest_list * w) s (joined ls) a
   put_end k a p l e = put_all k a p l (past_last ls k e)
 
 -- the line of the n-th element is the n-th line
@@ -127,14 +127,14 @@ pub unknown_nth : (h : Bytes) (n : ℕ) → well_formed h ≡ true → {r : Opti
     → option_map (λ i. unknown_line i.0) r ≡ slice_get (map unknown_line (unknown_list (decode h))) n
 unknown_nth h n w e = ap (option_map _) (e ∙ unknown_told h (decode h) n (stand h w)) ∙ nth_line _ _ (unknown_list (decode h)) n
 
-pub findings_short : (h : Bytes) → well_formed h ≡ true → length (map of_finding (finding_list (decode h))) ≤ 256
+pub findings_short : (h : Bytes) → well_formed h ≡ true → length (map of_finding (finding_list (decode h))) ≤ longest_list
 findings_short h w = let b = findings_bound h w in omega (arith, length-map (finding_list (decode h)) of_finding)
 
-pub leaders_short : (h : Bytes) → well_formed h ≡ true → length (map of_leader (leader_list (decode h))) ≤ 256
+pub leaders_short : (h : Bytes) → well_formed h ≡ true → length (map of_leader (leader_list (decode h))) ≤ longest_list
 leaders_short h w = let b = leaders_bound h w in omega (arith, length-map (leader_list (decode h)) of_leader)
 
-pub unseen_short : (h : Bytes) → well_formed h ≡ true → length (map of_unseen (unseen_list (decode h))) ≤ 256
+pub unseen_short : (h : Bytes) → well_formed h ≡ true → length (map of_unseen (unseen_list (decode h))) ≤ longest_list
 unseen_short h w = let b = unseen_bound h w in omega (arith, length-map (unseen_list (decode h)) of_unseen)
 
-pub unknown_short : (h : Bytes) → well_formed h ≡ true → length (map unknown_line (unknown_list (decode h))) ≤ 256
+pub unknown_short : (h : Bytes) → well_formed h ≡ true → length (map unknown_line (unknown_list (decode h))) ≤ longest_list
 unknown_short h w = let b = unknown_bound h w in omega (arith, length-map (unknown_list (decode h)) unknown_line)

@@ -19,6 +19,7 @@ use Rattle.storage_bytes.proofs.ListLaws.{tabulate_length}
 use Rattle.storage.proofs.WellFormed.{formed, end_small}
 use Rattle.storage.proofs.Meanings.{end_is, findings_stored, stand}
 use Rattle.lists.proofs.Ascents.{leaders_few}
+use Rattle.sheet_lists.specs.Closing.{longest_list}
 
 insert_length : (f : Finding) (gs : List Finding) → length (insert f gs) ≡ suc (length gs)
 unfolding insert
@@ -53,11 +54,11 @@ module _ (h : Bytes) (right : well_formed h ≡ true) where
       let n = tabulate_length (finding_row (findings_part h)) 0 (word_at h 7 1) in
       omega (arith, ap length (findings_stored h (decode h) (stand h right)), (formed h right).findings)
 
-  pub findings_bound : length (finding_list (decode h)) ≤ 256
+  pub findings_bound : length (finding_list (decode h)) ≤ longest_list
   unfolding finding_list
   findings_bound = omega (arith, ordered_length (decode h).findings, findings_held)
 
-  pub leaders_bound : length (leader_list (decode h)) ≤ 256
+  pub leaders_bound : length (leader_list (decode h)) ≤ longest_list
   unfolding leader_list
   leaders_bound = omega (arith, leaders_few (decode h).findings, findings_held)
 
@@ -65,11 +66,11 @@ module _ (h : Bytes) (right : well_formed h ≡ true) where
   unfolding decode tables_in
   nodes_held = simp length-map (tabulate_length (row_of_node (nodes_part h)) 0 64)
 
-  pub unseen_bound : length (unseen_list (decode h)) ≤ 256
+  pub unseen_bound : length (unseen_list (decode h)) ≤ longest_list
   unfolding unseen_list
   unseen_bound = omega (arith, marks_length 0 (decode h).unseen, nodes_held)
 
-  pub unknown_bound : length (unknown_list (decode h)) ≤ 256
+  pub unknown_bound : length (unknown_list (decode h)) ≤ longest_list
   unfolding unknown_list
   unknown_bound =
       let s = stand h right in

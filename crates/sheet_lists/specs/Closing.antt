@@ -1,13 +1,22 @@
 -- Document 01, "The printed sheet": the lists that follow the records.
 -- Assumes nothing.
-use Rattle.std.specs.Prelude.{cond, List, [], ◌∷◌, ◌++◌}
-use Rattle.model.specs.Sizes.{Bytes}
+use Rattle.std.specs.Prelude.{ℕ, ◌+◌, ◌*◌, cond, List, [], ◌∷◌, ◌++◌}
+use Rattle.model.specs.Sizes.{Bytes, index_limit}
 use Rattle.model.specs.History.{Finding, History}
 use Rattle.model.specs.Leaders.{Leader}
 use Rattle.model.specs.Lists.{Unseen, finding_list, leader_list, unseen_list, unknown_list, committed_length, committed_owner}
 use Rattle.storage.specs.Rules.{well_formed}
 use Rattle.storage.specs.Decode.{decode}
-use Rattle.sheet_lines.specs.Lines.{finding_line, leader_line, unseen_line, unknown_line, committed_line}
+use Rattle.sheet_lines.specs.Lines.{finding_room, leader_room, unseen_room, unknown_room, committed_room, finding_line, leader_line, unseen_line, unknown_line, committed_line}
+
+-- no list is longer: there are so many indexes, and fewer findings, leaders and nodes
+abbrev pub longest_list : ℕ
+longest_list = index_limit
+
+-- how many bytes all lists take at most
+abbrev pub closing_room : ℕ
+closing_room =
+    longest_list * finding_room + longest_list * leader_room + longest_list * unseen_room + longest_list * unknown_room + committed_room
 
 unfoldable pub lines_of : {A : Type 0} → (A → Bytes) → List A → Bytes
 lines_of line [] = []

@@ -5,8 +5,8 @@ ghost use Rattle.model.specs.Lists.{finding_list, leader_list, unseen_list, unkn
 ghost use Rattle.model.specs.Sizes.{Bytes};
 ghost use Rattle.storage.specs.Decode.{decode};
 ghost use Rattle.sheet_numbers.specs.Filled.{Filled};
-ghost use Rattle.sheet_lines.specs.Lines.{finding_line, leader_line, unseen_line, unknown_line};
-ghost use Rattle.sheet_lists.specs.Closing.{joined, of_finding, of_leader, of_unseen, closing_of};
+ghost use Rattle.sheet_lines.specs.Lines.{finding_line, leader_line, unseen_line, unknown_line, finding_room, leader_room, unseen_room, unknown_room};
+ghost use Rattle.sheet_lists.specs.Closing.{joined, of_finding, of_leader, of_unseen, closing_of, longest_list, closing_room};
 
 use finding_lists::findings::finding_at;
 use index_lists::committed::printed_committed;
@@ -18,10 +18,10 @@ use sheet_lines::lines::{put_committed, put_finding, put_leader, put_unknown, pu
 use sheet_numbers::decimal::Sheet;
 use storage::stored::Stored;
 use table_rows::findings::Found;
-use units::LogIndex;
+use units::{INDEX_LIMIT, LogIndex};
 
 // No list is longer: 128 findings and leaders, 64 unseen marks, 256 unknown indexes.
-const MOST: usize = 256;
+const MOST: usize = INDEX_LIMIT;
 
 // An element of one of the lists, with the line that is printed of it.
 trait Listed: Copy {
@@ -45,7 +45,7 @@ trait Listed: Copy {
 impl Listed for Found {
     ghost lines = { λ h. map of_finding (finding_list (decode h)) };
 
-    ghost width = { 88 };
+    ghost width = { finding_room };
 
     ghost line = { λ f. finding_line f.name f.node.0 f.index.0 f.term.0 };
 
@@ -62,7 +62,7 @@ impl Listed for Found {
 impl Listed for Leader {
     ghost lines = { λ h. map of_leader (leader_list (decode h)) };
 
-    ghost width = { 49 };
+    ghost width = { leader_room };
 
     ghost line = { λ l. leader_line l.term.0 l.leader.0 };
 
@@ -79,7 +79,7 @@ impl Listed for Leader {
 impl Listed for Unseen {
     ghost lines = { λ h. map of_unseen (unseen_list (decode h)) };
 
-    ghost width = { 49 };
+    ghost width = { unseen_room };
 
     ghost line = { λ u. unseen_line u.node.0 u.index.0 };
 
@@ -97,7 +97,7 @@ impl Listed for Unseen {
 impl Listed for LogIndex {
     ghost lines = { λ h. map unknown_line (unknown_list (decode h)) };
 
-    ghost width = { 29 };
+    ghost width = { unknown_room };
 
     ghost line = { λ i. unknown_line i.0 };
 
@@ -113,9 +113,9 @@ impl Listed for LogIndex {
 
 // The lines of a list, one after another.
 fn put_list<T: Listed>(history: Stored<'_>, sheet: &mut Sheet<'_>)
-    requires start_in_bounds { sheet.old.end + 256 * T.width ≤ length sheet.old.out.now }
-    requires short { length (T.lines history.bytes.now) ≤ 256 }
-    ensures { Filled (256 * T.width) sheet.old (joined (T.lines history.entry.bytes.now)) sheet.new }
+    requires start_in_bounds { sheet.old.end + longest_list * T.width ≤ length sheet.old.out.now }
+    requires short { length (T.lines history.bytes.now) ≤ longest_list }
+    ensures { Filled (longest_list * T.width) sheet.old (joined (T.lines history.entry.bytes.now)) sheet.new }
 {
     for n in 0..MOST {
         let Some(x) = T::nth(history, n) else {
@@ -128,8 +128,8 @@ fn put_list<T: Listed>(history: Stored<'_>, sheet: &mut Sheet<'_>)
 // The lists of a history that keeps the storage rules, behind what the sheet has.
 #[tactic(auto, using(crate::proofs::ClosingLaws::closed_broken, crate::proofs::ClosingLaws::findings_short, crate::proofs::ClosingLaws::leaders_short, crate::proofs::ClosingLaws::unseen_short, crate::proofs::ClosingLaws::unknown_short))]
 pub fn put_lists(history: &[u8], sheet: &mut Sheet<'_>)
-    requires { sheet.old.end + 55092 ≤ length sheet.old.out.now }
-    ensures { Filled 55092 sheet.old (closing_of history.now) sheet.new }
+    requires { sheet.old.end + closing_room ≤ length sheet.old.out.now }
+    ensures { Filled closing_room sheet.old (closing_of history.now) sheet.new }
 {
     let Some(history) = stored(history) else {
         return;

@@ -14,6 +14,10 @@ unfoldable pub decimal : ℕ → Bytes
 unfolding digits
 decimal v = digits (suc v) v
 
+-- no number that the sheet prints has more digits
+abbrev pub digits_room : ℕ
+digits_room = 20
+
 -- the bytes vs, no more than `most`, were put into t from `from` on: r is where they end, and t' are the bytes after it
 pub record Put (most : ℕ) (t : Bytes) (from : ℕ) (vs : Bytes) (r : ℕ) (t' : Bytes) : Type 0 where
   pub next : r ≡ from + length vs

@@ -1,6 +1,6 @@
 // Lent bytes that are filled from the front, and numbers in decimal digits put into them.
 ghost use Rattle.std.specs.Prelude.{◌≡◌, ◌+◌, ◌≤◌, length};
-ghost use Rattle.sheet_numbers.specs.Decimal.{decimal};
+ghost use Rattle.sheet_numbers.specs.Decimal.{decimal, digits_room};
 ghost use Rattle.sheet_numbers.specs.Filled.{Filled};
 
 use itoa::Buffer;
@@ -24,8 +24,8 @@ impl<'a> Sheet<'a> {
 
     // The digits of v, where there is room for any number.
     pub fn put_decimal(&mut self, v: u64)
-        requires { self.old.end + 20 ≤ length self.old.out.now }
-        ensures { Filled 20 self.old (decimal v) self.new }
+        requires { self.old.end + digits_room ≤ length self.old.out.now }
+        ensures { Filled digits_room self.old (decimal v) self.new }
     {
         let mut buffer = Buffer::new();
         let digits = buffer.format(v).as_bytes();

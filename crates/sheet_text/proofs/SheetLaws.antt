@@ -10,16 +10,16 @@ use Rattle.answers.specs.Numbers.{reply_of}
 use Rattle.submission.specs.Replies.{submit_answer, submit_bytes}
 use Rattle.sheet_numbers.specs.Filled.{Filled}
 use Rattle.sheet_numbers.specs.declared.decimal.Sheet.{Sheet}
-use Rattle.sheet_lines.specs.Lines.{record_line}
+use Rattle.sheet_lines.specs.Lines.{record_line, record_room}
 use Rattle.sheet_text.specs.Sheet.{kind_of, cut_line, line_for, bytes_after, HandedOver}
 
 module _ (h s : Bytes) (t t' : Sheet) (number : ℕ) where
-  pub over_none : length s ≡ 0 → Filled 105 t (cut_line number) t' → HandedOver h s t number h t'
+  pub over_none : length s ≡ 0 → Filled record_room t (cut_line number) t' → HandedOver h s t number h t'
   unfolding line_for bytes_after
   over_none e p = let b = eq-eqb (length s) 0 e in record { line = rw b p; history = rw b }
 
   pub over_some : (length s ≡ 0 → ⊥) → (q : Reply) → q ≡ reply_of (submit_answer h s) → (h' : Bytes) → h' ≡ submit_bytes h s
-      → Filled 105 t (record_line number (kind_of s) q) t' → HandedOver h s t number h' t'
+      → Filled record_room t (record_line number (kind_of s) q) t' → HandedOver h s t number h' t'
   unfolding line_for bytes_after
   over_some n q e h' f p =
       let b = ne_eqb (length s) 0 n in

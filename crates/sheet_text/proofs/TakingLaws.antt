@@ -12,9 +12,10 @@ use Rattle.sheet_pieces.specs.declared.split.Piece as code
 use Rattle.sheet_numbers.specs.declared.decimal.Sheet.{Sheet}
 use Rattle.sheet_numbers.specs.Filled.{Filled}
 use Rattle.sheet_pieces.specs.Pieces.{Piece, whole, cut, pieces, piece_at, pieces_by, Split}
-use Rattle.sheet_text.specs.Sheet.{cut_line, line_for, bytes_after, record_lines, bytes_through, HandedOver, Taken}
+use Rattle.sheet_text.specs.Sheet.{cut_line, line_for, bytes_after, record_lines, bytes_through, HandedOver, Taken, taken_most}
 use Rattle.sheet_numbers.proofs.PutLaws.{filled_none, filled_then, filled_as}
 use Rattle.sheet_pieces.proofs.SplitLaws.{whole_within, piece_joined}
+use Rattle.sheet_lines.specs.Lines.{record_room}
 
 -- ---- more pieces behind others
 
@@ -70,7 +71,7 @@ next_at_lem (p ∷ ps) (suc k) x rest e =
 
 -- k of the pieces from `start` on are taken
 pub record Taking (h block : Bytes) (t : Sheet) (first start k from : ℕ) (h' : Bytes) (t' : Sheet) : Type 0 where
-  pub lines : Filled (k * 105) t (record_lines first h (take k (pieces (drop start block)))) t'
+  pub lines : Filled (k * record_room) t (record_lines first h (take k (pieces (drop start block)))) t'
   pub history : h' ≡ bytes_through h (take k (pieces (drop start block)))
   pub rest : pieces (drop from block) ≡ drop k (pieces (drop start block))
   pub joined : (more : Bytes) → pieces (drop start block ++ more) ≡ take k (pieces (drop start block)) ++ pieces (drop from block ++ more)
@@ -125,8 +126,8 @@ module _ (h block : Bytes) (t : Sheet) (first start : ℕ) where
         on = omega (arith, g.on, w.begins);
       }
 
-  pub taking_ends : (k from : ℕ) (h' : Bytes) (t' : Sheet) → Taking h block t first start k from h' t' → k ≤ 600
-      → (k < 600 → (body size : ℕ) → piece_at block from ≡ code.Piece.Whole body size → ⊥)
+  pub taking_ends : (k from : ℕ) (h' : Bytes) (t' : Sheet) → Taking h block t first start k from h' t' → k ≤ taken_most
+      → (k < taken_most → (body size : ℕ) → piece_at block from ≡ code.Piece.Whole body size → ⊥)
       → Taken h block t first start (record { count = k; from = from }) h' t'
   taking_ends k from h' t' g l stop =
       record {

@@ -1,6 +1,6 @@
 -- Document 01, "The printed sheet": what a piece is answered, and the lines and the history of pieces taken in turn.
 -- Assumes nothing.
-use Rattle.std.specs.Prelude.{ℕ, ◌+◌, ◌/◌, ◌≤◌, ◌<◌, ◌≡◌, cond, List, [], ◌∷◌, ◌++◌, eqb, length, get_or, take, drop}
+use Rattle.std.specs.Prelude.{ℕ, ◌+◌, ◌*◌, ◌/◌, ◌≤◌, ◌<◌, ◌≡◌, cond, List, [], ◌∷◌, ◌++◌, eqb, length, get_or, take, drop}
 use Rattle.model.specs.Sizes.{Bytes}
 use Rattle.answers.specs.Numbers.{refusal_in, reply_of}
 use Rattle.submission.specs.Replies.{submit_answer, submit_bytes}
@@ -9,7 +9,7 @@ use Rattle.sheet_pieces.specs.declared.split.Piece as code
 use Rattle.sheet_pieces.specs.Pieces.{Piece, whole, cut, pieces, piece_at}
 use Rattle.sheet_numbers.specs.Filled.{Filled}
 use Rattle.sheet_numbers.specs.declared.decimal.Sheet.{Sheet}
-use Rattle.sheet_lines.specs.Lines.{record_line}
+use Rattle.sheet_lines.specs.Lines.{record_line, record_room}
 
 -- "kind (its first four bits)", 0 where there is none
 abbrev pub kind_of : Bytes → ℕ
@@ -18,6 +18,13 @@ kind_of s = get_or s 0 0 / 16
 -- "a piece cut in its length or body, or of length zero, has kind 0 and refusal 2"
 abbrev pub cut_line : ℕ → Bytes
 cut_line number = record_line number 0 (refusal_in 2)
+
+-- so many records are taken at a time, and their lines have room
+abbrev pub taken_most : ℕ
+taken_most = 600
+
+abbrev pub taken_room : ℕ
+taken_room = taken_most * record_room
 
 -- the line of the record s, handed to the bytes h
 unfoldable pub line_for : ℕ → Bytes → Bytes → Bytes
@@ -29,7 +36,7 @@ bytes_after h s = cond (eqb (length s) 0) h (submit_bytes h s)
 
 -- the record s was handed to the bytes h and its line put into the sheet t: h' and t' are the bytes and the sheet after it
 pub record HandedOver (h s : Bytes) (t : Sheet) (number : ℕ) (h' : Bytes) (t' : Sheet) : Type 0 where
-  pub line : Filled 105 t (line_for number h s) t'
+  pub line : Filled record_room t (line_for number h s) t'
   pub history : h' ≡ bytes_after h s
 
 -- the lines of pieces in turn, numbered from n on, of which the first is handed to the bytes h
@@ -48,7 +55,7 @@ bytes_through h (cut ∷ ps) = bytes_through h ps
 
 -- of the pieces from `start` on the first p .count were taken, as the numbers from `first` on, the first one handed to h
 pub record Taken (h block : Bytes) (t : Sheet) (first start : ℕ) (p : Progress) (h' : Bytes) (t' : Sheet) : Type 0 where
-  pub lines : Filled 63000 t (record_lines first h (take p.count (pieces (drop start block)))) t'
+  pub lines : Filled taken_room t (record_lines first h (take p.count (pieces (drop start block)))) t'
   pub history : h' ≡ bytes_through h (take p.count (pieces (drop start block)))
   pub rest : pieces (drop p.from block) ≡ drop p.count (pieces (drop start block))
   -- whatever bytes follow the block, these pieces come first, and then those of its rest and of what follows
@@ -57,5 +64,5 @@ pub record Taken (h block : Bytes) (t : Sheet) (first start : ℕ) (p : Progress
   pub within : p.from ≤ length block
   pub on : start + p.count ≤ p.from
   -- at most 600, and fewer only where no whole piece is left
-  pub most : p.count ≤ 600
-  pub stopped : p.count < 600 → (body size : ℕ) → piece_at block p.from ≡ code.Piece.Whole body size → ⊥
+  pub most : p.count ≤ taken_most
+  pub stopped : p.count < taken_most → (body size : ℕ) → piece_at block p.from ≡ code.Piece.Whole body size → ⊥

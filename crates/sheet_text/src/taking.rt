@@ -1,7 +1,8 @@
 // Pieces taken in turn: each record is handed to the history and its line put into the sheet.
 ghost use Rattle.std.specs.Prelude.{◌+◌, ◌≤◌, length};
 ghost use Rattle.sheet_numbers.specs.Filled.{Filled};
-ghost use Rattle.sheet_text.specs.Sheet.{cut_line, HandedOver, Taken};
+ghost use Rattle.sheet_text.specs.Sheet.{cut_line, HandedOver, Taken, taken_most, taken_room};
+ghost use Rattle.sheet_lines.specs.Lines.{record_room};
 
 use answers::answer::Refusal;
 use answers::numbers::Reply;
@@ -24,8 +25,8 @@ pub struct Progress {
 
 // The line of a piece that is cut, or has no bytes.
 pub fn put_cut(sheet: &mut Sheet<'_>, number: u64)
-    requires { sheet.old.end + 105 ≤ length sheet.old.out.now }
-    ensures { Filled 105 sheet.old (cut_line number) sheet.new }
+    requires { sheet.old.end + record_room ≤ length sheet.old.out.now }
+    ensures { Filled record_room sheet.old (cut_line number) sheet.new }
 {
     let missing = Reply::from(Err(Refusal::Unreadable(Fault::BitsMissing)));
     put_record(sheet, number, 0, missing);
@@ -33,7 +34,7 @@ pub fn put_cut(sheet: &mut Sheet<'_>, number: u64)
 
 // A record handed to the history, and its line.
 fn hand_over(history: &mut [u8], s: &[u8], sheet: &mut Sheet<'_>, number: u64)
-    requires { sheet.old.end + 105 ≤ length sheet.old.out.now }
+    requires { sheet.old.end + record_room ≤ length sheet.old.out.now }
     ensures { HandedOver history.old s.now sheet.old number history.new sheet.new }
 {
     let Some(first) = s.first() else {
@@ -53,7 +54,7 @@ pub fn take_some(
     first: u64,
     start: usize,
 ) -> Progress
-    requires { (start ≤ length block.now) × (sheet.old.end + 63000 ≤ length sheet.old.out.now) × (first + 600 ≤ 18446744073709551615) }
+    requires { (start ≤ length block.now) × (sheet.old.end + taken_room ≤ length sheet.old.out.now) × (first + taken_most ≤ 18446744073709551615) }
     ensures { Taken history.old block.now sheet.old first start result history.new sheet.new }
 {
     let mut from = start;

@@ -9,14 +9,15 @@ use mathlib.Core.Option.{none, some}
 use lib.Dec.{leb, eqb}
 use lib.ListN.{length, set, length-append}
 use borrow.Author.Tests.{leb-true, eqb-true, le-leb, eq-eqb}
-use Rattle.model.specs.Sizes.{Bytes}
 use Rattle.model.specs.Entry.{Prefix}
 use Rattle.model.specs.History.{Finding, with_prefixes, with_views, with_unseen, with_node, with_committed, with_certificates}
+use Rattle.model.specs.Sizes.{Bytes, last_node, index_limit, prefix_limit, certificate_limit, finding_limit, term_limit}
 use Rattle.storage_bytes.specs.Lists.{every}
-use Rattle.storage_bytes.specs.Words.{word_at}
+use Rattle.storage_bytes.specs.Layout.{history_length}
 use Rattle.storage.specs.Tables.{PrefixRow, NodeRow, CertificateRow, Tables, tables_in, tables_of, head_part, prefixes_part, with_prefix_row, with_node_row, with_committed_number, with_term_rows, with_certificate_rows, with_finding_rows}
 use Rattle.storage.specs.Decode.{prefix_at, extended, resolve, front_in, certificate_in, history_in, decode}
 use Rattle.storage.specs.Rules.{node_right, certificate_right, finding_right, numbered, prefix_right, prefixes_right_after, within_limits, committed_right, tables_right, well_formed}
+use Rattle.storage.specs.Head.{prefixes_held}
 use Rattle.storage_bytes.proofs.ListLaws.{both, every_weaker, every_set, map_set, map_every}
 use Rattle.storage.proofs.RuleLaws.{Limited, within, pass}
 use Rattle.storage.proofs.RowFacts.{Facts, facts_of, rows_sized, number_kept, resolve_snoc, resolve_count, right_snoc}
@@ -55,33 +56,33 @@ kept_right t k =
     ∙ k.rows
 
 -- of bytes: the right length, and tables that keep the rules
-pub well_formed_parts : (h : Bytes) → well_formed h ≡ true → (length h ≡ 24137) × Kept (tables_of h)
+pub well_formed_parts : (h : Bytes) → well_formed h ≡ true → (length h ≡ history_length) × Kept (tables_of h)
 unfolding well_formed
 well_formed_parts h e =
-    let a = both (eqb (length h) 24137) _ e in
-    (eqb-true (length h) 24137 a.0, kept_of (tables_of h) a.1)
+    let a = both (eqb (length h) history_length) _ e in
+    (eqb-true (length h) history_length a.0, kept_of (tables_of h) a.1)
 
-pub well_formed_of : (h : Bytes) → length h ≡ 24137 → Kept (tables_of h) → well_formed h ≡ true
+pub well_formed_of : (h : Bytes) → length h ≡ history_length → Kept (tables_of h) → well_formed h ≡ true
 unfolding well_formed
-well_formed_of h l k = pass _ (eq-eqb (length h) 24137 l) ∙ kept_right (tables_of h) k
+well_formed_of h l k = pass _ (eq-eqb (length h) history_length l) ∙ kept_right (tables_of h) k
 
 -- the rows of well-formed bytes have the facts
 pub row_facts : (h : Bytes) → Kept (tables_of h) → Facts (tables_of h).rows
 unfolding tables_in
-row_facts h k = facts_of (tables_of h).rows (rows_sized (prefixes_part h) (word_at (head_part h) 0 2)) k.rows
+row_facts h k = facts_of (tables_of h).rows (rows_sized (prefixes_part h) (prefixes_held (head_part h))) k.rows
 
 -- ---- what the tests of a row say
 
 pub record NodeNamed (n : ℕ) (x : NodeRow) : Type 0 where
   pub front : x.front ≤ n
-  pub last : x.last ≤ 256
-  pub unseen : x.unseen ≤ 256
+  pub last : x.last ≤ index_limit
+  pub unseen : x.unseen ≤ index_limit
 
 pub node_named : (n : ℕ) (x : NodeRow) → node_right n x ≡ true → NodeNamed n x
 unfolding node_right
 node_named n x e =
     let a = both (leb x.front n) _ e in
-    let b = both (leb x.last 256) _ a.1 in
+    let b = both (leb x.last index_limit) _ a.1 in
     record { front = leb-true _ _ a.0; last = leb-true _ _ b.0; unseen = leb-true _ _ b.1 }
 
 pub node_test : (n : ℕ) (x : NodeRow) → NodeNamed n x → node_right n x ≡ true
@@ -90,18 +91,18 @@ node_test n x f = pass _ (le-leb _ _ f.front) ∙ pass _ (le-leb _ _ f.last) ∙
 
 pub record CertificateNamed (n : ℕ) (x : CertificateRow) : Type 0 where
   pub log : x.log ≤ n
-  pub mark : x.mark ≤ 256
-  pub leader : x.leader ≤ 63
-  pub term : x.term ≤ 4294967295
+  pub mark : x.mark ≤ index_limit
+  pub leader : x.leader ≤ last_node
+  pub term : x.term ≤ term_limit
   pub present : x.present ≤ 1
 
 pub certificate_named : (n : ℕ) (x : CertificateRow) → certificate_right n x ≡ true → CertificateNamed n x
 unfolding certificate_right
 certificate_named n x e =
     let a = both (leb x.log n) _ e in
-    let b = both (leb x.mark 256) _ a.1 in
-    let c = both (leb x.leader 63) _ b.1 in
-    let d = both (leb x.term 4294967295) _ c.1 in
+    let b = both (leb x.mark index_limit) _ a.1 in
+    let c = both (leb x.leader last_node) _ b.1 in
+    let d = both (leb x.term term_limit) _ c.1 in
     record {
       log = leb-true _ _ a.0;
       mark = leb-true _ _ b.0;
@@ -118,19 +119,19 @@ certificate_test n x f =
 pub record FindingNamed (x : Finding) : Type 0 where
   pub low : 3 ≤ x.name
   pub high : x.name ≤ 5
-  pub node : x.node ≤ 63
-  pub index : x.index ≤ 256
+  pub node : x.node ≤ last_node
+  pub index : x.index ≤ index_limit
 
 pub finding_test : (x : Finding) → FindingNamed x → finding_right x ≡ true
 unfolding finding_right
 finding_test x f =
     pass _ (le-leb _ _ f.low) ∙ pass _ (le-leb _ _ f.high) ∙ pass _ (le-leb _ _ f.node) ∙ le-leb _ _ f.index
 
-pub committed_named : (n p o : ℕ) → committed_right n p o ≡ true → (p ≤ n) × (o ≤ 63)
+pub committed_named : (n p o : ℕ) → committed_right n p o ≡ true → (p ≤ n) × (o ≤ last_node)
 unfolding committed_right
 committed_named n p o e = let a = both (leb p n) _ e in (leb-true _ _ a.0, leb-true _ _ a.1)
 
-pub committed_test : (n p o : ℕ) → p ≤ n → o ≤ 63 → committed_right n p o ≡ true
+pub committed_test : (n p o : ℕ) → p ≤ n → o ≤ last_node → committed_right n p o ≡ true
 unfolding committed_right
 committed_test n p o h g = pass _ (le-leb _ _ h) ∙ le-leb _ _ g
 
@@ -157,7 +158,7 @@ module _ (t : Tables) (k : Kept t) where
         rows = k.rows;
       }
 
-  pub kept_committed : (p o : ℕ) → p ≤ length t.rows → o ≤ 63 → Kept (with_committed_number t p o)
+  pub kept_committed : (p o : ℕ) → p ≤ length t.rows → o ≤ last_node → Kept (with_committed_number t p o)
   kept_committed p o h g =
       record {
         limits = k.limits;
@@ -169,7 +170,7 @@ module _ (t : Tables) (k : Kept t) where
         rows = k.rows;
       }
 
-  pub kept_terms : (ts : List ℕ) → length ts ≤ 256 → Kept (with_term_rows t ts)
+  pub kept_terms : (ts : List ℕ) → length ts ≤ index_limit → Kept (with_term_rows t ts)
   kept_terms ts h =
       record {
         limits = within_test _ _ _ _ (record { prefixes = limited.prefixes; terms = h; certificates = limited.certificates; findings = limited.findings });
@@ -181,7 +182,7 @@ module _ (t : Tables) (k : Kept t) where
         rows = k.rows;
       }
 
-  pub kept_certificates : (cs : List CertificateRow) → length cs ≤ 64 → every (certificate_right (length t.rows)) cs ≡ true → numbered cs ≡ true
+  pub kept_certificates : (cs : List CertificateRow) → length cs ≤ certificate_limit → every (certificate_right (length t.rows)) cs ≡ true → numbered cs ≡ true
       → Kept (with_certificate_rows t cs)
   kept_certificates cs h e m =
       record {
@@ -194,7 +195,7 @@ module _ (t : Tables) (k : Kept t) where
         rows = k.rows;
       }
 
-  pub kept_findings : (fs : List Finding) → length fs ≤ 128 → every finding_right fs ≡ true → Kept (with_finding_rows t fs)
+  pub kept_findings : (fs : List Finding) → length fs ≤ finding_limit → every finding_right fs ≡ true → Kept (with_finding_rows t fs)
   kept_findings fs h e =
       record {
         limits = within_test _ _ _ _ (record { prefixes = limited.prefixes; terms = limited.terms; certificates = limited.certificates; findings = h });
@@ -206,7 +207,7 @@ module _ (t : Tables) (k : Kept t) where
         rows = k.rows;
       }
 
-  pub kept_row : (x : PrefixRow) → length t.rows < 512 → prefix_right t.rows x ≡ true → Kept (with_prefix_row t x)
+  pub kept_row : (x : PrefixRow) → length t.rows < prefix_limit → prefix_right t.rows x ≡ true → Kept (with_prefix_row t x)
   kept_row x h e =
       let l : length (t.rows ++ (x ∷ [])) ≡ length t.rows + 1 = length-append t.rows (x ∷ []) in
       let c = committed_named _ _ _ k.committed in

@@ -8,11 +8,11 @@ use mathlib.Core.Bool.{Bool, true, ◌&&◌}
 use mathlib.Core.List.{[]}
 use lib.ListN.{length, get_or, take, drop, replicate, length-replicate, length-take, get_or-eq_default}
 use borrow.Author.Tests.{eq-eqb}
-use Rattle.model.specs.Sizes.{Bytes}
 use Rattle.model.specs.History.{fresh}
+use Rattle.model.specs.Sizes.{Bytes, node_count}
 use Rattle.storage_bytes.specs.Lists.{tabulate}
 use Rattle.storage_bytes.specs.Words.{word_at}
-use Rattle.storage_bytes.specs.Layout.{part, history_length}
+use Rattle.storage_bytes.specs.Layout.{part, history_length, head_start, head_length, nodes_start, nodes_length, node_width, number_width, index_width, node_last, node_unseen}
 use Rattle.storage.specs.Tables.{Tables, NodeRow, prefix_row, row_of_node, term_row, certificate_row, finding_row, head_part, nodes_part, terms_part, certificates_part, findings_part, prefixes_part, tables_in, tables_of}
 use Rattle.storage.specs.Decode.{history_in, resolve_from, decode}
 use Rattle.storage.specs.Rules.{tables_right, well_formed}
@@ -57,7 +57,7 @@ abbrev empty_tables : Tables
 empty_tables =
     record {
       rows = [];
-      nodes = replicate 64 empty_node;
+      nodes = replicate node_count empty_node;
       committed = 0;
       owner = 0;
       terms = [];
@@ -68,7 +68,7 @@ empty_tables =
 pub fresh_tables : tables_of fresh_history ≡ empty_tables
 unfolding tables_in tabulate
 fresh_tables =
-    let z = part_zero fresh_history 0 9 (zeros_zero history_length) in
+    let z = part_zero fresh_history head_start head_length (zeros_zero history_length) in
     λ i.
     record {
       rows = tabulate (prefix_row (prefixes_part fresh_history)) 0 (word_zero (head_part fresh_history) 0 2 z i);
@@ -81,16 +81,16 @@ fresh_tables =
     }
   where
     zn : Zero (nodes_part fresh_history)
-    zn = part_zero fresh_history 9 384 (zeros_zero history_length)
+    zn = part_zero fresh_history nodes_start nodes_length (zeros_zero history_length)
 
-    nodes_zero : tabulate (row_of_node (nodes_part fresh_history)) 0 64 ≡ replicate 64 empty_node
+    nodes_zero : tabulate (row_of_node (nodes_part fresh_history)) 0 node_count ≡ replicate node_count empty_node
     nodes_zero =
-        tabulate_replicate (row_of_node (nodes_part fresh_history)) empty_node 0 64
+        tabulate_replicate (row_of_node (nodes_part fresh_history)) empty_node 0 node_count
         (λ k j.
         record {
-          front = word_zero (nodes_part fresh_history) (k * 6) 2 zn j;
-          last = word_zero (nodes_part fresh_history) (k * 6 + 2) 2 zn j;
-          unseen = word_zero (nodes_part fresh_history) (k * 6 + 4) 2 zn j;
+          front = word_zero (nodes_part fresh_history) (k * node_width) number_width zn j;
+          last = word_zero (nodes_part fresh_history) (k * node_width + node_last) index_width zn j;
+          unseen = word_zero (nodes_part fresh_history) (k * node_width + node_unseen) index_width zn j;
         })
 
 -- it stands for the model's fresh history

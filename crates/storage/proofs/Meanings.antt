@@ -8,12 +8,13 @@ use mathlib.Core.Path.{◌≡◌, refl, ap, sym, ◌∙◌, subst}
 use mathlib.Core.Bool.{true}
 use mathlib.Core.List.{List, [], ◌∷◌, ◌++◌, map, Memᴰ}
 use lib.ListN.{length, get_or, set, take, drop, replicate, length-set, length-append, length-replicate, length-map, take-append-drop, get_or-map}
-use Rattle.model.specs.Sizes.{Bytes}
 use Rattle.model.specs.Entry.{Prefix, is_in, with, with_all}
 use Rattle.model.specs.History.{fresh, Certificate, Finding, History, same_finding, noted, with_node, with_committed, with_terms, with_certificates, with_findings, with_prefixes}
+use Rattle.model.specs.Sizes.{Bytes, last_node, node_count, index_limit, prefix_limit, certificate_limit, finding_limit, term_end}
 use Rattle.model.proofs.Tests.{cond_cases}
 use Rattle.storage_bytes.specs.Lists.{every}
-use Rattle.storage_bytes.specs.Words.{word_at, word_bytes, put_bytes}
+use Rattle.storage_bytes.specs.Words.{word_bytes, put_bytes}
+use Rattle.storage_bytes.specs.Layout.{head_start, head_length, nodes_start, terms_start, certificates_start, findings_start, findings_length, prefixes_start, history_length, node_width, term_width, prefix_width, committed_field, findings_field}
 use Rattle.storage.specs.Tables.{NodeRow, CertificateRow, Tables, row_of_node, term_row, finding_row, rows_of_prefixes, term_rows, rows_of_certificates, finding_rows, head_part, nodes_part, terms_part, certificates_part, findings_part, prefixes_part, tables_in, tables_of, with_prefix_row, with_node_row, with_committed_number, with_term_rows, with_certificate_rows, with_finding_rows}
 use Rattle.storage.specs.Decode.{prefix_at, extended, resolve, front_in, certificate_in, history_in, decode}
 use Rattle.storage.specs.Rules.{certificate_right, finding_right, numbered, prefix_right, well_formed}
@@ -26,6 +27,7 @@ use Rattle.storage.proofs.RowFacts.{resolve_count}
 use Rattle.storage.proofs.RuleLaws.{within, pass}
 use Rattle.storage.proofs.TableLaws.{findings_written_lem, set_node, set_term, prefix_appended_lem, terms_lengthened_lem, committed_set_lem, certificate_added_lem}
 use Rattle.storage.specs.Fresh.{zeros, fresh_history}
+use Rattle.storage.specs.Head.{prefixes_held, terms_held, committed_number, certificates_held, findings_held, owner_of, put_head_field}
 use Rattle.storage.proofs.FreshLaws.{fresh_well_formed, fresh_decodes}
 use Rattle.storage.proofs.WellFormed.{rows_are, terms_are, certificates_are, findings_are, rows_count, terms_count, certificates_count, findings_count, node_row, formed, formed_rows, rows_index}
 use Rattle.storage.proofs.DecodeLaws.{Kept, well_formed_parts, well_formed_of, NodeNamed, CertificateNamed, certificate_test, kept_node, kept_committed, kept_terms, kept_certificates, kept_findings, kept_row, decode_is, history_node, history_row, FindingNamed, finding_test}
@@ -35,7 +37,7 @@ pub record Stands (h : Bytes) (x : History) : Type 0 where
   pub right : well_formed h ≡ true
   pub decodes : decode h ≡ x
 
-pub stands : (h : Bytes) (t : Tables) (x : History) → length h ≡ 24137 → tables_of h ≡ t → Kept t → history_in t ≡ x → Stands h x
+pub stands : (h : Bytes) (t : Tables) (x : History) → length h ≡ history_length → tables_of h ≡ t → Kept t → history_in t ≡ x → Stands h x
 stands h t x l e k q =
     record { right = well_formed_of h l (subst Kept (sym e) k); decodes = decode_is h ∙ ap history_in e ∙ q }
 
@@ -47,56 +49,56 @@ stand h w = record { right = w; decodes = refl }
 
 module _ (h : Bytes) where
   -- how many there are of each
-  pub prefixes_read : length (decode h).prefixes ≡ word_at h 0 2
+  pub prefixes_read : length (decode h).prefixes ≡ prefixes_held h
   unfolding decode tables_in
   prefixes_read = resolve_count (tables_of h).rows ∙ rows_count h
 
-  pub terms_read : length (decode h).terms ≡ word_at h 2 2
+  pub terms_read : length (decode h).terms ≡ terms_held h
   unfolding decode tables_in
   terms_read = terms_count h
 
-  pub certificates_read : length (decode h).certificates ≡ word_at h 6 1
+  pub certificates_read : length (decode h).certificates ≡ certificates_held h
   unfolding decode tables_in
   certificates_read = length-map (tables_of h).certificates _ ∙ certificates_count h
 
-  pub findings_read : length (decode h).findings ≡ word_at h 7 1
+  pub findings_read : length (decode h).findings ≡ findings_held h
   unfolding decode tables_in
   findings_read = findings_count h
 
   -- the committed prefix and its owner
-  pub committed_read : (decode h).committed ≡ prefix_at (decode h).prefixes (word_at h 4 2)
+  pub committed_read : (decode h).committed ≡ prefix_at (decode h).prefixes (committed_number h)
   unfolding decode tables_in
-  committed_read = ap (prefix_at (decode h).prefixes) (word_part h 0 9 4 2 (omega arith))
+  committed_read = ap (prefix_at (decode h).prefixes) (word_part h head_start head_length 4 2 (omega arith))
 
-  pub owner_read : (decode h).owner ≡ word_at h 8 1
+  pub owner_read : (decode h).owner ≡ owner_of h
   unfolding decode tables_in
-  owner_read = word_part h 0 9 8 1 (omega arith)
+  owner_read = word_part h head_start head_length 8 1 (omega arith)
 
   -- a node's front, last index and unseen mark
   abbrev no_node : NodeRow
   no_node = record { front = 0; last = 0; unseen = 0 }
 
-  pub front_read : (k : ℕ) → k < 64 → get_or (decode h).fronts k [] ≡ prefix_at (decode h).prefixes (row_of_node (nodes_part h) k).front
+  pub front_read : (k : ℕ) → k < node_count → get_or (decode h).fronts k [] ≡ prefix_at (decode h).prefixes (row_of_node (nodes_part h) k).front
   unfolding decode
   front_read k l =
       get_or-map (front_in (resolve (tables_of h).rows)) (tables_of h).nodes k no_node
       ∙ ap (front_in (resolve (tables_of h).rows)) (node_row h k no_node l)
 
-  pub last_read : (k : ℕ) → k < 64 → get_or (decode h).lasts k 0 ≡ (row_of_node (nodes_part h) k).last
+  pub last_read : (k : ℕ) → k < node_count → get_or (decode h).lasts k 0 ≡ (row_of_node (nodes_part h) k).last
   unfolding decode
   last_read k l =
       get_or-map (λ (x : NodeRow). x.last) (tables_of h).nodes k no_node ∙ ap (λ (x : NodeRow). x.last) (node_row h k no_node l)
 
-  pub unseen_read : (k : ℕ) → k < 64 → get_or (decode h).unseen k 0 ≡ (row_of_node (nodes_part h) k).unseen
+  pub unseen_read : (k : ℕ) → k < node_count → get_or (decode h).unseen k 0 ≡ (row_of_node (nodes_part h) k).unseen
   unfolding decode
   unseen_read k l =
       get_or-map (λ (x : NodeRow). x.unseen) (tables_of h).nodes k no_node ∙ ap (λ (x : NodeRow). x.unseen) (node_row h k no_node l)
 
   -- a commit term, where there is one
-  pub term_read : (k d : ℕ) → k < word_at h 2 2 → get_or (decode h).terms k d ≡ term_row (terms_part h) k
+  pub term_read : (k d : ℕ) → k < terms_held h → get_or (decode h).terms k d ≡ term_row (terms_part h) k
   unfolding decode tables_in
   term_read k d l =
-      tabulate_at (term_row (terms_part h)) 0 (word_at (head_part h) 2 2) k d (omega (arith, word_part h 0 9 2 2 (omega arith)))
+      tabulate_at (term_row (terms_part h)) 0 (terms_held (head_part h)) k d (omega (arith, word_part h head_start head_length 2 2 (omega arith)))
       ∙ ap (term_row (terms_part h)) (zero-add k)
 
 -- ---- noted findings keep the rules
@@ -117,7 +119,7 @@ noted_right (g ∷ gs) fs e f =
 -- ---- what is written
 
 module _ (h : Bytes) (x : History) (s : Stands h x) where
-  pub long : length h ≡ 24137
+  pub long : length h ≡ history_length
   long = (well_formed_parts h s.right).0
 
   pub kept : Kept (tables_of h)
@@ -134,108 +136,108 @@ module _ (h : Bytes) (x : History) (s : Stands h x) where
       ap (λ (ps : List Prefix). map (certificate_in ps) (tables_of h).certificates) (sym prefixes_is) ∙ ap (λ (y : History). y.certificates) is
 
   -- the tables as the code reads them
-  pub prefixes_stored : resolve (rows_of_prefixes (prefixes_part h) (word_at h 0 2)) ≡ x.prefixes
+  pub prefixes_stored : resolve (rows_of_prefixes (prefixes_part h) (prefixes_held h)) ≡ x.prefixes
   prefixes_stored = ap resolve (sym (rows_are h)) ∙ prefixes_is
 
-  pub terms_stored : term_rows (terms_part h) (word_at h 2 2) ≡ x.terms
+  pub terms_stored : term_rows (terms_part h) (terms_held h) ≡ x.terms
   terms_stored = sym (terms_are h) ∙ ap (λ (y : History). y.terms) is
 
-  pub certificates_stored : map (certificate_in x.prefixes) (rows_of_certificates (certificates_part h) (word_at h 6 1)) ≡ x.certificates
+  pub certificates_stored : map (certificate_in x.prefixes) (rows_of_certificates (certificates_part h) (certificates_held h)) ≡ x.certificates
   certificates_stored = ap (map (certificate_in x.prefixes)) (sym (certificates_are h)) ∙ certificates_is
 
   pub findings_right : every finding_right x.findings ≡ true
   findings_right = ap (every finding_right) (sym (ap (λ (y : History). y.findings) is)) ∙ kept.findings
 
-  pub findings_stored : finding_rows (findings_part h) (word_at h 7 1) ≡ x.findings
+  pub findings_stored : finding_rows (findings_part h) (findings_held h) ≡ x.findings
   findings_stored = sym (findings_are h) ∙ ap (λ (y : History). y.findings) is
 
   -- a number's index is the length of its prefix
-  pub number_length : (p : ℕ) → p ≤ word_at h 0 2 → number_index (prefixes_part h) p ≡ length (prefix_at x.prefixes p)
+  pub number_length : (p : ℕ) → p ≤ prefixes_held h → number_index (prefixes_part h) p ≡ length (prefix_at x.prefixes p)
   number_length p l =
-      rows_index (prefixes_part h) (word_at h 0 2) p (formed_rows h (formed h s.right)) l
+      rows_index (prefixes_part h) (prefixes_held h) p (formed_rows h (formed h s.right)) l
       ∙ ap (λ (ps : List Prefix). length (prefix_at ps p)) prefixes_stored
 
   -- the committed prefix, and its end, which is its length
-  pub committed_stored : prefix_at x.prefixes (word_at h 4 2) ≡ x.committed
-  committed_stored = sym (subst (λ (y : History). y.committed ≡ prefix_at y.prefixes (word_at h 4 2)) s.decodes (committed_read h))
+  pub committed_stored : prefix_at x.prefixes (committed_number h) ≡ x.committed
+  committed_stored = sym (subst (λ (y : History). y.committed ≡ prefix_at y.prefixes (committed_number h)) s.decodes (committed_read h))
 
   pub end_is : committed_end h ≡ length x.committed
   unfolding committed_end
-  end_is = number_length (word_at h 4 2) (formed h s.right).committed ∙ ap length committed_stored
+  end_is = number_length (committed_number h) (formed h s.right).committed ∙ ap length committed_stored
 
   certificates_change : (cs : List CertificateRow) → history_in (with_certificate_rows (tables_of h) cs) ≡ with_certificates x (map (certificate_in x.prefixes) cs)
   certificates_change cs = ap (λ (y : History). with_certificates y (map (certificate_in y.prefixes) cs)) is
 
   -- a node's row
-  pub node_written : (k : ℕ) (n : NodeRow) → k < 64 → NodeNamed (word_at h 0 2) n
-      → Stands (put_bytes h (9 + k * 6) (node_bytes n)) (with_node x k (prefix_at x.prefixes n.front) n.last n.unseen)
+  pub node_written : (k : ℕ) (n : NodeRow) → k < node_count → NodeNamed (prefixes_held h) n
+      → Stands (put_bytes h (nodes_start + k * node_width) (node_bytes n)) (with_node x k (prefix_at x.prefixes n.front) n.last n.unseen)
   node_written k n l f =
       let c = within _ _ _ _ kept.limits in
       let r = rows_count h in
       let g : NodeNamed (length (tables_of h).rows) n = record { front = omega (arith, f.front); last = f.last; unseen = f.unseen } in
-      stands (put_bytes h (9 + k * 6) (node_bytes n)) (with_node_row (tables_of h) k n) _
-      (put_length h (9 + k * 6) (node_bytes n) ∙ long)
+      stands (put_bytes h (nodes_start + k * node_width) (node_bytes n)) (with_node_row (tables_of h) k n) _
+      (put_length h (nodes_start + k * node_width) (node_bytes n) ∙ long)
       (set_node h long k n l (record { front = omega (arith, g.front, c.prefixes); last = omega (arith, f.last); unseen = omega (arith, f.unseen) }))
       (kept_node (tables_of h) kept k n g)
       (history_node (tables_of h) k n ∙ ap (λ (y : History). with_node y k (prefix_at y.prefixes n.front) n.last n.unseen) is)
 
   -- the committed prefix and its owner
-  pub committed_written : (p o : ℕ) → p ≤ word_at h 0 2 → o ≤ 63
+  pub committed_written : (p o : ℕ) → p ≤ prefixes_held h → o ≤ last_node
       → Stands (committed_set h p o) (with_committed x (prefix_at x.prefixes p) o)
   unfolding committed_set
   committed_written p o a b =
       let c = within _ _ _ _ kept.limits in
       let r = rows_count h in
       stands (committed_set h p o) (with_committed_number (tables_of h) p o) _
-      (put_length (put_bytes h 4 (word_bytes 2 p)) 8 (word_bytes 1 o) ∙ put_length h 4 (word_bytes 2 p) ∙ long)
+      (put_length (put_head_field committed_field h p) 8 (word_bytes 1 o) ∙ put_length h 4 (word_bytes 2 p) ∙ long)
       (committed_set_lem h long p o (omega (arith, c.prefixes)) (omega arith))
       (kept_committed (tables_of h) kept p o (omega arith) b)
       (ap (λ (y : History). with_committed y (prefix_at y.prefixes p) o) is)
 
   -- one more prefix
-  pub prefix_written : (p i t n : ℕ) (c : Bytes) → word_at h 0 2 < 512 → PrefixFits p i t n c
+  pub prefix_written : (p i t n : ℕ) (c : Bytes) → prefixes_held h < prefix_limit → PrefixFits p i t n c
       → prefix_right (tables_of h).rows (prefix_of p i t n c) ≡ true
       → Stands (prefix_appended h p i t n c) (with_prefixes x (x.prefixes ++ (extended x.prefixes (prefix_of p i t n c) ∷ [])))
   unfolding prefix_appended
   prefix_written p i t n c l f e =
       let r = rows_count h in
-      let m = word_at h 0 2 in
+      let m = prefixes_held h in
       stands (prefix_appended h p i t n c) (with_prefix_row (tables_of h) (prefix_of p i t n c)) _
-      (put_length (put_bytes h (3145 + m * 41) (prefix_bytes p i t n c)) 0 (word_bytes 2 (m + 1)) ∙ put_length h (3145 + m * 41) (prefix_bytes p i t n c) ∙ long)
+      (put_length (put_bytes h (prefixes_start + m * prefix_width) (prefix_bytes p i t n c)) 0 (word_bytes 2 (m + 1)) ∙ put_length h (prefixes_start + m * prefix_width) (prefix_bytes p i t n c) ∙ long)
       (prefix_appended_lem h long p i t n c l f)
       (kept_row (tables_of h) kept (prefix_of p i t n c) (omega arith) e)
       (history_row (tables_of h) (prefix_of p i t n c) kept
       ∙ ap (λ (y : History). with_prefixes y (y.prefixes ++ (extended y.prefixes (prefix_of p i t n c) ∷ []))) is)
 
   -- a commit term set
-  pub term_written : (k v : ℕ) → k < 256 → v < 4294967296
-      → Stands (put_bytes h (393 + k * 4) (word_bytes 4 v)) (with_terms x (set x.terms k v))
+  pub term_written : (k v : ℕ) → k < index_limit → v < term_end
+      → Stands (put_bytes h (terms_start + k * term_width) (word_bytes term_width v)) (with_terms x (set x.terms k v))
   term_written k v l f =
       let c = within _ _ _ _ kept.limits in
-      stands (put_bytes h (393 + k * 4) (word_bytes 4 v)) (with_term_rows (tables_of h) (set (tables_of h).terms k v)) _
-      (put_length h (393 + k * 4) (word_bytes 4 v) ∙ long)
+      stands (put_bytes h (terms_start + k * term_width) (word_bytes term_width v)) (with_term_rows (tables_of h) (set (tables_of h).terms k v)) _
+      (put_length h (terms_start + k * term_width) (word_bytes term_width v) ∙ long)
       (set_term h long k v l f)
       (kept_terms (tables_of h) kept (set (tables_of h).terms k v) (omega (arith, length-set (tables_of h).terms k v, c.terms)))
       (ap (λ (y : History). with_terms y (set y.terms k v)) is)
 
   -- the commit terms lengthened with zeros
-  pub terms_added : (m : ℕ) → word_at h 2 2 ≤ m → m ≤ 256
-      → Stands (terms_lengthened h m) (with_terms x (x.terms ++ replicate (m - word_at h 2 2) 0))
+  pub terms_added : (m : ℕ) → terms_held h ≤ m → m ≤ index_limit
+      → Stands (terms_lengthened h m) (with_terms x (x.terms ++ replicate (m - terms_held h) 0))
   unfolding terms_lengthened
   terms_added m l f =
-      let n = word_at h 2 2 in
+      let n = terms_held h in
       let zs : List ℕ = replicate (m - n) 0 in
       let count : length (tables_of h).terms ≡ n = sym (ap (λ (y : History). length y.terms) (decode_is h)) ∙ terms_read h in
       let more : length ((tables_of h).terms ++ zs) ≡ length (tables_of h).terms + (m - n)
       = length-append (tables_of h).terms zs ∙ ap (λ (k : ℕ). length (tables_of h).terms + k) (length-replicate (m - n) 0) in
       stands (terms_lengthened h m) (with_term_rows (tables_of h) ((tables_of h).terms ++ zs)) _
-      (put_length (put_bytes h (393 + n * 4) (zeros ((m - n) * 4))) 2 (word_bytes 2 m) ∙ put_length h (393 + n * 4) (zeros ((m - n) * 4)) ∙ long)
+      (put_length (put_bytes h (terms_start + n * term_width) (zeros ((m - n) * term_width))) 2 (word_bytes 2 m) ∙ put_length h (terms_start + n * term_width) (zeros ((m - n) * term_width)) ∙ long)
       (terms_lengthened_lem h long m l f)
       (kept_terms (tables_of h) kept ((tables_of h).terms ++ zs) (omega arith))
       (ap (λ (y : History). with_terms y (y.terms ++ zs)) is)
 
   -- one more certificate at place k, where the numbers stay unbroken
-  pub certificate_inserted_lem : (k : ℕ) (c : CertificateRow) → k ≤ word_at h 6 1 → word_at h 6 1 < 64 → CertificateFits c → CertificateNamed (word_at h 0 2) c
+  pub certificate_inserted_lem : (k : ℕ) (c : CertificateRow) → k ≤ certificates_held h → certificates_held h < certificate_limit → CertificateFits c → CertificateNamed (prefixes_held h) c
       → numbered (take k (tables_of h).certificates ++ (c ∷ drop k (tables_of h).certificates)) ≡ true
       → Stands (certificate_added h k c) (with_certificates x (take k x.certificates ++ (certificate_in x.prefixes c ∷ drop k x.certificates)))
   certificate_inserted_lem k c b l f g e =
@@ -263,15 +265,15 @@ module _ (h : Bytes) (x : History) (s : Stands h x) where
       added_length : length (certificate_added h k c) ≡ length h
       added_length =
           unfold certificate_added in
-          put_length (put_bytes h 1417 (certificate_inserted (certificates_part h) (word_at h 6 1) k c)) 6 (word_bytes 1 (word_at h 6 1 + 1))
-          ∙ put_length h 1417 (certificate_inserted (certificates_part h) (word_at h 6 1) k c)
+          put_length (put_bytes h certificates_start (certificate_inserted (certificates_part h) (certificates_held h) k c)) 6 (word_bytes 1 (certificates_held h + 1))
+          ∙ put_length h certificates_start (certificate_inserted (certificates_part h) (certificates_held h) k c)
 
   -- the findings' region written whole, with the count: a judged copy that is taken over
-  pub findings_taken : (fs : Bytes) (m : ℕ) → length fs ≡ 1024 → m ≤ 128 → every finding_right (finding_rows fs m) ≡ true
-      → Stands (put_bytes (put_bytes h 2121 fs) 7 (word_bytes 1 m)) (with_findings x (finding_rows fs m))
+  pub findings_taken : (fs : Bytes) (m : ℕ) → length fs ≡ findings_length → m ≤ finding_limit → every finding_right (finding_rows fs m) ≡ true
+      → Stands (put_head_field findings_field (put_bytes h findings_start fs) m) (with_findings x (finding_rows fs m))
   findings_taken fs m lf lm e =
-      stands (put_bytes (put_bytes h 2121 fs) 7 (word_bytes 1 m)) (with_finding_rows (tables_of h) (finding_rows fs m)) _
-      (put_length (put_bytes h 2121 fs) 7 (word_bytes 1 m) ∙ put_length h 2121 fs ∙ long)
+      stands (put_head_field findings_field (put_bytes h findings_start fs) m) (with_finding_rows (tables_of h) (finding_rows fs m)) _
+      (put_length (put_bytes h findings_start fs) 7 (word_bytes 1 m) ∙ put_length h findings_start fs ∙ long)
       (findings_written_lem h long fs m lf (omega arith))
       (kept_findings (tables_of h) kept (finding_rows fs m) (omega (arith, tabulate_length (finding_row fs) 0 m)) e)
       (ap (λ (y : History). with_findings y (finding_rows fs m)) is)

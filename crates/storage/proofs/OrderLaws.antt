@@ -12,16 +12,16 @@ use mathlib.Core.List.{List, [], ◌∷◌, ◌++◌, map}
 use lib.Dec.{ltb, eqb}
 use lib.ListN.{length, take, drop}
 use borrow.Author.Tests.{ltb-true, lt-ltb, le-ltb, eqb-true, eq-eqb, ne_eqb}
-use Rattle.model.specs.Sizes.{Bytes}
 use Rattle.model.specs.Entry.{Prefix}
 use Rattle.model.specs.History.{Certificate, History, with_certificates}
 use Rattle.model.specs.Election.{held, in_order}
+use Rattle.model.specs.Sizes.{Bytes, certificate_limit}
 use Rattle.storage.specs.Tables.{CertificateRow, tables_of}
 use Rattle.storage.specs.Decode.{certificate_in}
 use Rattle.storage.specs.Rules.{follows, numbered_after, numbered}
-use Rattle.storage_bytes.specs.Words.{word_at}
 use Rattle.storage.specs.Writes.{CertificateFits, certificate_added}
 use Rattle.storage.specs.Order.{place_of, held_of}
+use Rattle.storage.specs.Head.{prefixes_held, certificates_held}
 use Rattle.storage_bytes.proofs.ListLaws.{both}
 use Rattle.storage.proofs.RuleLaws.{pass}
 use Rattle.storage.proofs.DecodeLaws.{CertificateNamed}
@@ -218,13 +218,13 @@ place_within t (c ∷ cs) = go (ltb t c.term) (place_within t cs)
 -- ---- an election in bytes
 
 -- the certificate where the model has it
-pub election_written : (h : Bytes) (x : History) (s : Stands h x) (c : CertificateRow) → word_at h 6 1 < 64 → CertificateFits c → CertificateNamed (word_at h 0 2) c
+pub election_written : (h : Bytes) (x : History) (s : Stands h x) (c : CertificateRow) → certificates_held h < certificate_limit → CertificateFits c → CertificateNamed (prefixes_held h) c
     → c.number ≡ held_of c.term (tables_of h).certificates
     → Stands (certificate_added h (place_of c.term (tables_of h).certificates) c) (with_certificates x (in_order (certificate_in x.prefixes c) x.certificates))
 election_written h x s c l f g n =
     let cs = (tables_of h).certificates in
     let k = place_of c.term cs in
-    let within : k ≤ word_at h 6 1 = omega (arith, place_within c.term cs, certificates_count h) in
+    let within : k ≤ certificates_held h = omega (arith, place_within c.term cs, certificates_count h) in
     let e = certificates_is h x s in
     let order : take k x.certificates ++ (certificate_in x.prefixes c ∷ drop k x.certificates) ≡ in_order (certificate_in x.prefixes c) x.certificates
     = subst (λ (q : List Certificate). take k q ++ (certificate_in x.prefixes c ∷ drop k q) ≡ in_order (certificate_in x.prefixes c) q) e (in_order_lem x.prefixes c cs) in

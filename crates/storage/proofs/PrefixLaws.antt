@@ -9,7 +9,7 @@ use mathlib.Core.List.{List, [], ◌∷◌, ◌++◌}
 use lib.Dec.{eqb}
 use lib.ListN.{length, drop}
 use borrow.Author.Tests.{eqb-true}
-use Rattle.model.specs.Sizes.{Bytes}
+use Rattle.model.specs.Sizes.{Bytes, index_limit, content_limit}
 use Rattle.storage_bytes.specs.Lists.{some}
 use Rattle.storage.specs.Tables.{PrefixRow}
 use Rattle.storage.specs.Decode.{prefix_at, entry_of, extended, resolve}
@@ -72,7 +72,7 @@ module _ (rows : List PrefixRow) (f : Facts rows) where
       f.entry j l ∙ (λ i. prefix_at (resolve rows) (q.0 i) ++ (q.1 i ∷ []))
 
   -- a prefix that has no number may have the next one
-  pub new_right : (r : PrefixRow) → r.parent ≤ length rows → r.index ≡ length (prefix_at (resolve rows) r.parent) + 1 → r.index ≤ 256 → r.size ≤ 32
+  pub new_right : (r : PrefixRow) → r.parent ≤ length rows → r.index ≡ length (prefix_at (resolve rows) r.parent) + 1 → r.index ≤ index_limit → r.size ≤ content_limit
       → ((q : ℕ) → q ≤ length rows → prefix_at (resolve rows) q ≡ extended (resolve rows) r → ⊥)
       → prefix_right rows r ≡ true
   new_right r p i l s no_number =

@@ -15,11 +15,12 @@ use lib.Dec.{leb, eqb}
 use lib.ListN.{length, get_or, drop, length-append, length-map, get_or-append, get_or-map}
 use lib.Seq.{get_or_at, append_snoc}
 use borrow.Author.Tests.{leb-true, eqb-true, le-leb, eq-eqb, not-true}
-use Rattle.model.specs.Sizes.{Bytes}
 use Rattle.model.specs.Entry.{Entry, Prefix}
+use Rattle.model.specs.Sizes.{Bytes, index_limit, content_limit}
 use Rattle.storage_bytes.specs.Lists.{some}
 use Rattle.storage.specs.Tables.{PrefixRow, prefix_row, rows_of_prefixes}
 use Rattle.storage_bytes.specs.Words.{bytes_at, word_at, same_bytes}
+use Rattle.storage_bytes.specs.Layout.{prefix_width, byte_width, prefix_size, prefix_content}
 use Rattle.storage.specs.Decode.{prefix_at, entry_of, extended, resolve_from, resolve}
 use Rattle.storage.specs.Rules.{index_among, same_row, is_among, prefix_right, prefixes_right_after}
 use Rattle.storage_bytes.proofs.ListLaws.{both, tabulate_length, tabulate_at}
@@ -83,7 +84,7 @@ Sized r = length r.content ≡ min r.size 32
 
 pub record Facts (rows : List PrefixRow) : Type 0 where
   pub sized : (k : ℕ) → k < length rows → length (row_at rows k).content ≡ (row_at rows k).size
-  pub small : (k : ℕ) → k < length rows → ((row_at rows k).index ≤ 256) × ((row_at rows k).size ≤ 32)
+  pub small : (k : ℕ) → k < length rows → ((row_at rows k).index ≤ index_limit) × ((row_at rows k).size ≤ content_limit)
   -- a parent has a smaller number
   pub parent : (k : ℕ) → k < length rows → (row_at rows k).parent ≤ k
   -- number k + 1 is the parent's prefix and the row's entry
@@ -98,10 +99,10 @@ pub entry_after : (rows : List PrefixRow) → Facts rows → (k : ℕ) → k < l
 entry_after rows f k l = ap (λ (n : ℕ). prefix_at (resolve rows) n) (sym (add-one k)) ∙ f.entry k l
 
 -- every index is within the limit
-pub index_small : (rows : List PrefixRow) → Facts rows → (p : ℕ) → p ≤ length rows → index_among rows p ≤ 256
+pub index_small : (rows : List PrefixRow) → Facts rows → (p : ℕ) → p ≤ length rows → index_among rows p ≤ index_limit
 index_small rows f zero l = omega arith
 index_small rows f (suc p) l =
-    subst (λ (x : ℕ). x ≤ 256) (sym (get_or-map (λ (r : PrefixRow). r.index) rows p empty_row)) (f.small p l).0
+    subst (λ (x : ℕ). x ≤ index_limit) (sym (get_or-map (λ (r : PrefixRow). r.index) rows p empty_row)) (f.small p l).0
 
 pub facts_none : Facts []
 unfolding resolve_from
@@ -122,8 +123,8 @@ facts_none =
 pub record RowRight (rows : List PrefixRow) (r : PrefixRow) : Type 0 where
   pub parent : r.parent ≤ length rows
   pub index : r.index ≡ index_among rows r.parent + 1
-  pub limit : r.index ≤ 256
-  pub size : r.size ≤ 32
+  pub limit : r.index ≤ index_limit
+  pub size : r.size ≤ content_limit
   pub new : is_among r (drop r.parent rows) ≡ false
 
 pub row_right : (rows : List PrefixRow) (r : PrefixRow) → prefix_right rows r ≡ true → RowRight rows r
@@ -131,8 +132,8 @@ unfolding prefix_right
 row_right rows r e =
     let a = both (leb r.parent (length rows) && eqb r.index (index_among rows r.parent + 1)) _ e in
     let x = both (leb r.parent (length rows)) _ a.0 in
-    let b = both (leb r.index 256) _ a.1 in
-    let s = both (leb r.size 32) _ b.1 in
+    let b = both (leb r.index index_limit) _ a.1 in
+    let s = both (leb r.size content_limit) _ b.1 in
     record {
       parent = leb-true _ _ x.0;
       index = eqb-true _ _ x.1;
@@ -147,8 +148,8 @@ row_right_test rows r f =
     rw (
       le-leb r.parent (length rows) f.parent,
       eq-eqb r.index (index_among rows r.parent + 1) f.index,
-      le-leb r.index 256 f.limit,
-      le-leb r.size 32 f.size,
+      le-leb r.index index_limit f.limit,
+      le-leb r.size content_limit f.size,
       f.new,
     )
 
@@ -297,7 +298,7 @@ module _ (rows : List PrefixRow) (r : PrefixRow) (f : Facts rows) (right : RowRi
   facts_snoc =
       record {
         sized = each (λ k x. length x.content ≡ x.size) f.sized (fit ∙ min-eq_left right.size);
-        small = each (λ k x. (x.index ≤ 256) × (x.size ≤ 32)) f.small (right.limit, right.size);
+        small = each (λ k x. (x.index ≤ index_limit) × (x.size ≤ content_limit)) f.small (right.limit, right.size);
         parent = each (λ k x. x.parent ≤ k) f.parent right.parent;
         entry = grown_entry;
         index = grown_index;
@@ -328,7 +329,7 @@ pub rows_sized : (t : Bytes) (n : ℕ) → AllSized (rows_of_prefixes t n)
 unfolding bytes_at
 rows_sized t n k h =
     let l : k < n = omega (arith, tabulate_length (prefix_row t) 0 n) in
-    subst Sized (sym (tabulate_at (prefix_row t) 0 n k empty_row l)) (tabulate_length (λ i. get_or t i 0) ((0 + k) * 41 + 9) (min (word_at t ((0 + k) * 41 + 8) 1) 32))
+    subst Sized (sym (tabulate_at (prefix_row t) 0 n k empty_row l)) (tabulate_length (λ i. get_or t i 0) ((0 + k) * prefix_width + prefix_content) (min (word_at t ((0 + k) * prefix_width + prefix_size) byte_width) 32))
 
 -- one more row keeps the rules where it is right by those before it
 pub right_snoc : (before rs : List PrefixRow) (r : PrefixRow)

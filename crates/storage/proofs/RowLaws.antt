@@ -10,11 +10,12 @@ use mathlib.Core.Path.{◌≡◌, refl, ap, sym, ◌∙◌}
 use mathlib.Core.List.{[], ◌∷◌, ◌++◌}
 use lib.ListN.{length, get_or, set, take, drop}
 use lib.Seq.{ext_get_or, get_or-take, length-take-le, get_or-append-add}
-use Rattle.model.specs.Sizes.{Bytes}
 use Rattle.model.specs.History.{Finding}
+use Rattle.model.specs.Sizes.{Bytes, content_limit, certificate_limit, term_end}
 use Rattle.storage_bytes.specs.Lists.{tabulate}
 use Rattle.storage_bytes.specs.Words.{word_at, word_bytes, bytes_at, put_bytes}
-use Rattle.storage.specs.Tables.{NodeRow, CertificateRow, row_of_node, term_row, certificate_row, rows_of_certificates, finding_row, prefix_row}
+use Rattle.storage_bytes.specs.Layout.{certificates_length, node_width, term_width, certificate_width, finding_width, prefix_width, number_width, index_width, byte_width, node_last, node_unseen, certificate_log, certificate_mark, certificate_leader, certificate_number, certificate_present, finding_node, finding_index, finding_term, prefix_index, prefix_term, prefix_size, prefix_content}
+use Rattle.storage.specs.Tables.{NodeRow, CertificateRow, row_of_node, term_row, certificate_row, rows_of_certificates, finding_row, prefix_row, content_size}
 use Rattle.storage.specs.Writes.{certificate_inserted, node_bytes, certificate_bytes, finding_bytes, prefix_bytes, prefix_of, NodeFits, CertificateFits, FindingFits, PrefixFits}
 use Rattle.storage_bytes.proofs.ListLaws.{tabulate_insert, tabulate_same, tabulate_snoc, tabulate_set, tabulate_length, tabulate_at}
 use Rattle.storage_bytes.proofs.WordLaws.{word_shift, put_in, put_length, Agree, word_agree, bytes_agree, word_put, bytes_put, bytes_shift, put_before, put_after, word_bytes_length, word_back}
@@ -59,55 +60,62 @@ module _ {A : Type 0} (w : ℕ) (row : Bytes → ℕ → A)
 inside : (t u : Bytes) (o w f n : ℕ) → f + n ≤ w → Agree t u o (o + w) → Agree t u (o + f) (o + f + n)
 inside t u o w f n h g i a b = g i (omega arith) (omega arith)
 
-first : (t u : Bytes) (o w n : ℕ) → n ≤ w → Agree t u o (o + w) → Agree t u o (o + n)
-first t u o w n h g i a b = g i a (omega arith)
+in_row : (t u : Bytes) (w k f n : ℕ) → f + n ≤ w → Agree t u (k * w) (k * w + w) → word_at t (k * w + f) n ≡ word_at u (k * w + f) n
+in_row t u w k f n h g = word_agree t u (k * w + f) n (inside t u (k * w) w f n h g)
 
-pub node_own : (t u : Bytes) (k : ℕ) → Agree t u (k * 6) (k * 6 + 6) → row_of_node t k ≡ row_of_node u k
+row_first : (t u : Bytes) (w k n : ℕ) → n ≤ w → Agree t u (k * w) (k * w + w) → word_at t (k * w) n ≡ word_at u (k * w) n
+row_first t u w k n h g = word_agree t u (k * w) n (λ i a b. g i a (omega arith))
+
+pub node_own : (t u : Bytes) (k : ℕ) → Agree t u (k * node_width) (k * node_width + node_width) → row_of_node t k ≡ row_of_node u k
 node_own t u k g =
     λ i.
     record {
-      front = word_agree t u (k * 6) 2 (first t u (k * 6) 6 2 (omega arith) g) i;
-      last = word_agree t u (k * 6 + 2) 2 (inside t u (k * 6) 6 2 2 (omega arith) g) i;
-      unseen = word_agree t u (k * 6 + 4) 2 (inside t u (k * 6) 6 4 2 (omega arith) g) i;
+      front = row_first t u node_width k number_width (omega arith) g i;
+      last = in_row t u node_width k node_last index_width (omega arith) g i;
+      unseen = in_row t u node_width k node_unseen index_width (omega arith) g i;
     }
 
-pub term_own : (t u : Bytes) (k : ℕ) → Agree t u (k * 4) (k * 4 + 4) → term_row t k ≡ term_row u k
-term_own t u k g = word_agree t u (k * 4) 4 g
+pub term_own : (t u : Bytes) (k : ℕ) → Agree t u (k * term_width) (k * term_width + term_width) → term_row t k ≡ term_row u k
+term_own t u k g = word_agree t u (k * term_width) term_width g
 
-pub certificate_own : (t u : Bytes) (k : ℕ) → Agree t u (k * 11) (k * 11 + 11) → certificate_row t k ≡ certificate_row u k
+pub certificate_own : (t u : Bytes) (k : ℕ) → Agree t u (k * certificate_width) (k * certificate_width + certificate_width)
+    → certificate_row t k ≡ certificate_row u k
 certificate_own t u k g =
     λ i.
     record {
-      term = word_agree t u (k * 11) 4 (first t u (k * 11) 11 4 (omega arith) g) i;
-      log = word_agree t u (k * 11 + 4) 2 (inside t u (k * 11) 11 4 2 (omega arith) g) i;
-      mark = word_agree t u (k * 11 + 6) 2 (inside t u (k * 11) 11 6 2 (omega arith) g) i;
-      leader = word_agree t u (k * 11 + 8) 1 (inside t u (k * 11) 11 8 1 (omega arith) g) i;
-      number = word_agree t u (k * 11 + 9) 1 (inside t u (k * 11) 11 9 1 (omega arith) g) i;
-      present = word_agree t u (k * 11 + 10) 1 (inside t u (k * 11) 11 10 1 (omega arith) g) i;
+      term = row_first t u certificate_width k term_width (omega arith) g i;
+      log = in_row t u certificate_width k certificate_log number_width (omega arith) g i;
+      mark = in_row t u certificate_width k certificate_mark index_width (omega arith) g i;
+      leader = in_row t u certificate_width k certificate_leader byte_width (omega arith) g i;
+      number = in_row t u certificate_width k certificate_number byte_width (omega arith) g i;
+      present = in_row t u certificate_width k certificate_present byte_width (omega arith) g i;
     }
 
-pub finding_own : (t u : Bytes) (k : ℕ) → Agree t u (k * 8) (k * 8 + 8) → finding_row t k ≡ finding_row u k
+pub finding_own : (t u : Bytes) (k : ℕ) → Agree t u (k * finding_width) (k * finding_width + finding_width) → finding_row t k ≡ finding_row u k
 finding_own t u k g =
     λ i.
     record {
-      name = word_agree t u (k * 8) 1 (first t u (k * 8) 8 1 (omega arith) g) i;
-      node = word_agree t u (k * 8 + 1) 1 (inside t u (k * 8) 8 1 1 (omega arith) g) i;
-      index = word_agree t u (k * 8 + 2) 2 (inside t u (k * 8) 8 2 2 (omega arith) g) i;
-      term = word_agree t u (k * 8 + 4) 4 (inside t u (k * 8) 8 4 4 (omega arith) g) i;
+      name = row_first t u finding_width k byte_width (omega arith) g i;
+      node = in_row t u finding_width k finding_node byte_width (omega arith) g i;
+      index = in_row t u finding_width k finding_index index_width (omega arith) g i;
+      term = in_row t u finding_width k finding_term term_width (omega arith) g i;
     }
 
-pub prefix_own : (t u : Bytes) (k : ℕ) → Agree t u (k * 41) (k * 41 + 41) → prefix_row t k ≡ prefix_row u k
+pub prefix_own : (t u : Bytes) (k : ℕ) → Agree t u (k * prefix_width) (k * prefix_width + prefix_width) → prefix_row t k ≡ prefix_row u k
 prefix_own t u k g =
-    let size : word_at t (k * 41 + 8) 1 ≡ word_at u (k * 41 + 8) 1
-    = word_agree t u (k * 41 + 8) 1 (inside t u (k * 41) 41 8 1 (omega arith) g) in
-    let content : bytes_at t (k * 41 + 9) (min (word_at t (k * 41 + 8) 1) 32) ≡ bytes_at u (k * 41 + 9) (min (word_at u (k * 41 + 8) 1) 32)
-    = bytes_agree t u (k * 41 + 9) (min (word_at t (k * 41 + 8) 1) 32) (inside t u (k * 41) 41 9 (min (word_at t (k * 41 + 8) 1) 32) (omega arith) g)
-    ∙ ap (λ (s : ℕ). bytes_at u (k * 41 + 9) (min s 32)) size in
+    let size : word_at t (k * prefix_width + prefix_size) byte_width ≡ word_at u (k * prefix_width + prefix_size) byte_width
+    = in_row t u prefix_width k prefix_size byte_width (omega arith) g in
+    let o = k * prefix_width in
+    let a = o + prefix_content in
+    let n = content_size t o in
+    let content : bytes_at t a n ≡ bytes_at u a (content_size u o)
+    = bytes_agree t u a n (inside t u o prefix_width prefix_content n (omega arith) g)
+    ∙ ap (λ (s : ℕ). bytes_at u a (min s content_limit)) size in
     λ i.
     record {
-      parent = word_agree t u (k * 41) 2 (first t u (k * 41) 41 2 (omega arith) g) i;
-      index = word_agree t u (k * 41 + 2) 2 (inside t u (k * 41) 41 2 2 (omega arith) g) i;
-      term = word_agree t u (k * 41 + 4) 4 (inside t u (k * 41) 41 4 4 (omega arith) g) i;
+      parent = row_first t u prefix_width k number_width (omega arith) g i;
+      index = in_row t u prefix_width k prefix_index index_width (omega arith) g i;
+      term = in_row t u prefix_width k prefix_term term_width (omega arith) g i;
       size = size i;
       content = content i;
     }
@@ -119,56 +127,65 @@ word_first : (t : Bytes) (o : ℕ) (vs : Bytes) (n : ℕ) → o + length vs ≤ 
 word_first t o vs n r h =
     ap (λ (k : ℕ). word_at (put_bytes t o vs) k n) (sym (add-zero o)) ∙ word_put t o vs 0 n r (omega arith)
 
-pub node_length : (x : NodeRow) → length (node_bytes x) ≡ 6
+pub node_length : (x : NodeRow) → length (node_bytes x) ≡ node_width
 unfolding node_bytes
 node_length x = refl
 
-pub node_back : (r : Bytes) (k : ℕ) (x : NodeRow) → NodeFits x → k * 6 + 6 ≤ length r → row_of_node (put_bytes r (k * 6) (node_bytes x)) k ≡ x
+pub node_back : (r : Bytes) (k : ℕ) (x : NodeRow) → NodeFits x → k * node_width + node_width ≤ length r
+    → row_of_node (put_bytes r (k * node_width) (node_bytes x)) k ≡ x
 unfolding node_bytes word_at
 node_back r k x f h =
+    let o = k * node_width in
+    let vs = node_bytes x in
     λ i.
     record {
-      front = (word_first r (k * 6) (node_bytes x) 2 h (omega arith) ∙ word_back 2 x.front f.front) i;
-      last = (word_put r (k * 6) (node_bytes x) 2 2 h (omega arith) ∙ word_back 2 x.last f.last) i;
-      unseen = (word_put r (k * 6) (node_bytes x) 4 2 h (omega arith) ∙ word_back 2 x.unseen f.unseen) i;
+      front = (word_first r o vs number_width h (omega arith) ∙ word_back number_width x.front f.front) i;
+      last = (word_put r o vs node_last index_width h (omega arith) ∙ word_back index_width x.last f.last) i;
+      unseen = (word_put r o vs node_unseen index_width h (omega arith) ∙ word_back index_width x.unseen f.unseen) i;
     }
 
-pub term_back : (r : Bytes) (k v : ℕ) → v < 4294967296 → k * 4 + 4 ≤ length r → term_row (put_bytes r (k * 4) (word_bytes 4 v)) k ≡ v
+pub term_back : (r : Bytes) (k v : ℕ) → v < term_end → k * term_width + term_width ≤ length r
+    → term_row (put_bytes r (k * term_width) (word_bytes term_width v)) k ≡ v
 term_back r k v f h =
-    let l = word_bytes_length 4 v in
-    word_first r (k * 4) (word_bytes 4 v) 4 (omega (arith, l)) (omega (arith, l)) ∙ word_back 4 v f
+    let l = word_bytes_length term_width v in
+    word_first r (k * term_width) (word_bytes term_width v) term_width (omega (arith, l)) (omega (arith, l)) ∙ word_back term_width v f
 
-pub certificate_length : (x : CertificateRow) → length (certificate_bytes x) ≡ 11
+pub certificate_length : (x : CertificateRow) → length (certificate_bytes x) ≡ certificate_width
 unfolding certificate_bytes
 certificate_length x = refl
 
-pub certificate_back : (r : Bytes) (k : ℕ) (x : CertificateRow) → CertificateFits x → k * 11 + 11 ≤ length r
-    → certificate_row (put_bytes r (k * 11) (certificate_bytes x)) k ≡ x
+pub certificate_back : (r : Bytes) (k : ℕ) (x : CertificateRow) → CertificateFits x → k * certificate_width + certificate_width ≤ length r
+    → certificate_row (put_bytes r (k * certificate_width) (certificate_bytes x)) k ≡ x
 unfolding certificate_bytes word_at
 certificate_back r k x f h =
+    let o = k * certificate_width in
+    let vs = certificate_bytes x in
     λ i.
     record {
-      term = (word_first r (k * 11) (certificate_bytes x) 4 h (omega arith) ∙ word_back 4 x.term f.term) i;
-      log = (word_put r (k * 11) (certificate_bytes x) 4 2 h (omega arith) ∙ word_back 2 x.log f.log) i;
-      mark = (word_put r (k * 11) (certificate_bytes x) 6 2 h (omega arith) ∙ word_back 2 x.mark f.mark) i;
-      leader = (word_put r (k * 11) (certificate_bytes x) 8 1 h (omega arith) ∙ word_back 1 x.leader f.leader) i;
-      number = (word_put r (k * 11) (certificate_bytes x) 9 1 h (omega arith) ∙ word_back 1 x.number f.number) i;
-      present = (word_put r (k * 11) (certificate_bytes x) 10 1 h (omega arith) ∙ word_back 1 x.present f.present) i;
+      term = (word_first r o vs term_width h (omega arith) ∙ word_back term_width x.term f.term) i;
+      log = (word_put r o vs certificate_log number_width h (omega arith) ∙ word_back number_width x.log f.log) i;
+      mark = (word_put r o vs certificate_mark index_width h (omega arith) ∙ word_back index_width x.mark f.mark) i;
+      leader = (word_put r o vs certificate_leader byte_width h (omega arith) ∙ word_back byte_width x.leader f.leader) i;
+      number = (word_put r o vs certificate_number byte_width h (omega arith) ∙ word_back byte_width x.number f.number) i;
+      present = (word_put r o vs certificate_present byte_width h (omega arith) ∙ word_back byte_width x.present f.present) i;
     }
 
-pub finding_length : (x : Finding) → length (finding_bytes x) ≡ 8
+pub finding_length : (x : Finding) → length (finding_bytes x) ≡ finding_width
 unfolding finding_bytes
 finding_length x = refl
 
-pub finding_back : (r : Bytes) (k : ℕ) (x : Finding) → FindingFits x → k * 8 + 8 ≤ length r → finding_row (put_bytes r (k * 8) (finding_bytes x)) k ≡ x
+pub finding_back : (r : Bytes) (k : ℕ) (x : Finding) → FindingFits x → k * finding_width + finding_width ≤ length r
+    → finding_row (put_bytes r (k * finding_width) (finding_bytes x)) k ≡ x
 unfolding finding_bytes word_at
 finding_back r k x f h =
+    let o = k * finding_width in
+    let vs = finding_bytes x in
     λ i.
     record {
-      name = (word_first r (k * 8) (finding_bytes x) 1 h (omega arith) ∙ word_back 1 x.name f.name) i;
-      node = (word_put r (k * 8) (finding_bytes x) 1 1 h (omega arith) ∙ word_back 1 x.node f.node) i;
-      index = (word_put r (k * 8) (finding_bytes x) 2 2 h (omega arith) ∙ word_back 2 x.index f.index) i;
-      term = (word_put r (k * 8) (finding_bytes x) 4 4 h (omega arith) ∙ word_back 4 x.term f.term) i;
+      name = (word_first r o vs byte_width h (omega arith) ∙ word_back byte_width x.name f.name) i;
+      node = (word_put r o vs finding_node byte_width h (omega arith) ∙ word_back byte_width x.node f.node) i;
+      index = (word_put r o vs finding_index index_width h (omega arith) ∙ word_back index_width x.index f.index) i;
+      term = (word_put r o vs finding_term term_width h (omega arith) ∙ word_back term_width x.term f.term) i;
     }
 
 -- the first bytes of a list, read one by one
@@ -181,52 +198,54 @@ bytes_take vs n h =
     let m : i < n = omega (arith, tabulate_length (λ j. get_or vs j 0) 0 n) in
     tabulate_at (λ j. get_or vs j 0) 0 n i 0 m ∙ ap (λ (k : ℕ). get_or vs k 0) (zero-add i) ∙ sym (get_or-take n vs i 0 m))
 
-prefix_head : ℕ → ℕ → ℕ → ℕ → Bytes
-prefix_head p i t s = word_bytes 2 p ++ (word_bytes 2 i ++ (word_bytes 4 t ++ word_bytes 1 s))
+before_content : ℕ → ℕ → ℕ → ℕ → Bytes
+before_content p i t s =
+    word_bytes number_width p ++ (word_bytes index_width i ++ (word_bytes term_width t ++ word_bytes byte_width s))
 
--- the content starts at byte 9 of what is written
-prefix_content : (p i t s : ℕ) (c : Bytes) (j : ℕ) → get_or (prefix_bytes p i t s c) (9 + j) 0 ≡ get_or c j 0
-unfolding prefix_bytes prefix_head
-prefix_content p i t s c j = get_or-append-add (prefix_head p i t s) c j 0
+-- where the content starts in what is written
+content_written : (p i t s : ℕ) (c : Bytes) (j : ℕ) → get_or (prefix_bytes p i t s c) (prefix_content + j) 0 ≡ get_or c j 0
+unfolding prefix_bytes before_content
+content_written p i t s c j = get_or-append-add (before_content p i t s) c j 0
 
-pub prefix_length : (p i t s : ℕ) (c : Bytes) → length c ≡ 32 → length (prefix_bytes p i t s c) ≡ 41
+pub prefix_length : (p i t s : ℕ) (c : Bytes) → length c ≡ content_limit → length (prefix_bytes p i t s c) ≡ prefix_width
 unfolding prefix_bytes
 prefix_length p i t s c l = omega arith
 
-pub prefix_back : (r : Bytes) (k p i t s : ℕ) (c : Bytes) → PrefixFits p i t s c → k * 41 + 41 ≤ length r
-    → prefix_row (put_bytes r (k * 41) (prefix_bytes p i t s c)) k ≡ prefix_of p i t s c
+pub prefix_back : (r : Bytes) (k p i t s : ℕ) (c : Bytes) → PrefixFits p i t s c → k * prefix_width + prefix_width ≤ length r
+    → prefix_row (put_bytes r (k * prefix_width) (prefix_bytes p i t s c)) k ≡ prefix_of p i t s c
 prefix_back r k p i t s c f h =
+    let o = k * prefix_width in
     let vs = prefix_bytes p i t s c in
-    let u = put_bytes r (k * 41) vs in
-    let l : length vs ≡ 41 = prefix_length p i t s c f.padded in
-    let g : k * 41 + length vs ≤ length r = omega arith in
-    let size : word_at u (k * 41 + 8) 1 ≡ s
-    = word_put r (k * 41) vs 8 1 g (omega arith) ∙ at_size p i t s c ∙ word_back 1 s (omega (arith, f.size)) in
-    let content : bytes_at u (k * 41 + 9) (min (word_at u (k * 41 + 8) 1) 32) ≡ take s c
-    = ap (λ (n : ℕ). bytes_at u (k * 41 + 9) (min n 32)) size
-    ∙ ap (bytes_at u (k * 41 + 9)) (min-eq_left f.size)
-    ∙ bytes_put r (k * 41) vs 9 s g (omega (arith, f.size))
-    ∙ bytes_shift vs c 9 0 s (λ j b. prefix_content p i t s c j ∙ ap (λ (n : ℕ). get_or c n 0) (sym (zero-add j)))
+    let u = put_bytes r o vs in
+    let l : length vs ≡ prefix_width = prefix_length p i t s c f.padded in
+    let g : o + length vs ≤ length r = omega arith in
+    let size : word_at u (o + prefix_size) byte_width ≡ s
+    = word_put r o vs prefix_size byte_width g (omega arith) ∙ at_size p i t s c ∙ word_back byte_width s (omega (arith, f.size)) in
+    let content : bytes_at u (o + prefix_content) (content_size u o) ≡ take s c
+    = ap (λ (n : ℕ). bytes_at u (o + prefix_content) (min n content_limit)) size
+    ∙ ap (bytes_at u (o + prefix_content)) (min-eq_left f.size)
+    ∙ bytes_put r o vs prefix_content s g (omega (arith, f.size))
+    ∙ bytes_shift vs c prefix_content 0 s (λ j b. content_written p i t s c j ∙ ap (λ (n : ℕ). get_or c n 0) (sym (zero-add j)))
     ∙ bytes_take c s (omega (arith, f.size, f.padded)) in
     λ j.
     record {
-      parent = (word_first r (k * 41) vs 2 g (omega arith) ∙ at_parent p i t s c ∙ word_back 2 p f.parent) j;
-      index = (word_put r (k * 41) vs 2 2 g (omega arith) ∙ at_index p i t s c ∙ word_back 2 i f.index) j;
-      term = (word_put r (k * 41) vs 4 4 g (omega arith) ∙ at_term p i t s c ∙ word_back 4 t f.term) j;
+      parent = (word_first r o vs number_width g (omega arith) ∙ at_parent p i t s c ∙ word_back number_width p f.parent) j;
+      index = (word_put r o vs prefix_index index_width g (omega arith) ∙ at_index p i t s c ∙ word_back index_width i f.index) j;
+      term = (word_put r o vs prefix_term term_width g (omega arith) ∙ at_term p i t s c ∙ word_back term_width t f.term) j;
       size = size j;
       content = content j;
     }
   where
-    at_parent : (p i t s : ℕ) (c : Bytes) → word_at (prefix_bytes p i t s c) 0 2 ≡ word_at (word_bytes 2 p) 0 2
+    at_parent : (p i t s : ℕ) (c : Bytes) → word_at (prefix_bytes p i t s c) 0 number_width ≡ word_at (word_bytes number_width p) 0 number_width
     at_parent p i t s c = unfold prefix_bytes word_at in refl
 
-    at_index : (p i t s : ℕ) (c : Bytes) → word_at (prefix_bytes p i t s c) 2 2 ≡ word_at (word_bytes 2 i) 0 2
+    at_index : (p i t s : ℕ) (c : Bytes) → word_at (prefix_bytes p i t s c) prefix_index index_width ≡ word_at (word_bytes index_width i) 0 index_width
     at_index p i t s c = unfold prefix_bytes word_at in refl
 
-    at_term : (p i t s : ℕ) (c : Bytes) → word_at (prefix_bytes p i t s c) 4 4 ≡ word_at (word_bytes 4 t) 0 4
+    at_term : (p i t s : ℕ) (c : Bytes) → word_at (prefix_bytes p i t s c) prefix_term term_width ≡ word_at (word_bytes term_width t) 0 term_width
     at_term p i t s c = unfold prefix_bytes word_at in refl
 
-    at_size : (p i t s : ℕ) (c : Bytes) → word_at (prefix_bytes p i t s c) 8 1 ≡ word_at (word_bytes 1 s) 0 1
+    at_size : (p i t s : ℕ) (c : Bytes) → word_at (prefix_bytes p i t s c) prefix_size byte_width ≡ word_at (word_bytes byte_width s) 0 byte_width
     at_size p i t s c = unfold prefix_bytes word_at in refl
 
 -- ---- one number written
@@ -246,23 +265,28 @@ word_after r o vs p m h = word_agree (put_bytes r o vs) r p m (λ i a b. put_aft
 -- ---- a certificate put in its place, those behind it moved up
 
 -- a row that has the bytes of another
-certificate_moved : (t u : Bytes) (k j : ℕ) → ((i : ℕ) → i < 11 → get_or t (k * 11 + i) 0 ≡ get_or u (j * 11 + i) 0) → certificate_row t k ≡ certificate_row u j
+certificate_moved : (t u : Bytes) (k j : ℕ)
+    → ((i : ℕ) → i < certificate_width → get_or t (k * certificate_width + i) 0 ≡ get_or u (j * certificate_width + i) 0)
+    → certificate_row t k ≡ certificate_row u j
 certificate_moved t u k j h =
     λ i.
     record {
-      term = word_shift t u (k * 11) (j * 11) 4 (λ m l. h m (omega arith)) i;
-      log = word_shift t u (k * 11 + 4) (j * 11 + 4) 2 (λ m l. at 4 m (omega arith)) i;
-      mark = word_shift t u (k * 11 + 6) (j * 11 + 6) 2 (λ m l. at 6 m (omega arith)) i;
-      leader = word_shift t u (k * 11 + 8) (j * 11 + 8) 1 (λ m l. at 8 m (omega arith)) i;
-      number = word_shift t u (k * 11 + 9) (j * 11 + 9) 1 (λ m l. at 9 m (omega arith)) i;
-      present = word_shift t u (k * 11 + 10) (j * 11 + 10) 1 (λ m l. at 10 m (omega arith)) i;
+      term = word_shift t u (k * certificate_width) (j * certificate_width) term_width (λ m l. h m (omega arith)) i;
+      log = field certificate_log number_width (omega arith) i;
+      mark = field certificate_mark index_width (omega arith) i;
+      leader = field certificate_leader byte_width (omega arith) i;
+      number = field certificate_number byte_width (omega arith) i;
+      present = field certificate_present byte_width (omega arith) i;
     }
   where
-    at : (f m : ℕ) → f + m < 11 → get_or t (k * 11 + f + m) 0 ≡ get_or u (j * 11 + f + m) 0
+    at : (f m : ℕ) → f + m < certificate_width → get_or t (k * certificate_width + f + m) 0 ≡ get_or u (j * certificate_width + f + m) 0
     at f m l =
-        ap (λ (n : ℕ). get_or t n 0) (let e : k * 11 + f + m ≡ k * 11 + (f + m) = omega arith in e)
+        ap (λ (n : ℕ). get_or t n 0) (let e : k * certificate_width + f + m ≡ k * certificate_width + (f + m) = omega arith in e)
         ∙ h (f + m) l
-        ∙ ap (λ (n : ℕ). get_or u n 0) (let e : j * 11 + (f + m) ≡ j * 11 + f + m = omega arith in e)
+        ∙ ap (λ (n : ℕ). get_or u n 0) (let e : j * certificate_width + (f + m) ≡ j * certificate_width + f + m = omega arith in e)
+
+    field : (f n : ℕ) → f + n ≤ certificate_width → word_at t (k * certificate_width + f) n ≡ word_at u (j * certificate_width + f) n
+    field f n l = word_shift t u (k * certificate_width + f) (j * certificate_width + f) n (λ m b. at f m (omega arith))
 
 bytes_at_lem : (t : Bytes) (o n i : ℕ) → i < n → get_or (bytes_at t o n) i 0 ≡ get_or t (o + i) 0
 unfolding bytes_at
@@ -272,38 +296,38 @@ bytes_length : (t : Bytes) (o n : ℕ) → length (bytes_at t o n) ≡ n
 unfolding bytes_at
 bytes_length t o n = tabulate_length (λ j. get_or t j 0) o n
 
-pub certificates_inserted : (r : Bytes) (n k : ℕ) (x : CertificateRow) → k ≤ n → n < 64 → length r ≡ 704 → CertificateFits x
+pub certificates_inserted : (r : Bytes) (n k : ℕ) (x : CertificateRow) → k ≤ n → n < certificate_limit → length r ≡ certificates_length → CertificateFits x
     → rows_of_certificates (certificate_inserted r n k x) (n + 1) ≡ take k (rows_of_certificates r n) ++ (x ∷ drop k (rows_of_certificates r n))
 unfolding certificate_inserted
 certificates_inserted r n k x h l long f =
     tabulate_insert (certificate_row r) (certificate_row u) n k x h
-    (λ j b. row_other 11 certificate_row certificate_own m (certificate_bytes x) k j (certificate_length x) (omega arith) ∙ low j b)
-    (certificate_back m k x f (omega (arith, put_length r (k * 11 + 11) vs)))
-    (λ j a b. row_other 11 certificate_row certificate_own m (certificate_bytes x) k (j + 1) (certificate_length x) (omega arith) ∙ high j a b)
+    (λ j b. row_other certificate_width certificate_row certificate_own m (certificate_bytes x) k j (certificate_length x) (omega arith) ∙ low j b)
+    (certificate_back m k x f (omega (arith, put_length r (k * certificate_width + certificate_width) vs)))
+    (λ j a b. row_other certificate_width certificate_row certificate_own m (certificate_bytes x) k (j + 1) (certificate_length x) (omega arith) ∙ high j a b)
   where
     vs : Bytes
-    vs = bytes_at r (k * 11) ((n - k) * 11)
+    vs = bytes_at r (k * certificate_width) ((n - k) * certificate_width)
 
     m : Bytes
-    m = put_bytes r (k * 11 + 11) vs
+    m = put_bytes r (k * certificate_width + certificate_width) vs
 
     u : Bytes
-    u = put_bytes m (k * 11) (certificate_bytes x)
+    u = put_bytes m (k * certificate_width) (certificate_bytes x)
 
-    long_vs : length vs ≡ (n - k) * 11
-    long_vs = bytes_length r (k * 11) ((n - k) * 11)
+    long_vs : length vs ≡ (n - k) * certificate_width
+    long_vs = bytes_length r (k * certificate_width) ((n - k) * certificate_width)
 
     low : (j : ℕ) → j < k → certificate_row m j ≡ certificate_row r j
-    low j b = certificate_own m r j (λ i a c. put_before r (k * 11 + 11) vs i (omega arith))
+    low j b = certificate_own m r j (λ i a c. put_before r (k * certificate_width + certificate_width) vs i (omega arith))
 
     high : (j : ℕ) → k ≤ j → j < n → certificate_row m (j + 1) ≡ certificate_row r j
     high j a b =
         certificate_moved m r (j + 1) j
         (λ i c.
-        let d = (j - k) * 11 + i in
-        let e : (j + 1) * 11 + i ≡ k * 11 + 11 + d = omega arith in
-        let g : d < (n - k) * 11 = omega arith in
+        let d = (j - k) * certificate_width + i in
+        let e : (j + 1) * certificate_width + i ≡ k * certificate_width + certificate_width + d = omega arith in
+        let g : d < (n - k) * certificate_width = omega arith in
         ap (λ (q : ℕ). get_or m q 0) e
-        ∙ put_in r (k * 11 + 11) vs d (omega (arith, long_vs)) (omega (arith, long_vs))
-        ∙ bytes_at_lem r (k * 11) ((n - k) * 11) d g
-        ∙ ap (λ (q : ℕ). get_or r q 0) (let z : k * 11 + d ≡ j * 11 + i = omega arith in z))
+        ∙ put_in r (k * certificate_width + certificate_width) vs d (omega (arith, long_vs)) (omega (arith, long_vs))
+        ∙ bytes_at_lem r (k * certificate_width) ((n - k) * certificate_width) d g
+        ∙ ap (λ (q : ℕ). get_or r q 0) (let z : k * certificate_width + d ≡ j * certificate_width + i = omega arith in z))

@@ -9,7 +9,7 @@ use mathlib.Core.List.{List, [], ◌∷◌}
 use lib.Dec.{leb, ltb, eqb}
 use lib.ListN.{get_or, set, get_or-map}
 use borrow.Author.Tests.{leb-true, ne_eqb}
-use Rattle.model.specs.Sizes.{Bytes}
+use Rattle.model.specs.Sizes.{Bytes, index_limit, prefix_limit, certificate_limit, finding_limit}
 use Rattle.storage.specs.Tables.{PrefixRow, CertificateRow, prefix_row, rows_of_prefixes}
 use Rattle.storage.specs.Rules.{follows, numbered_after, numbered, index_among, within_limits}
 use Rattle.storage.specs.Values.{number_index}
@@ -41,22 +41,22 @@ pub pass : {a : Bool} (b : Bool) → a ≡ true → (a && b) ≡ b
 pass b e = ap (λ (v : Bool). v && b) e
 
 pub record Limited (ps ts cs fs : ℕ) : Type 0 where
-  pub prefixes : ps ≤ 512
-  pub terms : ts ≤ 256
-  pub certificates : cs ≤ 64
-  pub findings : fs ≤ 128
+  pub prefixes : ps ≤ prefix_limit
+  pub terms : ts ≤ index_limit
+  pub certificates : cs ≤ certificate_limit
+  pub findings : fs ≤ finding_limit
 
 pub within : (ps ts cs fs : ℕ) → within_limits ps ts cs fs ≡ true → Limited ps ts cs fs
 unfolding within_limits
 within ps ts cs fs e =
-    let a = both (leb ps 512) _ e in
-    let b = both (leb ts 256) _ a.1 in
-    let d = both (leb cs 64) _ b.1 in
+    let a = both (leb ps prefix_limit) _ e in
+    let b = both (leb ts index_limit) _ a.1 in
+    let d = both (leb cs certificate_limit) _ b.1 in
     record {
-      prefixes = leb-true ps 512 a.0;
+      prefixes = leb-true ps prefix_limit a.0;
       terms = leb-true ts 256 b.0;
-      certificates = leb-true cs 64 d.0;
-      findings = leb-true fs 128 d.1;
+      certificates = leb-true cs certificate_limit d.0;
+      findings = leb-true fs finding_limit d.1;
     }
 
 -- ---- numbering looks at terms and numbers only

@@ -9,10 +9,11 @@ use mathlib.Core.List.{◌++◌, append_assoc}
 use lib.Seq.{drop-drop}
 use lib.ListN.{length, take, drop}
 use Rattle.model.specs.Sizes.{Bytes}
-use Rattle.storage_bytes.specs.Words.{word_at, word_bytes, bytes_at, put_bytes}
+use Rattle.storage_bytes.specs.Words.{word_bytes, bytes_at, put_bytes}
+use Rattle.storage_bytes.specs.Layout.{part, certificates_start, certificates_length, history_length, certificate_width, certificates_field}
 use Rattle.storage.specs.Tables.{CertificateRow, certificates_part}
 use Rattle.storage.specs.Writes.{certificate_bytes, certificate_inserted, certificate_added}
-use Rattle.storage_bytes.specs.Layout.{part}
+use Rattle.storage.specs.Head.{certificates_held, put_head_field}
 use Rattle.storage_bytes.proofs.WordLaws.{put_join, put_length}
 use Rattle.storage_bytes.proofs.PartLaws.{part_length, part_back, put_part}
 pub use Rattle.storage_bytes.proofs.PartLaws.{region_back}
@@ -54,14 +55,14 @@ then_count h m n b w vs e q c d =
 pub inserted_length : (r : Bytes) (n k : ℕ) (x : CertificateRow) → length (certificate_inserted r n k x) ≡ length r
 unfolding certificate_inserted
 inserted_length r n k x =
-    put_length (put_bytes r (k * 11 + 11) (bytes_at r (k * 11) ((n - k) * 11))) (k * 11) (certificate_bytes x)
-    ∙ put_length r (k * 11 + 11) (bytes_at r (k * 11) ((n - k) * 11))
+    put_length (put_bytes r (k * certificate_width + certificate_width) (bytes_at r (k * certificate_width) ((n - k) * certificate_width))) (k * certificate_width) (certificate_bytes x)
+    ∙ put_length r (k * certificate_width + certificate_width) (bytes_at r (k * certificate_width) ((n - k) * certificate_width))
 
-pub certificate_added_lem : (h ys : Bytes) (n k : ℕ) (x : CertificateRow) → length h ≡ 24137 → n ≡ word_at h 6 1
-    → ys ≡ certificate_inserted (take 704 (drop 1417 h)) n k x
-    → put_bytes (take 1417 h ++ (ys ++ drop 704 (drop 1417 h))) 6 (word_bytes 1 (n + 1)) ≡ certificate_added h k x
+pub certificate_added_lem : (h ys : Bytes) (n k : ℕ) (x : CertificateRow) → length h ≡ history_length → n ≡ certificates_held h
+    → ys ≡ certificate_inserted (take certificates_length (drop certificates_start h)) n k x
+    → put_head_field certificates_field (take certificates_start h ++ (ys ++ drop certificates_length (drop certificates_start h))) (n + 1) ≡ certificate_added h k x
 unfolding certificate_added part
 certificate_added_lem h ys n k x r e q =
-    let l : length ys ≡ 704 = ap length q ∙ inserted_length (certificates_part h) n k x ∙ part_length h 1417 704 (omega arith) in
-    ap (λ (u : Bytes). put_bytes u 6 (word_bytes 1 (n + 1))) (region_back h ys 1417 704 l (omega arith) ∙ ap (put_bytes h 1417) q)
-    ∙ (λ i. put_bytes (put_bytes h 1417 (certificate_inserted (certificates_part h) (e i) k x)) 6 (word_bytes 1 (e i + 1)))
+    let l : length ys ≡ certificates_length = ap length q ∙ inserted_length (certificates_part h) n k x ∙ part_length h certificates_start certificates_length (omega arith) in
+    ap (λ (u : Bytes). put_head_field certificates_field u (n + 1)) (region_back h ys certificates_start certificates_length l (omega arith) ∙ ap (put_bytes h certificates_start) q)
+    ∙ (λ i. put_head_field certificates_field (put_bytes h certificates_start (certificate_inserted (certificates_part h) (e i) k x)) (e i + 1))

@@ -1,3 +1,4 @@
+pub mod Head
 pub mod Tables
 pub mod Decode
 pub mod Rules

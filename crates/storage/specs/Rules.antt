@@ -12,8 +12,8 @@
 -- lists of any numbers: for those the rule says it of a certificate's term (`is_term`), which a check copies into a finding.
 -- Assumes nothing.
 use Rattle.std.specs.Prelude.{ℕ, ◌+◌, Bool, true, cond, not, ◌&&◌, List, [], ◌∷◌, ◌++◌, map, leb, ltb, eqb, length, get_or, drop}
-use Rattle.model.specs.Sizes.{Bytes, index_limit, content_limit, prefix_limit, certificate_limit, finding_limit}
 use Rattle.model.specs.History.{Finding}
+use Rattle.model.specs.Sizes.{Bytes, index_limit, content_limit, prefix_limit, certificate_limit, finding_limit, last_node, term_limit}
 use Rattle.storage_bytes.specs.Lists.{every, some}
 use Rattle.storage_bytes.specs.Words.{same_bytes}
 use Rattle.storage_bytes.specs.Layout.{history_length}
@@ -22,13 +22,13 @@ use Rattle.storage.specs.Tables.{PrefixRow, NodeRow, CertificateRow, Tables, tab
 -- ---- every field in range
 
 abbrev pub is_node : ℕ → Bool
-is_node n = leb n 63
+is_node n = leb n last_node
 
 abbrev pub is_index : ℕ → Bool
 is_index i = leb i index_limit
 
 abbrev pub is_term : ℕ → Bool
-is_term t = leb t 4294967295
+is_term t = leb t term_limit
 
 -- ---- each prefix named exists: p is 0 or the number of one of n stored ones
 

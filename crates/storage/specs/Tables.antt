@@ -2,11 +2,12 @@
 -- A row past its table's count is not in the table, so its bytes do not matter; nor do content bytes past the row's size.
 -- Assumes nothing.
 use Rattle.std.specs.Prelude.{ℕ, ◌+◌, ◌*◌, min, List, [], ◌∷◌, ◌++◌, set}
-use Rattle.model.specs.Sizes.{Bytes, nodes, content_limit}
 use Rattle.model.specs.History.{Finding}
+use Rattle.model.specs.Sizes.{Bytes, node_count, content_limit}
 use Rattle.storage_bytes.specs.Lists.{tabulate}
 use Rattle.storage_bytes.specs.Words.{word_at, bytes_at}
-use Rattle.storage_bytes.specs.Layout.{part, head_length, nodes_start, nodes_length, terms_start, terms_length, certificates_start, certificates_length, findings_start, findings_length, prefixes_start, prefixes_length, node_width, term_width, certificate_width, finding_width, prefix_width}
+use Rattle.storage_bytes.specs.Layout.{part, head_start, head_length, nodes_start, nodes_length, terms_start, terms_length, certificates_start, certificates_length, findings_start, findings_length, prefixes_start, prefixes_length, number_width, index_width, term_width, byte_width, node_last, node_unseen, node_width, certificate_log, certificate_mark, certificate_leader, certificate_number, certificate_present, certificate_width, finding_node, finding_index, finding_term, finding_width, prefix_index, prefix_term, prefix_size, prefix_content, prefix_width}
+use Rattle.storage.specs.Head.{prefixes_held, terms_held, committed_number, certificates_held, findings_held, owner_of}
 
 -- a stored prefix: the number of the prefix that it extends, its own index, and its last entry's term and content
 pub record PrefixRow : Type 0 where
@@ -54,54 +55,63 @@ pub record Tables : Type 0 where
 abbrev pub head_row : Bytes → HeadRow
 head_row r =
     record {
-      prefixes = word_at r 0 2;
-      terms = word_at r 2 2;
-      committed = word_at r 4 2;
-      certificates = word_at r 6 1;
-      findings = word_at r 7 1;
-      owner = word_at r 8 1;
+      prefixes = prefixes_held r;
+      terms = terms_held r;
+      committed = committed_number r;
+      certificates = certificates_held r;
+      findings = findings_held r;
+      owner = owner_of r;
     }
 
 abbrev pub row_of_node : Bytes → ℕ → NodeRow
 row_of_node r k =
     let o = k * node_width in
-    record { front = word_at r o 2; last = word_at r (o + 2) 2; unseen = word_at r (o + 4) 2 }
+    record { front = word_at r o number_width; last = word_at r (o + node_last) index_width; unseen = word_at r (o + node_unseen) index_width }
 
 abbrev pub term_row : Bytes → ℕ → ℕ
-term_row r k = word_at r (k * term_width) 4
+term_row r k = word_at r (k * term_width) term_width
 
 abbrev pub certificate_row : Bytes → ℕ → CertificateRow
 certificate_row r k =
     let o = k * certificate_width in
     record {
-      term = word_at r o 4;
-      log = word_at r (o + 4) 2;
-      mark = word_at r (o + 6) 2;
-      leader = word_at r (o + 8) 1;
-      number = word_at r (o + 9) 1;
-      present = word_at r (o + 10) 1;
+      term = word_at r o term_width;
+      log = word_at r (o + certificate_log) number_width;
+      mark = word_at r (o + certificate_mark) index_width;
+      leader = word_at r (o + certificate_leader) byte_width;
+      number = word_at r (o + certificate_number) byte_width;
+      present = word_at r (o + certificate_present) byte_width;
     }
 
 abbrev pub finding_row : Bytes → ℕ → Finding
 finding_row r k =
     let o = k * finding_width in
-    record { name = word_at r o 1; node = word_at r (o + 1) 1; index = word_at r (o + 2) 2; term = word_at r (o + 4) 4 }
+    record {
+      name = word_at r o byte_width;
+      node = word_at r (o + finding_node) byte_width;
+      index = word_at r (o + finding_index) index_width;
+      term = word_at r (o + finding_term) term_width;
+    }
+
+-- how many bytes of content the row has: of one that breaks the storage rules no more than there is room for
+abbrev pub content_size : Bytes → ℕ → ℕ
+content_size r o = min (word_at r (o + prefix_size) byte_width) content_limit
 
 abbrev pub prefix_row : Bytes → ℕ → PrefixRow
 prefix_row r k =
     let o = k * prefix_width in
     record {
-      parent = word_at r o 2;
-      index = word_at r (o + 2) 2;
-      term = word_at r (o + 4) 4;
-      size = word_at r (o + 8) 1;
-      content = bytes_at r (o + 9) (min (word_at r (o + 8) 1) content_limit);
+      parent = word_at r o number_width;
+      index = word_at r (o + prefix_index) index_width;
+      term = word_at r (o + prefix_term) term_width;
+      size = word_at r (o + prefix_size) byte_width;
+      content = bytes_at r (o + prefix_content) (content_size r o);
     }
 
 -- ---- the first n rows of a region
 
 abbrev pub node_rows : Bytes → List NodeRow
-node_rows r = tabulate (row_of_node r) 0 nodes
+node_rows r = tabulate (row_of_node r) 0 node_count
 
 abbrev pub term_rows : Bytes → ℕ → List ℕ
 term_rows r n = tabulate (term_row r) 0 n
@@ -118,7 +128,7 @@ rows_of_prefixes r n = tabulate (prefix_row r) 0 n
 -- ---- the regions of a history
 
 abbrev pub head_part : Bytes → Bytes
-head_part h = part h 0 head_length
+head_part h = part h head_start head_length
 
 abbrev pub nodes_part : Bytes → Bytes
 nodes_part h = part h nodes_start nodes_length

@@ -2,60 +2,66 @@
 -- A row is read back as it was written where each of its numbers fits its field.
 -- Assumes nothing.
 use Rattle.std.specs.Prelude.{ℕ, ◌+◌, ◌-◌, ◌*◌, ◌<◌, ◌≤◌, ◌≡◌, ◌++◌, length, take}
-use Rattle.model.specs.Sizes.{Bytes}
 use Rattle.model.specs.History.{Finding}
-use Rattle.storage_bytes.specs.Words.{word_at, word_bytes, bytes_at, put_bytes}
+use Rattle.model.specs.Sizes.{Bytes, content_limit, term_end}
+use Rattle.storage_bytes.specs.Layout.{terms_start, certificates_start, prefixes_start, term_width, certificate_width, prefix_width, number_width, index_width, byte_width, prefixes_field, terms_field, committed_field, certificates_field, owner_field}
+use Rattle.storage_bytes.specs.Words.{word_at, word_bytes, bytes_at, put_bytes, Fits}
 use Rattle.storage.specs.Tables.{PrefixRow, NodeRow, CertificateRow, certificates_part}
 use Rattle.storage.specs.Fresh.{zeros}
+use Rattle.storage.specs.Head.{prefixes_held, terms_held, certificates_held, put_head_field}
 
 unfoldable pub node_bytes : NodeRow → Bytes
 unfolding word_bytes
-node_bytes x = word_bytes 2 x.front ++ (word_bytes 2 x.last ++ word_bytes 2 x.unseen)
+node_bytes x = word_bytes number_width x.front ++ (word_bytes index_width x.last ++ word_bytes index_width x.unseen)
 
 unfoldable pub certificate_bytes : CertificateRow → Bytes
 unfolding word_bytes
 certificate_bytes x =
-    word_bytes 4 x.term
-    ++ (word_bytes 2 x.log
-    ++ (word_bytes 2 x.mark ++ (word_bytes 1 x.leader ++ (word_bytes 1 x.number ++ word_bytes 1 x.present))))
+    word_bytes term_width x.term
+    ++ (word_bytes number_width x.log
+    ++ (word_bytes index_width x.mark
+    ++ (word_bytes byte_width x.leader ++ (word_bytes byte_width x.number ++ word_bytes byte_width x.present))))
 
 unfoldable pub finding_bytes : Finding → Bytes
 unfolding word_bytes
-finding_bytes x = word_bytes 1 x.name ++ (word_bytes 1 x.node ++ (word_bytes 2 x.index ++ word_bytes 4 x.term))
+finding_bytes x =
+    word_bytes byte_width x.name
+    ++ (word_bytes byte_width x.node ++ (word_bytes index_width x.index ++ word_bytes term_width x.term))
 
--- parent, index, term, size, and the 32 bytes of which the content is the first
+-- parent, index, term, size, and the bytes of which the content is the first
 unfoldable pub prefix_bytes : ℕ → ℕ → ℕ → ℕ → Bytes → Bytes
 unfolding word_bytes
 prefix_bytes parent index term size padded =
-    word_bytes 2 parent ++ (word_bytes 2 index ++ (word_bytes 4 term ++ (word_bytes 1 size ++ padded)))
+    word_bytes number_width parent
+    ++ (word_bytes index_width index ++ (word_bytes term_width term ++ (word_bytes byte_width size ++ padded)))
 
 -- ---- each number fits its field
 
 pub record NodeFits (x : NodeRow) : Type 0 where
-  pub front : x.front < 65536
-  pub last : x.last < 65536
-  pub unseen : x.unseen < 65536
+  pub front : Fits number_width x.front
+  pub last : Fits index_width x.last
+  pub unseen : Fits index_width x.unseen
 
 pub record CertificateFits (x : CertificateRow) : Type 0 where
-  pub term : x.term < 4294967296
-  pub log : x.log < 65536
-  pub mark : x.mark < 65536
-  pub leader : x.leader < 256
-  pub number : x.number < 256
-  pub present : x.present < 256
+  pub term : Fits term_width x.term
+  pub log : Fits number_width x.log
+  pub mark : Fits index_width x.mark
+  pub leader : Fits byte_width x.leader
+  pub number : Fits byte_width x.number
+  pub present : Fits byte_width x.present
 
 pub record FindingFits (x : Finding) : Type 0 where
-  pub name : x.name < 256
-  pub node : x.node < 256
-  pub index : x.index < 65536
-  pub term : x.term < 4294967296
+  pub name : Fits byte_width x.name
+  pub node : Fits byte_width x.node
+  pub index : Fits index_width x.index
+  pub term : Fits term_width x.term
 
 pub record PrefixFits (p i t s : ℕ) (c : Bytes) : Type 0 where
-  pub parent : p < 65536
-  pub index : i < 65536
-  pub term : t < 4294967296
-  pub size : s ≤ 32
-  pub padded : length c ≡ 32
+  pub parent : Fits number_width p
+  pub index : Fits index_width i
+  pub term : Fits term_width t
+  pub size : s ≤ content_limit
+  pub padded : length c ≡ content_limit
 
 -- the row that is read where those numbers were written
 abbrev pub prefix_of : ℕ → ℕ → ℕ → ℕ → Bytes → PrefixRow
@@ -68,30 +74,30 @@ prefix_of parent index term size padded =
 unfoldable pub prefix_appended : Bytes → ℕ → ℕ → ℕ → ℕ → Bytes → Bytes
 unfolding word_at put_bytes prefix_bytes
 prefix_appended h p i t s c =
-    let n = word_at h 0 2 in
-    put_bytes (put_bytes h (3145 + n * 41) (prefix_bytes p i t s c)) 0 (word_bytes 2 (n + 1))
+    let n = prefixes_held h in
+    put_head_field prefixes_field (put_bytes h (prefixes_start + n * prefix_width) (prefix_bytes p i t s c)) (n + 1)
 
 -- commit terms lengthened with zeros to m: their places, and the count
 unfoldable pub terms_lengthened : Bytes → ℕ → Bytes
 unfolding word_at put_bytes zeros
 terms_lengthened h m =
-    let n = word_at h 2 2 in
-    put_bytes (put_bytes h (393 + n * 4) (zeros ((m - n) * 4))) 2 (word_bytes 2 m)
+    let n = terms_held h in
+    put_head_field terms_field (put_bytes h (terms_start + n * term_width) (zeros ((m - n) * term_width))) m
 
 -- the committed prefix's number and owner
 unfoldable pub committed_set : Bytes → ℕ → ℕ → Bytes
 unfolding put_bytes word_bytes
-committed_set h p o = put_bytes (put_bytes h 4 (word_bytes 2 p)) 8 (word_bytes 1 o)
+committed_set h p o = put_head_field owner_field (put_head_field committed_field h p) o
 
 -- a certificate at place k of a table of n: those from k on move up by one row
 unfoldable pub certificate_inserted : Bytes → ℕ → ℕ → CertificateRow → Bytes
 unfolding bytes_at put_bytes certificate_bytes
 certificate_inserted r n k x =
-    put_bytes (put_bytes r (k * 11 + 11) (bytes_at r (k * 11) ((n - k) * 11))) (k * 11) (certificate_bytes x)
+    put_bytes (put_bytes r (k * certificate_width + certificate_width) (bytes_at r (k * certificate_width) ((n - k) * certificate_width))) (k * certificate_width) (certificate_bytes x)
 
 -- one more certificate in a whole history, at place k: the table, and the count
 unfoldable pub certificate_added : Bytes → ℕ → CertificateRow → Bytes
 unfolding word_at put_bytes certificate_inserted
 certificate_added h k x =
-    let n = word_at h 6 1 in
-    put_bytes (put_bytes h 1417 (certificate_inserted (certificates_part h) n k x)) 6 (word_bytes 1 (n + 1))
+    let n = certificates_held h in
+    put_head_field certificates_field (put_bytes h certificates_start (certificate_inserted (certificates_part h) n k x)) (n + 1)

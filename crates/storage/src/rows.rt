@@ -3,6 +3,7 @@ ghost use Rattle.std.specs.Prelude.{◌≡◌, ◌+◌, ◌*◌, ◌≤◌, ◌<
 ghost use Rattle.storage_bytes.specs.declared.layout.Region.{Region as Place};
 ghost use Rattle.storage_bytes.specs.Words.{put_bytes};
 ghost use Rattle.storage_bytes.specs.Lists.{tabulate, every};
+ghost use Rattle.storage_bytes.specs.Layout.{history_length};
 
 use storage_bytes::layout::{History, Region};
 
@@ -29,7 +30,7 @@ pub trait Row: Copy {
         requires within { (k < count) × (length table.old ≡ TABLE.length) }
         ensures { table.new ≡ put_bytes table.old (k * width) (bytes self) };
 
-    ghost inside: { TABLE.start + TABLE.length ≤ 24137 };
+    ghost inside: { TABLE.start + TABLE.length ≤ history_length };
 
     ghost filled: { TABLE.length ≡ count * width };
 

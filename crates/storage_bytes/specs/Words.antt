@@ -24,10 +24,14 @@ unfoldable pub put_bytes : Bytes → ℕ → Bytes → Bytes
 put_bytes t o [] = t
 put_bytes t o (v ∷ vs) = put_bytes (set t o v) (o + 1) vs
 
+-- a number that n bytes hold
+abbrev pub Fits : ℕ → ℕ → Type 0
+Fits n v = v < 256 ^ n
+
 -- what reading a number of n bytes gives: the number, and that it fits its bytes
 pub record Word (t : Bytes) (o n r : ℕ) : Type 0 where
   pub is : r ≡ word_at t o n
-  pub below : r < 256 ^ n
+  pub below : Fits n r
 
 -- the same bytes, one by one
 unfoldable pub same_bytes : Bytes → Bytes → Bool

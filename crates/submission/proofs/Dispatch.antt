@@ -3,7 +3,7 @@
 use Prim.Native.Nat.{ℕ, ◌<◌}
 use mathlib.Core.Path.{◌≡◌, refl, sym, ◌∙◌, ap, subst}
 use mathlib.Core.Bool.{true, false}
-use Rattle.model.specs.Sizes.{Bytes}
+use Rattle.model.specs.Sizes.{Bytes, node_count}
 use Rattle.model.proofs.Tests.{cond_true, cond_false}
 use Rattle.units.specs.declared.NodeId.{NodeId}
 use Rattle.bit_fields.specs.declared.bits.Fault.{Fault}
@@ -15,7 +15,7 @@ use Rattle.answers.specs.declared.answer.Accepted.{Accepted}
 use Rattle.answers.specs.declared.answer.Refusal.{Refusal}
 use Rattle.submission.specs.Replies.{reply_to, bytes_to, Replied, submit_answer, submit_bytes, Submitted}
 
-pub view_node : (s : Bytes) (d : Result Head Fault) → Told s d → (n : NodeId) (c : ℕ) → d ≡ Ok (Head.View n c) → n.0 < 64
+pub view_node : (s : Bytes) (d : Result Head Fault) → Told s d → (n : NodeId) (c : ℕ) → d ≡ Ok (Head.View n c) → n.0 < node_count
 view_node s d t n c e = (subst Within e t.within).0
 
 pub replied : (h s : Bytes) (d d' : Result Head Fault) (r : Result Accepted Refusal) (h' : Bytes) → d ≡ d' → (r ≡ reply_to h s d') × (h' ≡ bytes_to h s d') → Replied h s d r h'

@@ -6,7 +6,6 @@ use mathlib.Core.Path.{◌≡◌, refl, sym, ◌∙◌, ap, subst, subst₂}
 use mathlib.Core.Bool.{false}
 use mathlib.Core.Option.{Option, none, some}
 use mathlib.Core.List.{List}
-use Rattle.model.specs.Sizes.{Bytes}
 use Rattle.model.specs.Refusal.{prefixesFull, findingsFull, old_exceeds_new, lengthExceedsFront, certificatesFull, numberTaken}
 use Rattle.model.specs.Record.{Row, Record, rows}
 use Rattle.model.specs.Rows.{Verdict, verdict}
@@ -14,6 +13,7 @@ use Rattle.model.specs.Reading.{Reading, readable, unreadable, read}
 use Rattle.model.specs.History.{History}
 use Rattle.model.specs.Answer as model
 use Rattle.model.specs.Answer.{answer, after, answer_read, after_read, is_accepted}
+use Rattle.model.specs.Sizes.{Bytes, prefix_limit}
 use Rattle.model.proofs.Tests.{cond_true, cond_false}
 use Rattle.bit_fields.specs.declared.bits.Fault.{Fault}
 use Rattle.records.specs.declared.head.Head.{Head}
@@ -130,7 +130,7 @@ module _ (h : Bytes) (x : History) (st : Stands h x) where
 
   told_means : (s : Bytes) (d : Result Head Fault) → Told s d → Means h x s (reply_to h s d) (bytes_to h s d)
   told_means s (Ok (Head.View n c)) t =
-      took h x s _ _ _ _ t.reading (view_said (observed 512 h s c n.0))
+      took h x s _ _ _ _ t.reading (view_said (observed prefix_limit h s c n.0))
       (views.view_mean h x s c n.0 st (view_walk s _ n c t refl) t.within.0)
   told_means s (Ok (Head.Commit n i)) t =
       took h x s _ _ _ _ t.reading (commit_said (commit_answer h n.0 i.0))

@@ -2,8 +2,8 @@
 -- the head that reading gives.
 -- Assumes nothing.
 use Rattle.std.specs.Prelude.{◌≡◌, cond, is_some, unwrap_or, Result, Ok, Err}
-use Rattle.model.specs.Sizes.{Bytes}
 use Rattle.model.specs.Reading.{read}
+use Rattle.model.specs.Sizes.{Bytes, prefix_limit}
 use Rattle.model.specs.Rows as rows
 use Rattle.records.specs.Heads.{head_of}
 use Rattle.record_scan.specs.Places.{rows_at, first_row}
@@ -23,7 +23,7 @@ use Rattle.leader_kinds.specs.Kinds.{of_election, of_check, of_rows}
 -- ---- by the head of the record
 
 abbrev pub reply_to : Bytes → Bytes → Result Head Fault → Result Accepted Refusal
-reply_to h s (Ok (Head.View n c)) = of_view (observed 512 h s c n.0)
+reply_to h s (Ok (Head.View n c)) = of_view (observed prefix_limit h s c n.0)
 reply_to h s (Ok (Head.Commit n i)) = of_commit (commit_answer h n.0 i.0)
 reply_to h s (Ok (Head.Terms x)) = of_terms (terms_answer x.old.0 x.new.0)
 reply_to h s (Ok (Head.Election x)) = of_election (answer_in h x.leader.0 x.term.0 (unwrap_or x.length 0))
@@ -32,7 +32,7 @@ reply_to h s (Ok (Head.Rows c)) = of_rows (rows.verdict (rows_at s first_row c))
 reply_to h s (Err f) = Err (Refusal.Unreadable f)
 
 abbrev pub bytes_to : Bytes → Bytes → Result Head Fault → Bytes
-bytes_to h s (Ok (Head.View n c)) = observed_bytes 512 h s c n.0
+bytes_to h s (Ok (Head.View n c)) = observed_bytes prefix_limit h s c n.0
 bytes_to h s (Ok (Head.Commit n i)) = commit_bytes h n.0 i.0
 bytes_to h s (Ok (Head.Terms x)) = terms_bytes h x.old.0 x.new.0 x.term.0
 bytes_to h s (Ok (Head.Election x)) = bytes_in h x.leader.0 x.term.0 (is_some x.length) (unwrap_or x.length 0)

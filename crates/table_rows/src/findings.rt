@@ -2,15 +2,18 @@
 ghost use Rattle.std.specs.Prelude.{◌≡◌, ◌+◌, ◌*◌, ◌≤◌, ◌<◌, ◌++◌, refl};
 ghost use Rattle.std.proofs.Common.{lit≤};
 ghost use Rattle.model.specs.History.{Finding};
+ghost use Rattle.model.specs.Sizes.{finding_limit};
 ghost use Rattle.storage.specs.Tables.{finding_row};
 ghost use Rattle.storage.proofs.RowLaws.{finding_length};
 ghost use Rattle.table_rows.specs.Values.{finding_value};
 ghost use Rattle.storage_bytes.specs.declared.layout.TheConstants.{FINDINGS};
-ghost use Rattle.storage_bytes.specs.Words.{word_bytes, put_bytes};
+ghost use Rattle.storage_bytes.specs.Layout.{finding_width};
 ghost use Rattle.storage.specs.Writes.{finding_bytes};
 
 use storage::rows::{Row, StoredRow};
-use storage_bytes::layout::{FINDING_WIDTH, FINDINGS, Region};
+use storage_bytes::layout::{
+    FINDING_INDEX, FINDING_NODE, FINDING_TERM, FINDING_WIDTH, FINDINGS, Region,
+};
 use storage_bytes::words::{Field, put8};
 use units::{LogIndex, NodeId, Term};
 
@@ -36,9 +39,9 @@ pub struct Found {
 impl Row for Found {
     ghost TABLE = { FINDINGS };
 
-    ghost width = { 8 };
+    ghost width = { finding_width };
 
-    ghost count = { 128 };
+    ghost count = { finding_limit };
 
     ghost bytes = { λ x. finding_bytes (finding_value x) };
 
@@ -56,9 +59,9 @@ impl Row for Found {
     fn put(self, findings: &mut [u8], k: usize) {
         let o = k * FINDING_WIDTH;
         put8(findings, o, self.name);
-        self.node.write(findings, o + 1);
-        self.index.write(findings, o + 2);
-        self.term.write(findings, o + 4);
+        self.node.write(findings, o + FINDING_NODE);
+        self.index.write(findings, o + FINDING_INDEX);
+        self.term.write(findings, o + FINDING_TERM);
     }
 }
 
@@ -73,9 +76,9 @@ impl StoredRow for Found {
         let o = k * FINDING_WIDTH;
         Found {
             name: usize::from(u8::read(findings, o)),
-            node: NodeId::read(findings, o + 1),
-            index: LogIndex::read(findings, o + 2),
-            term: Term::read(findings, o + 4),
+            node: NodeId::read(findings, o + FINDING_NODE),
+            index: LogIndex::read(findings, o + FINDING_INDEX),
+            term: Term::read(findings, o + FINDING_TERM),
         }
     }
 }

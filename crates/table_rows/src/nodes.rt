@@ -6,11 +6,12 @@ ghost use Rattle.table_rows.specs.Values.{node_value};
 ghost use Rattle.table_rows.specs.TermSearch.{found_index};
 ghost use Rattle.storage_bytes.specs.declared.layout.TheConstants.{NODES};
 ghost use Rattle.storage.proofs.RowLaws.{node_length};
-ghost use Rattle.storage_bytes.specs.Words.{put_bytes};
+ghost use Rattle.storage_bytes.specs.Layout.{nodes_length, node_width};
 ghost use Rattle.storage.specs.Writes.{node_bytes};
+ghost use Rattle.model.specs.Sizes.{node_count};
 
 use storage::rows::{Row, StoredRow};
-use storage_bytes::layout::{History, NODE_WIDTH, NODES, Region};
+use storage_bytes::layout::{History, NODE_LAST, NODE_UNSEEN, NODE_WIDTH, NODES, Region};
 use storage_bytes::words::Field;
 use units::{LogIndex, LogPrefixWitness, NodeId};
 
@@ -24,9 +25,9 @@ pub struct Node {
 impl Row for Node {
     ghost TABLE = { NODES };
 
-    ghost width = { 6 };
+    ghost width = { node_width };
 
-    ghost count = { 64 };
+    ghost count = { node_count };
 
     ghost bytes = { λ x. node_bytes (node_value x) };
 
@@ -44,8 +45,10 @@ impl Row for Node {
     fn put(self, nodes: &mut [u8], k: usize) {
         let o = k * NODE_WIDTH;
         self.front.write(nodes, o);
-        self.last.write(nodes, o + 2);
-        self.unseen.unwrap_or(LogIndex::ZERO).write(nodes, o + 4);
+        self.last.write(nodes, o + NODE_LAST);
+        self.unseen
+            .unwrap_or(LogIndex::ZERO)
+            .write(nodes, o + NODE_UNSEEN);
     }
 }
 
@@ -61,7 +64,7 @@ impl StoredRow for Node {
         let o = k * NODE_WIDTH;
         Node {
             front: LogPrefixWitness::read(nodes, o),
-            last: LogIndex::read(nodes, o + 2),
+            last: LogIndex::read(nodes, o + NODE_LAST),
             unseen: mark_at(nodes, k),
         }
     }
@@ -69,7 +72,7 @@ impl StoredRow for Node {
 
 // A node's row in the whole history.
 pub fn node_of(history: &History, node: NodeId) -> Node
-    requires { node.0 < 64 }
+    requires { node.0 < node_count }
     ensures { node_value result ≡ row_of_node (nodes_part history.now) node.0 }
 {
     Node::at(NODES.of(history), usize::from(node.0))
@@ -78,9 +81,9 @@ pub fn node_of(history: &History, node: NodeId) -> Node
 // The unseen mark of node k alone.
 #[tactic(auto, using(model::proofs::Tests::unless_zero), unfolding(crate::specs::TermSearch::found_index))]
 pub fn mark_at(nodes: &[u8], k: usize) -> Option<LogIndex>
-    requires { (k < 64) × (length nodes.now ≡ 384) }
+    requires { (k < node_count) × (length nodes.now ≡ nodes_length) }
     ensures { result ≡ found_index (row_of_node nodes.now k).unseen }
 {
-    let mark = LogIndex::read(nodes, k * NODE_WIDTH + 4);
+    let mark = LogIndex::read(nodes, k * NODE_WIDTH + NODE_UNSEEN);
     (mark != LogIndex::ZERO).then_some(mark)
 }

@@ -4,7 +4,9 @@ ghost use Rattle.std.proofs.Common.{lit≤};
 ghost use Rattle.storage.specs.Tables.{term_row};
 ghost use Rattle.storage_bytes.proofs.WordLaws.{word_bytes_length};
 ghost use Rattle.storage_bytes.specs.declared.layout.TheConstants.{TERMS};
-ghost use Rattle.storage_bytes.specs.Words.{word_bytes, put_bytes};
+ghost use Rattle.storage_bytes.specs.Words.{word_bytes};
+ghost use Rattle.storage_bytes.specs.Layout.{term_width};
+ghost use Rattle.model.specs.Sizes.{index_limit};
 
 use storage::rows::Row;
 use storage_bytes::layout::{Region, TERM_WIDTH, TERMS, Terms};
@@ -18,9 +20,9 @@ pub struct CommitTerm(pub Term);
 impl Row for CommitTerm {
     ghost TABLE = { TERMS };
 
-    ghost width = { 4 };
+    ghost width = { term_width };
 
-    ghost count = { 256 };
+    ghost count = { index_limit };
 
     ghost bytes = { λ x. word_bytes 4 x.0.0 };
 
@@ -41,7 +43,7 @@ impl Row for CommitTerm {
 
 // The term of index k + 1.
 pub fn term_at(terms: &Terms, k: usize) -> Term
-    requires { k < 256 }
+    requires { k < index_limit }
     ensures { result.0 ≡ term_row terms.now k }
 {
     Term::read(terms, k * TERM_WIDTH)
@@ -49,7 +51,7 @@ pub fn term_at(terms: &Terms, k: usize) -> Term
 
 // The term of an index.
 pub fn term_of(terms: &Terms, index: LogIndex) -> Term
-    requires { (1 ≤ index.0) × (index.0 ≤ 256) }
+    requires { (1 ≤ index.0) × (index.0 ≤ index_limit) }
     ensures { result.0 ≡ term_row terms.now (index.0 - 1) }
 {
     term_at(terms, index.0 - 1)

@@ -11,15 +11,17 @@ use lib.Dec.{leb, ltb, eqb}
 use lib.ListN.{length, get_or, set, length-append, length-set, get_or-map}
 use lib.Seq.{get_or_at, set_at, append_snoc}
 use borrow.Author.Tests.{ltb-true, ltb-false, lt-ltb, le-ltb, leb-true, leb-false}
-use Rattle.model.specs.Sizes.{Bytes}
 use Rattle.model.specs.Entry.{Prefix}
 use Rattle.model.specs.History.{Certificate, History, with_certificates}
 use Rattle.model.specs.Terms.{with_mark, lowered}
+use Rattle.model.specs.Sizes.{Bytes, index_limit, certificate_limit}
 use Rattle.model.proofs.Tests.{either, cond_true, cond_false}
-use Rattle.storage_bytes.specs.Words.{word_at, word_bytes, put_bytes}
+use Rattle.storage_bytes.specs.Words.{word_bytes, put_bytes}
+use Rattle.storage_bytes.specs.Layout.{certificates_start, certificates_length, history_length, certificate_width, number_width, index_width, term_width, byte_width, certificate_log, certificate_mark, certificate_leader, certificate_number, certificate_present}
 use Rattle.storage.specs.Tables.{CertificateRow, certificate_row, rows_of_certificates, certificates_part, head_part, tables_in, tables_of, with_certificate_rows}
 use Rattle.storage.specs.Decode.{certificate_in}
 use Rattle.storage.specs.Rules.{certificate_right, follows, numbered_after, numbered}
+use Rattle.storage.specs.Head.{certificates_held}
 use Rattle.storage_bytes.proofs.ListLaws.{both, tabulate_set, every_set, map_set}
 use Rattle.storage_bytes.proofs.WordLaws.{put_before, put_after, word_bytes_length}
 use Rattle.storage_bytes.proofs.PartLaws.{part_length}
@@ -36,33 +38,33 @@ use Rattle.term_marks.proofs.MarkTurns.{mark_length}
 
 -- ---- a mark written
 
-module _ (r : Bytes) (k m : ℕ) (size : length r ≡ 704) (here : k < 64) (fits : m < 65536) where
+module _ (r : Bytes) (k m : ℕ) (size : length r ≡ certificates_length) (here : k < certificate_limit) (fits : m < 65536) where
   abbrev put : Bytes
-  put = put_bytes r (k * 11 + 6) (word_bytes 2 m)
+  put = put_bytes r (k * certificate_width + certificate_mark) (word_bytes index_width m)
 
   row_marked : certificate_row put k ≡ marked_row (certificate_row r k) m
   row_marked =
-      let o = k * 11 + 6 in
+      let o = k * certificate_width + certificate_mark in
       let w = word_bytes 2 m in
       let l = word_bytes_length 2 m in
       λ i.
       record {
-        term = word_before r o w (k * 11) 4 (omega arith) i;
-        log = word_before r o w (k * 11 + 4) 2 (omega arith) i;
+        term = word_before r o w (k * certificate_width) term_width (omega arith) i;
+        log = word_before r o w (k * certificate_width + certificate_log) number_width (omega arith) i;
         mark = word_set r o 2 m fits (omega arith) i;
-        leader = word_after r o w (k * 11 + 8) 1 (omega arith) i;
-        number = word_after r o w (k * 11 + 9) 1 (omega arith) i;
-        present = word_after r o w (k * 11 + 10) 1 (omega arith) i;
+        leader = word_after r o w (k * certificate_width + certificate_leader) byte_width (omega arith) i;
+        number = word_after r o w (k * certificate_width + certificate_number) byte_width (omega arith) i;
+        present = word_after r o w (k * certificate_width + certificate_present) byte_width (omega arith) i;
       }
 
   row_other : (j : ℕ) → (j ≡ k → ⊥) → certificate_row put j ≡ certificate_row r j
   row_other j n =
       certificate_own put r j
-      (⊎_elim (λ t i a b. let z = ltb-true j k t in put_before r (k * 11 + 6) (word_bytes 2 m) i (omega arith))
+      (⊎_elim (λ t i a b. let z = ltb-true j k t in put_before r (k * certificate_width + certificate_mark) (word_bytes index_width m) i (omega arith))
       (λ t i a b.
       let z = ltb-false j k t in
       let l = word_bytes_length 2 m in
-      put_after r (k * 11 + 6) (word_bytes 2 m) i (omega arith))
+      put_after r (k * certificate_width + certificate_mark) (word_bytes index_width m) i (omega arith))
       (either (ltb j k)))
 
   rows_marked : (n : ℕ) → rows_of_certificates put n ≡ set (rows_of_certificates r n) k (marked_row (certificate_row r k) m)
@@ -70,13 +72,13 @@ module _ (r : Bytes) (k m : ℕ) (size : length r ≡ 704) (here : k < 64) (fits
       tabulate_set (certificate_row r) (certificate_row put) 0 n k (marked_row (certificate_row r k) m)
       (ap (certificate_row put) (zero-add k) ∙ row_marked) (λ j ne. row_other j (λ e. ne (e ∙ sym (zero-add k))))
 
-tables_marked : (h : Bytes) (k m : ℕ) → length h ≡ 24137 → k < 64 → m < 65536
+tables_marked : (h : Bytes) (k m : ℕ) → length h ≡ history_length → k < certificate_limit → m < 65536
     → tables_of (mark_set h k m) ≡ with_certificate_rows (tables_of h) (set (tables_of h).certificates k (marked_row (certificate_of h k) m))
 unfolding mark_set tables_in
 tables_marked h k m right l f =
     let b = word_bytes_length 2 m in
-    let size : length (certificates_part h) ≡ 704 = part_length h 1417 704 (omega arith) in
-    ap tables_from (in_certificates h (k * 11 + 6) (word_bytes 2 m) right (omega arith))
+    let size : length (certificates_part h) ≡ certificates_length = part_length h certificates_start certificates_length (omega arith) in
+    ap tables_from (in_certificates h (k * certificate_width + certificate_mark) (word_bytes index_width m) right (omega arith))
     ∙ (λ i.
     record {
       rows = (tables_of h).rows;
@@ -84,19 +86,19 @@ tables_marked h k m right l f =
       committed = (tables_of h).committed;
       owner = (tables_of h).owner;
       terms = (tables_of h).terms;
-      certificates = rows_marked (certificates_part h) k m size l f (word_at (head_part h) 6 1) i;
+      certificates = rows_marked (certificates_part h) k m size l f (certificates_held (head_part h)) i;
       findings = (tables_of h).findings;
     })
 
 module _ (h : Bytes) (x : History) (s : Stands h x) where
   -- the certificate of the model at that place
-  pub certificate_at : (k : ℕ) → k < word_at h 6 1 → get_or x.certificates k (certificate_in x.prefixes (certificate_of h k)) ≡ certificate_in x.prefixes (certificate_of h k)
+  pub certificate_at : (k : ℕ) → k < certificates_held h → get_or x.certificates k (certificate_in x.prefixes (certificate_of h k)) ≡ certificate_in x.prefixes (certificate_of h k)
   certificate_at k l =
       ap (λ (cs : List Certificate). get_or cs k (certificate_in x.prefixes (certificate_of h k))) (sym (certificates_is h x s))
       ∙ get_or-map (certificate_in x.prefixes) (tables_of h).certificates k (certificate_of h k)
       ∙ ap (certificate_in x.prefixes) (certificate_row_lem h k (certificate_of h k) l)
 
-  pub mark_written : (k m : ℕ) → k < word_at h 6 1 → m ≤ 256
+  pub mark_written : (k m : ℕ) → k < certificates_held h → m ≤ index_limit
       → Stands (mark_set h k m) (with_certificates x (set x.certificates k (with_mark (certificate_in x.prefixes (certificate_of h k)) m)))
   mark_written k m l f =
       let lim = within _ _ _ _ (kept h x s).limits in
@@ -175,9 +177,9 @@ module _ (t first : ℕ) (some : 0 < first) where
   -- the last of k certificates
   module _ (h : Bytes) (x : History) (s : Stands h x) (A : List Certificate) (c : Certificate) (B : List Certificate) (k : ℕ)
       (e : x.certificates ≡ A ++ (c ∷ B)) (a : length A ≡ k) where
-    place : k < word_at h 6 1
+    place : k < certificates_held h
     place =
-        let held : length x.certificates ≡ word_at h 6 1 = ap (λ (y : History). length y.certificates) (sym s.decodes) ∙ certificates_read h in
+        let held : length x.certificates ≡ certificates_held h = ap (λ (y : History). length y.certificates) (sym s.decodes) ∙ certificates_read h in
         let more = ap length e ∙ length-append A (c ∷ B) in
         omega arith
 

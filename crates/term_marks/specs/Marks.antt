@@ -3,12 +3,13 @@
 use Rattle.std.specs.Prelude.{ℕ, zero, suc, ◌+◌, ◌-◌, ◌*◌, cond, leb}
 use Rattle.model.specs.Sizes.{Bytes}
 use Rattle.storage_bytes.specs.Words.{word_bytes, put_bytes}
+use Rattle.storage_bytes.specs.Layout.{certificates_start, certificate_width, index_width, certificate_mark}
 use Rattle.storage.specs.Tables.{CertificateRow, certificate_row, certificates_part}
 
 -- the mark of certificate k written
 unfoldable pub mark_set : Bytes → ℕ → ℕ → Bytes
 unfolding put_bytes
-mark_set h k m = put_bytes h (1417 + (k * 11 + 6)) (word_bytes 2 m)
+mark_set h k m = put_bytes h (certificates_start + (k * certificate_width + certificate_mark)) (word_bytes index_width m)
 
 abbrev pub certificate_of : Bytes → ℕ → CertificateRow
 certificate_of h k = certificate_row (certificates_part h) k

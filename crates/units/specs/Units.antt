@@ -5,9 +5,10 @@ use Rattle.std.specs.Prelude.{ℕ, cond, leb, Result, Ok, Err}
 use Rattle.units.specs.declared.NodeId.{NodeId}
 use Rattle.units.specs.declared.LogIndex.{LogIndex}
 use Rattle.units.specs.declared.OutOfLimit.{OutOfLimit}
+use Rattle.model.specs.Sizes.{last_node, index_limit}
 
 abbrev pub node_of : ℕ → Result NodeId OutOfLimit
-node_of n = cond (leb n 63) (Ok (record { 0 = n })) (Err (record {}))
+node_of n = cond (leb n last_node) (Ok (record { 0 = n })) (Err (record {}))
 
 abbrev pub index_of : ℕ → Result LogIndex OutOfLimit
-index_of n = cond (leb n 256) (Ok (record { 0 = n })) (Err (record {}))
+index_of n = cond (leb n index_limit) (Ok (record { 0 = n })) (Err (record {}))

@@ -8,6 +8,9 @@ ghost use Rattle.units.specs.Units.{node_of, index_of};
 // The greatest node.
 pub const NODE_LIMIT: u8 = 63;
 
+// How many nodes there are.
+pub const NODE_COUNT: usize = NODE_LIMIT as usize + 1;
+
 // The greatest index; a count and a length have the same limit.
 pub const INDEX_LIMIT: usize = 256;
 

@@ -8,11 +8,11 @@ use mathlib.Core.List.{List, [], ◌∷◌, ◌++◌}
 use lib.Dec.{eqb}
 use lib.ListN.{length, length-append}
 use borrow.Author.Tests.{ne_eqb}
-use Rattle.model.specs.Sizes.{Bytes}
 use Rattle.model.specs.Entry.{Entry, Prefix, same, last_term}
 use Rattle.model.specs.Record.{front_from}
 use Rattle.model.specs.History.{Finding}
 use Rattle.model.specs.View.{begun, remembered, unlike, mismatch, mismatches}
+use Rattle.model.specs.Sizes.{Bytes, content_limit}
 use Rattle.model.proofs.Tests.{no_same}
 use Rattle.record_scan.specs.Places.{Walk, next_at, shown_at, entries_at, items_at}
 use Rattle.storage.specs.Tables.{PrefixRow}
@@ -139,7 +139,7 @@ module _ (row : ℕ → PrefixRow) (rs : List PrefixRow) (f : Facts rs) (at : Ro
       (snoc_injective (prefix_at (resolve rs) (row_at rs k).parent) q (sym s ∙ w)).0
 
   -- the next number is that of the next prefix, which is not stored where there is none
-  module _ (q : Prefix) (p : ℕ) (e : Entry) (short : length e.content ≤ 32) (s : Numbers p q) where
+  module _ (q : Prefix) (p : ℕ) (e : Entry) (short : length e.content ≤ content_limit) (s : Numbers p q) where
     next_none : next_number row (length rs) p e ≡ 0 → Unstored (q ++ (e ∷ []))
     next_none z y l w = missing row rs f at p 0 e s.0 short z y l (w ∙ ap (λ (t : Prefix). t ++ (e ∷ [])) (sym s.1))
 
@@ -255,7 +255,7 @@ module _ (row : ℕ → PrefixRow) (rs : List PrefixRow) (f : Facts rs) (at : Ro
       es : List Entry
       es = front_from (i + 1) (entries_at s (next_at s k) m)
 
-      short : length e.content ≤ 32
+      short : length e.content ≤ content_limit
       short = content_short s k m w
 
       go : Turn row (length rs) s k i p

@@ -5,11 +5,11 @@ use native.Mathlib.Omega.{arith}
 use mathlib.Core.Path.{◌≡◌, sym, ◌∙◌, ap}
 use mathlib.Core.List.{List, ◌++◌}
 use lib.ListN.{length}
-use Rattle.model.specs.Sizes.{Bytes}
 use Rattle.model.specs.History.{Finding}
+use Rattle.model.specs.Sizes.{Bytes, index_limit}
 use Rattle.record_scan.specs.Places.{Walk, first_entry}
-use Rattle.storage_bytes.specs.Words.{word_at}
 use Rattle.storage.specs.Tables.{prefix_row, prefixes_part, findings_part}
+use Rattle.storage.specs.Head.{prefixes_held, findings_held}
 use Rattle.log_violation.specs.Violation.{held_all, bytes_all}
 use Rattle.log_violation.proofs.ViolationLaws.{held_then, bytes_then}
 use Rattle.view_judging.specs.Judging.{front_at, lack_notes, Stand, place_from, stored_notes, notes_from, ReachedAs, LackingAs, place_in, missing_in, notes_in, held_in, table_in, ViewJudged}
@@ -17,7 +17,7 @@ use Rattle.view_judging.specs.declared.judging.Place.{Place}
 use Rattle.view_judging.proofs.Places.{place_stands, first_stands, Ended, place_ended, front_most}
 
 -- both walks, over the history's prefixes and a copy of its findings
-pub view_judged : (h s : Bytes) (m node : ℕ) (q t₀ : Bytes) (count held : ℕ) → count ≡ word_at h 0 2 → held ≡ word_at h 7 1 → q ≡ prefixes_part h → t₀ ≡ findings_part h
+pub view_judged : (h s : Bytes) (m node : ℕ) (q t₀ : Bytes) (count held : ℕ) → count ≡ prefixes_held h → held ≡ findings_held h → q ≡ prefixes_part h → t₀ ≡ findings_part h
     → (held₁ : ℕ) (r : Place) (t₁ : Bytes) → ReachedAs q count s m node t₀ held held₁ r t₁
     → (missing held₂ : ℕ) (t₂ : Bytes) → LackingAs q count s r.at r.left r.index.0 node t₁ held₁ missing held₂ t₂
     → ViewJudged h s m node missing held₂ r t₂
@@ -43,16 +43,16 @@ view_judged h s m node q t₀ count held ec eh eq et held₁ r t₁ a missing he
 
 -- ---- what holds of the place, and of how many prefixes are missing
 
-pub place_in_ended : (h s : Bytes) (m : ℕ) → Ended (prefix_row (prefixes_part h)) (word_at h 0 2) s (place_in h s m)
+pub place_in_ended : (h s : Bytes) (m : ℕ) → Ended (prefix_row (prefixes_part h)) (prefixes_held h) s (place_in h s m)
 unfolding place_in
-place_in_ended h s m = place_ended (prefix_row (prefixes_part h)) (word_at h 0 2) s m first_entry 1 0
+place_in_ended h s m = place_ended (prefix_row (prefixes_part h)) (prefixes_held h) s m first_entry 1 0
 
 module _ (h s : Bytes) (m : ℕ) (w : Walk s first_entry m) where
-  pub place_in_stands : Stand s (word_at h 0 2) (place_in h s m)
+  pub place_in_stands : Stand s (prefixes_held h) (place_in h s m)
   unfolding place_in
-  place_in_stands = place_stands (prefix_row (prefixes_part h)) (word_at h 0 2) s m first_entry 1 0 (first_stands s (word_at h 0 2) m w)
+  place_in_stands = place_stands (prefix_row (prefixes_part h)) (prefixes_held h) s m first_entry 1 0 (first_stands s (prefixes_held h) m w)
 
-  pub missing_most : missing_in h s m ≤ 256
+  pub missing_most : missing_in h s m ≤ index_limit
   unfolding missing_in
   missing_most =
       let p = place_in_stands in

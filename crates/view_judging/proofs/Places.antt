@@ -9,9 +9,9 @@ use mathlib.Core.List.{List, [], ◌∷◌, ◌++◌, append_assoc}
 use lib.Dec.{eqb}
 use lib.ListN.{length}
 use borrow.Author.Tests.{eq-eqb, ne_eqb, eqb-true, eqb-false}
-use Rattle.model.specs.Sizes.{Bytes}
 use Rattle.model.specs.Entry.{Entry}
 use Rattle.model.specs.Record.{front_from}
+use Rattle.model.specs.Sizes.{Bytes, content_limit}
 use Rattle.model.proofs.Tests.{either, cond_true, cond_false}
 use Rattle.record_scan.specs.Places.{Walk, first_entry, index_at, length_at, next_at, shown_at, entries_at, items_at}
 use Rattle.bit_fields.proofs.Widths.{bytes_length}
@@ -55,7 +55,7 @@ front_zero s at i = refl
 pub walk_more : (s : Bytes) (at n : ℕ) → Walk s at (suc n) → Walk s (next_at s at) n
 walk_more s at n w = subst (Walk s (next_at s at)) (let z : suc n - 1 ≡ n = omega arith in z) (next_walk s at (suc n) w (omega arith))
 
-pub content_short : (s : Bytes) (at n : ℕ) → Walk s at (suc n) → length (shown_at s at).entry.content ≤ 32
+pub content_short : (s : Bytes) (at n : ℕ) → Walk s at (suc n) → length (shown_at s at).entry.content ≤ content_limit
 content_short s at n w =
     let a = bytes_length s (at + 48) (length_at s at) in
     let b = (here s at (suc n) w (omega arith)).short in

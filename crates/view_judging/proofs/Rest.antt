@@ -9,14 +9,14 @@ use mathlib.Core.List.{[], ◌∷◌}
 use lib.Dec.{eqb}
 use lib.ListN.{length, length-append}
 use borrow.Author.Tests.{ne_eqb}
-use Rattle.model.specs.Sizes.{Bytes}
 use Rattle.model.specs.Entry.{Entry}
 use Rattle.model.specs.Record.{front_from, front, last_from, last_index}
+use Rattle.model.specs.Sizes.{Bytes, content_limit}
 use Rattle.record_scan.specs.Places.{Walk, first_entry, index_at, next_at, shown_at, entries_at, items_at}
-use Rattle.storage_bytes.specs.Words.{word_at}
 use Rattle.storage.specs.Tables.{PrefixRow, prefix_row, rows_of_prefixes, prefixes_part}
 use Rattle.storage.specs.Values.{number_index}
 use Rattle.storage.specs.Decode.{prefix_at, resolve}
+use Rattle.storage.specs.Head.{prefixes_held}
 use Rattle.storage.proofs.WellFormed.{Formed, rows_index, formed_rows}
 use Rattle.prefix_lookup.specs.Prefix.{row_of, find}
 use Rattle.prefix_lookup.proofs.PrefixLaws.{found}
@@ -29,15 +29,15 @@ use Rattle.view_judging.proofs.Places.{next, place_keeps, front_suc, content_sho
 
 -- a place of a view of m entries such that what is before it writes nothing
 pub record Rest (h s : Bytes) (m : ℕ) (r : Place) : Type 0 where
-  pub bytes : written_bytes h (word_at h 0 2) 0 1 (front (entries_at s first_entry m)) ≡ written_bytes h (word_at h 0 2) r.prefix.0 r.index.0 (front_at s r)
-  pub counts : written_count h (word_at h 0 2) 0 1 (front (entries_at s first_entry m)) ≡ written_count h (word_at h 0 2) r.prefix.0 r.index.0 (front_at s r)
-  pub number : written_number h (word_at h 0 2) 0 1 (front (entries_at s first_entry m)) ≡ written_number h (word_at h 0 2) r.prefix.0 r.index.0 (front_at s r)
+  pub bytes : written_bytes h (prefixes_held h) 0 1 (front (entries_at s first_entry m)) ≡ written_bytes h (prefixes_held h) r.prefix.0 r.index.0 (front_at s r)
+  pub counts : written_count h (prefixes_held h) 0 1 (front (entries_at s first_entry m)) ≡ written_count h (prefixes_held h) r.prefix.0 r.index.0 (front_at s r)
+  pub number : written_number h (prefixes_held h) 0 1 (front (entries_at s first_entry m)) ≡ written_number h (prefixes_held h) r.prefix.0 r.index.0 (front_at s r)
   pub last : last_index (entries_at s first_entry m) ≡ last_at s r
   pub next : r.index.0 ≡ next_index h r.prefix.0
 
 module _ (h : Bytes) (f : Formed h) (s : Bytes) (m : ℕ) where
   abbrev count : ℕ
-  count = word_at h 0 2
+  count = prefixes_held h
 
   abbrev row : ℕ → PrefixRow
   row = prefix_row (prefixes_part h)
@@ -51,7 +51,7 @@ module _ (h : Bytes) (f : Formed h) (s : Bytes) (m : ℕ) where
   extension_is p e = refl
 
   -- a stored extension is one index longer
-  index_next : (p i k : ℕ) (e : Entry) → p ≤ count → length e.content ≤ 32 → i ≡ next_index h p
+  index_next : (p i k : ℕ) (e : Entry) → p ≤ count → length e.content ≤ content_limit → i ≡ next_index h p
       → next_number row count p e ≡ k → (k ≡ 0 → ⊥) → i + 1 ≡ next_index h k
   index_next p i zero e l short w ek z = absurd (z refl)
   index_next p i (suc k) e l short w ek z =

@@ -8,10 +8,10 @@ use mathlib.Core.List.{List, [], ◌∷◌, ◌++◌}
 use lib.Dec.{eqb}
 use lib.ListN.{length, replicate, length-append, length-replicate}
 use borrow.Author.Tests.{eq-eqb, ne_eqb}
-use Rattle.model.specs.Sizes.{Bytes}
 use Rattle.model.specs.Entry.{Entry}
 use Rattle.model.specs.Record.{front_from}
 use Rattle.model.specs.History.{Finding}
+use Rattle.model.specs.Sizes.{Bytes, index_limit, content_limit}
 use Rattle.record_walk.specs.declared.walk.ShownEntry.{ShownEntry}
 use Rattle.record_scan.specs.Places.{Walk, first_entry, index_at, term_at, length_at, content_at, next_at, shown_at, entries_at}
 use Rattle.record_walk.specs.Values.{shown_entry}
@@ -72,12 +72,12 @@ remembered_is row n i t = by (eqb (first row n i t) 0)
 
 -- ---- an entry as it is read
 
-pub entry_read : (s : Bytes) (k : ℕ) (e : ShownEntry) → e ≡ shown_entry s k → length_at s k ≤ 32 → entry_value e ≡ (shown_at s k).entry
+pub entry_read : (s : Bytes) (k : ℕ) (e : ShownEntry) → e ≡ shown_entry s k → length_at s k ≤ content_limit → entry_value e ≡ (shown_at s k).entry
 entry_read s k e q h =
     ap entry_value q
     ∙ (let c = (shown_entry s k).content in
     let n = length_at s k in
-    let long : length c ≡ n + (32 - n) = length-append (content_at s k) (replicate (32 - n) 0) ∙ (λ i. bytes_length s (k + 48) n i + length-replicate {A = ℕ} (32 - n) 0 i) in
+    let long : length c ≡ n + (content_limit - n) = length-append (content_at s k) (replicate (content_limit - n) 0) ∙ (λ i. bytes_length s (k + 48) n i + length-replicate {A = ℕ} (content_limit - n) 0 i) in
     let w = bytes_take c n (omega arith) ∙ entry_content s k in
     λ i. record { term = term_at s k; content = w i })
 
@@ -108,14 +108,14 @@ front_shown s k n i e w h q g =
 -- ---- an entry of a walk
 
 module _ (s : Bytes) (at left i : ℕ) (w : Walk s at left) (h : 0 < left) (e : ShownEntry) (q : e ≡ shown_entry s at) where
-  pub entry_short : e.length ≤ 32
-  entry_short = subst (λ (x : ShownEntry). x.length ≤ 32) (sym q) (here s at left w h).short
+  pub entry_short : e.length ≤ content_limit
+  entry_short = subst (λ (x : ShownEntry). x.length ≤ content_limit) (sym q) (here s at left w h).short
 
   pub walk_next : Walk s e.next (left - 1)
   walk_next = subst (λ (x : ℕ). Walk s x (left - 1)) (sym (ap (λ (x : ShownEntry). x.next) q)) (next_walk s at left w h)
 
-  pub index_within : e.index.0 ≡ i → i ≤ 256
-  index_within g = subst (λ (x : ℕ). x ≤ 256) (sym (ap (λ (x : ShownEntry). x.index.0) q) ∙ g) (walk_entered s at left w h).within
+  pub index_within : e.index.0 ≡ i → i ≤ index_limit
+  index_within g = subst (λ (x : ℕ). x ≤ index_limit) (sym (ap (λ (x : ShownEntry). x.index.0) q) ∙ g) (walk_entered s at left w h).within
 
   -- another index than the next: the front ends
   pub front_gap : (e.index.0 ≡ i → ⊥) → front_from i (entries_at s at left) ≡ []

@@ -6,8 +6,8 @@ use Rattle.model.specs.History.{Finding}
 use Rattle.model.specs.Sizes.{Bytes}
 use Rattle.model.specs.Record.{front_from, last_from}
 use Rattle.record_scan.specs.Places.{Walk, first_entry, index_at, next_at, shown_at, entries_at}
-use Rattle.storage_bytes.specs.Words.{word_at}
 use Rattle.storage.specs.Tables.{PrefixRow, prefix_row, prefixes_part, findings_part}
+use Rattle.storage.specs.Head.{prefixes_held, findings_held}
 use Rattle.view_judging.specs.declared.judging.Place.{Place}
 use Rattle.prefix_lookup.specs.Prefix.{row_of, find, first}
 use Rattle.log_comparison.specs.Comparison.{same_from}
@@ -115,7 +115,7 @@ pub record LackingAs (ps : Bytes) (count : ℕ) (s : Bytes) (at left i node : �
 -- the place before the first prefix that is not stored
 unfoldable pub place_in : Bytes → Bytes → ℕ → Place
 unfolding place_from
-place_in h s m = place_from (prefix_row (prefixes_part h)) (word_at h 0 2) s first_entry m 1 0
+place_in h s m = place_from (prefix_row (prefixes_part h)) (prefixes_held h) s first_entry m 1 0
 
 -- how many prefixes of its front are not stored
 unfoldable pub missing_in : Bytes → Bytes → ℕ → ℕ
@@ -125,16 +125,16 @@ missing_in h s m = length (front_at s (place_in h s m))
 -- its LG-03
 unfoldable pub notes_in : Bytes → Bytes → ℕ → ℕ → List Finding
 unfolding stored_notes lack_notes place_from
-notes_in h s m node = notes_from (prefix_row (prefixes_part h)) (word_at h 0 2) node s first_entry m 1 0
+notes_in h s m node = notes_from (prefix_row (prefixes_part h)) (prefixes_held h) node s first_entry m 1 0
 
 -- the findings with them: how many, and the table
 unfoldable pub held_in : Bytes → Bytes → ℕ → ℕ → ℕ
 unfolding held_all notes_in
-held_in h s m node = held_all (findings_part h) (word_at h 7 1) (notes_in h s m node)
+held_in h s m node = held_all (findings_part h) (findings_held h) (notes_in h s m node)
 
 unfoldable pub table_in : Bytes → Bytes → ℕ → ℕ → Bytes
 unfolding bytes_all notes_in
-table_in h s m node = bytes_all (findings_part h) (word_at h 7 1) (notes_in h s m node)
+table_in h s m node = bytes_all (findings_part h) (findings_held h) (notes_in h s m node)
 
 -- what judging a view comes to
 pub record ViewJudged (h s : Bytes) (m node missing held : ℕ) (r : Place) (t : Bytes) : Type 0 where

@@ -9,15 +9,15 @@ use lib.Dec.{eqb}
 use lib.ListN.{length, replicate, length-append, length-replicate}
 use lib.Seq.{take_at}
 use borrow.Author.Tests.{eq-eqb, ne_eqb}
-use Rattle.model.specs.Sizes.{Bytes}
 use Rattle.model.specs.Entry.{Entry, Prefix, prefixes, with}
 use Rattle.model.specs.History.{History, with_prefixes}
+use Rattle.model.specs.Sizes.{Bytes, index_limit, content_limit, prefix_limit, term_end}
 use Rattle.model.proofs.Tests.{cond_true, cond_false}
-use Rattle.storage_bytes.specs.Words.{word_at}
 use Rattle.storage.specs.Tables.{prefix_row, prefixes_part, head_part, tables_in, tables_of}
 use Rattle.storage.specs.Writes.{prefix_appended, PrefixFits, prefix_of}
 use Rattle.storage.specs.Rules.{prefix_right}
 use Rattle.storage.specs.Decode.{prefix_at, extended, resolve}
+use Rattle.storage.specs.Head.{prefixes_held}
 use Rattle.storage.proofs.RowFacts.{row_at, resolve_snoc, resolve_count}
 use Rattle.storage.proofs.DecodeLaws.{row_facts}
 use Rattle.storage.proofs.WellFormed.{rows_count}
@@ -38,20 +38,20 @@ module _ (h : Bytes) (x : History) (s : Stands h x) where
 
   pub rows_by_place : Rows (prefix_row (prefixes_part h)) (tables_of h).rows
   unfolding tables_in
-  rows_by_place = rows_at (prefixes_part h) (word_at (head_part h) 0 2)
+  rows_by_place = rows_at (prefixes_part h) (prefixes_held (head_part h))
 
 -- ---- one extension
 
 -- what the extension of p by e leads to
 pub record Step (h : Bytes) (x : History) (n p : ℕ) (e : Entry) (h' : Bytes) (n' p' : ℕ) : Type 0 where
   pub stands : Stands h' (with_prefixes x (with prefixes x.prefixes (prefix_at x.prefixes p ++ (e ∷ []))))
-  pub holds : n' ≡ word_at h' 0 2
+  pub holds : n' ≡ prefixes_held h'
   pub within : p' ≤ n'
   pub is : prefix_at (with prefixes x.prefixes (prefix_at x.prefixes p ++ (e ∷ []))) p' ≡ prefix_at x.prefixes p ++ (e ∷ [])
 
-module _ (h : Bytes) (x : History) (s : Stands h x) (n p i : ℕ) (e : Entry) (en : n ≡ word_at h 0 2) (hp : p ≤ n)
-    (next : length (prefix_at x.prefixes p) + 1 ≡ i) (small : i ≤ 256) (short : length e.content ≤ 32) (term : e.term < 4294967296)
-    (room : extended_count h n p e ≤ 512) where
+module _ (h : Bytes) (x : History) (s : Stands h x) (n p i : ℕ) (e : Entry) (en : n ≡ prefixes_held h) (hp : p ≤ n)
+    (next : length (prefix_at x.prefixes p) + 1 ≡ i) (small : i ≤ index_limit) (short : length e.content ≤ content_limit) (term : e.term < term_end)
+    (room : extended_count h n p e ≤ prefix_limit) where
   same_prefixes : resolve (tables_of h).rows ≡ x.prefixes
   same_prefixes = prefixes_is h x s
 
@@ -95,14 +95,14 @@ module _ (h : Bytes) (x : History) (s : Stands h x) (n p i : ℕ) (e : Entry) (e
       record {
         stands = subst (λ (u : Bytes). Stands u (with_prefixes x (with prefixes x.prefixes Q))) (sym (bytes_found h n p i e f))
             (subst (λ (ps : List Prefix). Stands h (with_prefixes x ps)) list s);
-        holds = count_found h n p e f ∙ en ∙ sym (ap (λ (u : Bytes). word_at u 0 2) (bytes_found h n p i e f));
+        holds = count_found h n p e f ∙ en ∙ sym (ap (λ (u : Bytes). prefixes_held u) (bytes_found h n p i e f));
         within =
             (let a = extended_rows.within in let b = ap length same_rows in let c = count in let d = number in let m = count_found h n p e f in omega arith);
         is = ap (prefix_at (with prefixes x.prefixes Q)) number ∙ number_is;
       }
 
   -- made
-  row_fits : n < 512 → PrefixFits p i e.term (length e.content) (stored_content e)
+  row_fits : n < prefix_limit → PrefixFits p i e.term (length e.content) (stored_content e)
   row_fits l =
       record {
         parent = omega arith;
@@ -110,13 +110,13 @@ module _ (h : Bytes) (x : History) (s : Stands h x) (n p i : ℕ) (e : Entry) (e
         term = term;
         size = short;
         padded =
-            (let a = length-append e.content (replicate (32 - length e.content) 0) in
-            let b = length-replicate {A = ℕ} (32 - length e.content) 0 in omega arith);
+            (let a = length-append e.content (replicate (content_limit - length e.content) 0) in
+            let b = length-replicate {A = ℕ} (content_limit - length e.content) 0 in omega arith);
       }
 
   row_is : prefix_of p i e.term (length e.content) (stored_content e) ≡ row_of p i e
   row_is =
-      let c = take_at e.content (replicate (32 - length e.content) 0) (length e.content) refl in
+      let c = take_at e.content (replicate (content_limit - length e.content) 0) (length e.content) refl in
       λ j. record { parent = p; index = i; term = e.term; size = length e.content; content = c j }
 
   made_step : extension_in h n p e ≡ 0 → Step h x n p e (extended_bytes h n p i e) (extended_count h n p e) (extended_number h n p e)
@@ -125,7 +125,7 @@ module _ (h : Bytes) (x : History) (s : Stands h x) (n p i : ℕ) (e : Entry) (e
       let t : eqb (extension_in h n p e) 0 ≡ true = eq-eqb (extension_in h n p e) 0 z in
       let g : eqb (find (row_at (tables_of h).rows) (length (tables_of h).rows) (row_of p i e)) 0 ≡ true = ap (λ (y : ℕ). eqb y 0) (sym same_search) ∙ t in
       let counts : extended_count h n p e ≡ n + 1 = count_made h n p e t in
-      let l : n < 512 = (let r = room in omega arith) in
+      let l : n < prefix_limit = (let r = room in omega arith) in
       let row = prefix_of p i e.term (length e.content) (stored_content e) in
       let same_rows : extend_rows (tables_of h).rows p i e ≡ (tables_of h).rows ++ (row_of p i e ∷ []) = cond_true _ _ (tables_of h).rows g in
       let list : x.prefixes ++ (extended x.prefixes row ∷ []) ≡ with prefixes x.prefixes Q =
@@ -137,7 +137,7 @@ module _ (h : Bytes) (x : History) (s : Stands h x) (n p i : ℕ) (e : Entry) (e
       let after : Stands (extended_bytes h n p i e) (with_prefixes x (with prefixes x.prefixes Q)) =
       subst (λ (u : Bytes). Stands u (with_prefixes x (with prefixes x.prefixes Q))) (sym (bytes_made h n p i e t))
       (subst (λ (ps : List Prefix). Stands (prefix_appended h p i e.term (length e.content) (stored_content e)) (with_prefixes x ps)) list
-      (prefix_written h x s p i e.term (length e.content) (stored_content e) (subst (λ (m : ℕ). m < 512) en l) (row_fits l) right)) in
+      (prefix_written h x s p i e.term (length e.content) (stored_content e) (subst (λ (m : ℕ). m < prefix_limit) en l) (row_fits l) right)) in
       let number : extended_number h n p e ≡ extend_number (tables_of h).rows p i e =
       number_made h n p e t ∙ ap (λ (m : ℕ). m + 1) (sym count) ∙ sym (cond_true _ (length (tables_of h).rows + 1) _ g) in
       let size : length (with prefixes x.prefixes Q) ≡ n + 1 =

@@ -7,16 +7,16 @@ use mathlib.Core.Path.{◌≡◌, refl, sym, ◌∙◌, ap, subst, subst₂}
 use mathlib.Core.Bool.{true}
 use mathlib.Core.List.{[], ◌∷◌, ◌++◌}
 use lib.ListN.{length, replicate, length-append}
-use Rattle.model.specs.Sizes.{Bytes}
 use Rattle.model.specs.Entry.{Entry}
+use Rattle.model.specs.Sizes.{Bytes, index_limit, content_limit, prefix_limit, term_end}
 use Rattle.bit_fields.proofs.Widths.{field_lt, bytes_length}
 use Rattle.record_walk.specs.declared.walk.ShownEntry.{ShownEntry}
 use Rattle.record_scan.specs.Places.{length_at, content_at}
 use Rattle.record_walk.specs.Values.{shown_entry}
 use Rattle.record_walk.proofs.Walks.{here}
-use Rattle.storage_bytes.specs.Words.{word_at}
 use Rattle.storage.specs.Decode.{prefix_at, decode}
 use Rattle.storage.specs.Rules.{well_formed}
+use Rattle.storage.specs.Head.{prefixes_held}
 use Rattle.storage.proofs.Meanings.{Stands, number_length}
 use Rattle.prefix_lookup.specs.Table.{entry_value}
 use Rattle.view_writing.specs.Observation.{Storing, StoredAs}
@@ -29,14 +29,14 @@ use Rattle.log_prefix.proofs.Written.{value_length, count_grows, written_cons}
 use Rattle.view_writing.proofs.Stored.{Step, extension_step}
 
 -- an entry as it is read has zeros after its content
-entry_padded : (s : Bytes) (k : ℕ) (e : ShownEntry) → e ≡ shown_entry s k → length_at s k ≤ 32 → e.content ≡ stored_content (entry_value e)
+entry_padded : (s : Bytes) (k : ℕ) (e : ShownEntry) → e ≡ shown_entry s k → length_at s k ≤ content_limit → e.content ≡ stored_content (entry_value e)
 entry_padded s k e q h =
     ap (λ (x : ShownEntry). x.content) q
-    ∙ ap (λ (m : ℕ). content_at s k ++ replicate (32 - m) 0) (sym (bytes_length s (k + 48) (length_at s k)))
+    ∙ ap (λ (m : ℕ). content_at s k ++ replicate (content_limit - m) 0) (sym (bytes_length s (k + 48) (length_at s k)))
     ∙ ap stored_content (sym (entry_read s k e q h))
 
 -- the index after an extension is one more
-extended_index : (h : Bytes) (n p : ℕ) (e : Entry) (right : well_formed h ≡ true) → n ≡ word_at h 0 2 → p ≤ n → (h' : Bytes) (n' p' : ℕ)
+extended_index : (h : Bytes) (n p : ℕ) (e : Entry) (right : well_formed h ≡ true) → n ≡ prefixes_held h → p ≤ n → (h' : Bytes) (n' p' : ℕ)
     → Step h (decode h) n p e h' n' p' → next_index h' p' ≡ next_index h p + 1
 extended_index h n p e right en hp h' n' p' a =
     let here = number_length h (decode h) (record { right = right; decodes = refl }) p (subst (λ (m : ℕ). p ≤ m) en hp) in
@@ -70,7 +70,7 @@ module _ (h : Bytes) (n : ℕ) (s : Bytes) (x : Place) (g : Storing h n s x) (l 
       → written_count h n p i (front_at s x) ≡ written_count (extended_bytes h n p i E) (extended_count h n p E) (extended_number h n p E) (i + 1) (front_at s (Behind 0))
   after o = ap (written_count h n p i) (steps o) ∙ (written_cons h n p i E (front_at s (Behind 0))).1
 
-  room : e.index.0 ≡ next_index h p → extended_count h n p E ≤ 512
+  room : e.index.0 ≡ next_index h p → extended_count h n p E ≤ prefix_limit
   room o =
       (let a = g.room in
       let b = after o in
@@ -89,7 +89,7 @@ module _ (h : Bytes) (n : ℕ) (s : Bytes) (x : Place) (g : Storing h n s x) (l 
       }
 
   module _ (o : e.index.0 ≡ next_index h p) where
-    small : i ≤ 256
+    small : i ≤ index_limit
     small = index_within s x.at x.left i g.stands.walk l e q (index_is o)
 
     extends : Step h (decode h) n p E (extended_bytes h n p i E) (extended_count h n p E) (extended_number h n p E)
@@ -97,8 +97,8 @@ module _ (h : Bytes) (n : ℕ) (s : Bytes) (x : Place) (g : Storing h n s x) (l 
         let st : Stands h (decode h) = record { right = g.right; decodes = refl } in
         extension_step h (decode h) st n p i E g.count g.stands.number
         (ap (λ (m : ℕ). m + 1) (sym (number_length h (decode h) st p (subst (λ (m : ℕ). p ≤ m) g.count g.stands.number))) ∙ sym g.next) small
-        (subst (λ (m : ℕ). m ≤ 32) (sym (value_length e)) writing_asks.short)
-        (subst (λ (z : ShownEntry). z.term.0 < 4294967296) (sym q) (field_lt s (x.at + 10) 32))
+        (subst (λ (m : ℕ). m ≤ content_limit) (sym (value_length e)) writing_asks.short)
+        (subst (λ (z : ShownEntry). z.term.0 < term_end) (sym q) (field_lt s (x.at + 10) 32))
         (room o)
 
     storing_next : Storing (extended_bytes h n p i E) (extended_count h n p E) s (Behind (extended_number h n p E))
@@ -113,7 +113,7 @@ module _ (h : Bytes) (n : ℕ) (s : Bytes) (x : Place) (g : Storing h n s x) (l 
             small = (let a = small in omega arith);
           };
           next = ap (λ (m : ℕ). m + 1) g.next ∙ sym (extended_index h n p E g.right g.count g.stands.number _ _ _ extends);
-          room = subst (λ (m : ℕ). m ≤ 512) (after o) g.room;
+          room = subst (λ (m : ℕ). m ≤ prefix_limit) (after o) g.room;
         }
 
 -- ---- turn by turn

@@ -1,6 +1,7 @@
 // An accepted view is written: its prefixes, the node's row, the findings.
 ghost use Rattle.std.specs.Prelude.{◌≡◌, ◌<◌};
 ghost use Rattle.view_writing.specs.Observation.{Storing, StoredAs, view_replaced, rest_written};
+ghost use Rattle.model.specs.Sizes.{node_count};
 
 use log_prefix::prefix::extend;
 use log_violation::violation::Notes;
@@ -36,7 +37,7 @@ fn store(history: &mut History, count: usize, view: &[u8], rest: Place) -> LogPr
 // The node's front and last index are replaced; its unseen mark stays.
 #[tactic(auto, unfolding(crate::specs::Observation::view_replaced))]
 fn replace_view(history: &mut History, node: NodeId, front: LogPrefixWitness, last: LogIndex)
-    requires { node.0 < 64 }
+    requires { node.0 < node_count }
     ensures { history.new ≡ view_replaced history.old node.0 front.0 last.0 }
 {
     let x = node_of(history, node);
@@ -53,7 +54,7 @@ pub fn write_view(
     node: NodeId,
     notes: &Notes,
 )
-    requires { Storing history.old count view.now rest × (node.0 < 64) }
+    requires { Storing history.old count view.now rest × (node.0 < node_count) }
     ensures { history.new ≡ rest_written history.old count view.now rest node.0 notes.now.rows notes.now.held }
 {
     let front = store(history, count, view, rest);

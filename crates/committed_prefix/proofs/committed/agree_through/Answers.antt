@@ -4,7 +4,7 @@ use Rattle.committed_prefix.proofs.PrefixTurns.{agree_short, agree_short_2, agre
 use Rattle.storage.proofs.WellFormed.{formed}
 use Rattle.prefix_lookup.proofs.TableLaws.{lent_asks, table_lent}
 use mathlib.Core.Path.{refl}
-use Rattle.storage_bytes.specs.Words.{word_at}
+use Rattle.storage.specs.Head.{prefixes_held}
 use Rattle.committed_prefix.proofs.committed.agree_through.Goals as goal
 
 pub slice_through-requires : goal.slice_through-requires
@@ -33,7 +33,7 @@ same_prefix-requires c =
     let b = c.args.b.0 in
     let f = formed h c.args.history.formed in
     let lent = c.array-prefixes.ensures.is in (
-      word_at h 0 2,
+      prefixes_held h,
       table_lent h _ _ f lent refl,
       slice_kept h a b c.args.index.0 _ lent _ c.slice_through.ensures _ f c.requires.0 c.in-Some.is,
       slice_kept h b a c.args.index.0 _ lent _ c.slice_through-2.ensures _ f c.requires.1 c.in-Some-slice_through.is,

@@ -2,7 +2,7 @@
 -- Assumes nothing.
 use Rattle.completeness.proofs.CheckLaws.{checked_nothing, number_is, end_read, checked_kept, judged_refused, judged_accepted, written_as}
 use Rattle.std.proofs.lemmas.Result.{err_from_is_err_and}
-use Rattle.log_violation.proofs.ViolationLaws.{too_many, in_limit}
+use Rattle.log_violation.proofs.ViolationLaws.{over_limit, in_limit}
 use Rattle.storage.proofs.WellFormed.{formed}
 use Rattle.committed_prefix.proofs.PrefixTurns.{kept_within}
 use Rattle.storage.specs.Values.{committed_end}
@@ -36,7 +36,7 @@ judge_all-relevant-requires c = (
 pub returns-in_err-fits : goal.returns-in_err-fits
 returns-in_err-fits c =
     let p = err_from_is_err_and c.from_residual.result c.from_residual.ensures.1 in
-    let q = judged_refused c.args.history.now _ _ _ _ _ c.of-notes.ensures c.judge_all-relevant.ensures (too_many _ _ c.fits.ensures _ c.in_err-fits.was) in
+    let q = judged_refused c.args.history.now _ _ _ _ _ c.of-notes.ensures c.judge_all-relevant.ensures (over_limit _ _ c.fits.ensures _ c.in_err-fits.was) in
     checked_kept c.args.history.now _ c.committed_prefix.ensures _ c.in-Some.is _ _ (p.1 ∙ q.0, q.1)
 
 pub returns : goal.returns

@@ -6,8 +6,9 @@ use mathlib.Core.Path.{◌≡◌, ap, ◌∙◌}
 use native.Mathlib.Omega.{arith}
 use Rattle.std.specs.Prelude.{Err}
 use Rattle.std.proofs.lemmas.Result.{err_from_is_err_and}
-use Rattle.log_violation.proofs.ViolationLaws.{too_many, in_limit}
+use Rattle.log_violation.proofs.ViolationLaws.{over_limit, in_limit}
 use Rattle.logical_log.proofs.Whole.{total_small, observed_six, observed_seven, observed_ok, observed_room}
+use Rattle.model.specs.Sizes.{prefix_limit}
 use Rattle.logical_log.proofs.observation.observe_prefixes.Goals as goal
 
 pub overflow_add-total : goal.overflow_add-total
@@ -17,26 +18,26 @@ overflow_add-total c =
 
 pub returns-then-most-total : goal.returns-then-most-total
 returns-then-most-total c =
-    let m : c.min-most.result ≡ min c.args.limit 512 = search rules in
+    let m : c.min-most.result ≡ min c.args.limit prefix_limit = search rules in
     observed_six c.requires c.args.view.walk c.judge_view-judged.ensures c.prefix_count-count.ensures.is m c.if-most-total.true
 
 pub returns-in_err-fits : goal.returns-in_err-fits
 returns-in_err-fits c =
-    let m : c.min-most.result ≡ min c.args.limit 512 = search rules in
+    let m : c.min-most.result ≡ min c.args.limit prefix_limit = search rules in
     let p = err_from_is_err_and c.from_residual.result c.from_residual.ensures.1 in
     let q = observed_seven c.requires c.args.view.walk c.judge_view-judged.ensures c.prefix_count-count.ensures.is m c.if-most-total.false
-    (too_many _ _ c.fits.ensures _ c.in_err-fits.was) in
+    (over_limit _ _ c.fits.ensures _ c.in_err-fits.was) in
     (p.1 ∙ ap Err p.2 ∙ q.0, q.1)
 
 pub write_view-requires : goal.write_view-requires
 write_view-requires c =
-    let m : c.min-most.result ≡ min c.args.limit 512 = search rules in (
+    let m : c.min-most.result ≡ min c.args.limit prefix_limit = search rules in (
       observed_room c.requires c.args.view.walk c.judge_view-judged.ensures c.prefix_count-count.ensures.is m c.if-most-total.false (omega arith),
       c.args.view.is_node,
     )
 
 pub returns : goal.returns
 returns c =
-    let m : c.min-most.result ≡ min c.args.limit 512 = search rules in
+    let m : c.min-most.result ≡ min c.args.limit prefix_limit = search rules in
     observed_ok c.requires c.args.view.walk c.judge_view-judged.ensures c.prefix_count-count.ensures.is m c.if-most-total.false
     (in_limit _ _ c.fits.ensures _ c.in_ok-fits.was) _ c.write_view.ensures

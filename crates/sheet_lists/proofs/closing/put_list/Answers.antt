@@ -3,6 +3,7 @@
 use mathlib.Core.Path.{◌≡◌}
 use native.Mathlib.Omega.{arith}
 use Rattle.sheet_lists.proofs.ClosingLaws.{put_none, put_next, put_all, put_end, put_room}
+use Rattle.sheet_lists.specs.Closing.{longest_list}
 use Rattle.sheet_lists.proofs.closing.put_list.Goals as goal
 
 pub loop-n-init : goal.loop-n-init
@@ -18,4 +19,4 @@ pub loop-n-preserved : goal.loop-n-preserved
 loop-n-preserved g c = (put_next _ _ _ _ _ _ _ c.loop-n.invariant.0 c.in-Some.ensures c.put.ensures, omega arith)
 
 pub returns : goal.returns
-returns g c = put_all _ _ _ _ _ c.loop-n.invariant.0 c.loop-n.invariant.1 (let e : c.loop-n.n ≡ 256 = omega (arith, c.loop-n.invariant.1) in let b = c.requires.short in omega arith)
+returns g c = put_all _ _ _ _ _ c.loop-n.invariant.0 c.loop-n.invariant.1 (let e : c.loop-n.n ≡ longest_list = omega (arith, c.loop-n.invariant.1) in let b = c.requires.short in omega arith)

@@ -2,8 +2,9 @@
 -- Assumes nothing.
 use Prim.Native.Nat.{◌≤◌}
 use Rattle.sheet_lists.proofs.ClosingLaws.{Filled_to}
+use Rattle.sheet_lists.specs.Closing.{longest_list}
 use Rattle.sheet_lists.proofs.closing.put_list.Given as goal
 
 abbrev pub invariant-loop-n : goal.invariant-loop-n
 invariant-loop-n g l =
-    Filled_to g.T.Listed.width (g.T.Listed.lines l.history.bytes.now) l.initial.sheet l.n l.sheet × (l.n ≤ 256)
+    Filled_to g.T.Listed.width (g.T.Listed.lines l.history.bytes.now) l.initial.sheet l.n l.sheet × (l.n ≤ longest_list)

@@ -8,6 +8,7 @@ use Rattle.sheet_pieces.specs.contracts.split.Piece.{the_type}
 use denote.Enum.Declared.{tag_of}
 use Rattle.sheet_pieces.proofs.SplitLaws.{whole_within}
 use Rattle.sheet_text.proofs.TakingLaws.{taking_none, taking_next, taking_ends}
+use Rattle.sheet_text.specs.Sheet.{taken_most}
 use Rattle.sheet_text.proofs.taking.take_some.Goals as goal
 
 pub loop-count-init : goal.loop-count-init
@@ -41,6 +42,6 @@ loop-count-preserved c = (
 
 pub returns : goal.returns
 returns c =
-    let full : c.loop-count.count ≡ 600 = omega (arith, c.loop-count.invariant.1) in
+    let full : c.loop-count.count ≡ taken_most = omega (arith, c.loop-count.invariant.1) in
     let t = taking_ends _ _ _ _ _ _ _ _ _ c.loop-count.invariant.0 c.loop-count.invariant.1 (λ l. absurd (omega arith)) in
     rw full at t

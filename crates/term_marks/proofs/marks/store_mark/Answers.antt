@@ -3,6 +3,7 @@
 use Prim.Native.Nat.{◌+◌, ◌*◌}
 use native.Mathlib.Omega.{arith}
 use Rattle.storage_bytes.specs.Words.{word_bytes}
+use Rattle.storage_bytes.specs.Layout.{certificates_start, certificates_length, certificate_width, index_width, certificate_mark}
 use Rattle.storage_bytes.proofs.WordLaws.{word_bytes_length}
 use Rattle.storage.proofs.WriteLaws.{part_written}
 use Rattle.term_marks.specs.Marks.{mark_set}
@@ -14,4 +15,4 @@ returns c =
     let p = c.put_mark in
     let s = c.args in
     let f = c.requires in
-    part_written s.history.now p.new.certificates 1417 704 (s.k * 11 + 6) (word_bytes 2 s.mark.0) p.ensures (omega arith) (omega (arith, word_bytes_length 2 s.mark.0))
+    part_written s.history.now p.new.certificates certificates_start certificates_length (s.k * certificate_width + certificate_mark) (word_bytes index_width s.mark.0) p.ensures (omega arith) (omega (arith, word_bytes_length 2 s.mark.0))

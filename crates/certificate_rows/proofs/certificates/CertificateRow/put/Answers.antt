@@ -4,6 +4,7 @@
 use Rattle.storage.proofs.WriteLaws.{field_next}
 use Rattle.storage.specs.Writes.{certificate_bytes}
 use Rattle.storage_bytes.specs.Words.{word_bytes}
+use Rattle.storage_bytes.specs.Layout.{certificate_width}
 use Rattle.std.proofs.Common.{◌++◌, ◌*◌, refl, ◌∙◌}
 use Rattle.certificate_rows.proofs.certificates.CertificateRow.put.Goals as goal
 
@@ -12,7 +13,7 @@ unfolding certificate_bytes
 returns c =
     let t = c.args.certificates.now in
     let x = c.args.self in
-    let o = c.args.k * 11 in
+    let o = c.args.k * certificate_width in
     let A = word_bytes 4 x.term.0 in
     let B = A ++ word_bytes 2 x.log.0 in
     let C = B ++ word_bytes 2 x.mark.0 in
