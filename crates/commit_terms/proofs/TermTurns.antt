@@ -12,16 +12,15 @@ use borrow.Author.Tests.{eq-eqb, ne_eqb, lt-ltb, le-ltb}
 use Rattle.model.specs.Sizes.{Bytes, index_limit}
 use Rattle.model.proofs.Tests.{cond_cases, cond_true, cond_false}
 use Rattle.storage_bytes.specs.Words.{word_bytes, put_bytes}
-use Rattle.storage_bytes.specs.Layout.{terms_start, history_length, term_width, terms_field}
+use Rattle.storage_bytes.specs.Layout.{terms_start, history_length, term_width, terms_field, certificates_field}
 use Rattle.storage.specs.Tables.{term_row, terms_part}
 use Rattle.storage.specs.Fresh.{zeros}
 use Rattle.storage.specs.Writes.{terms_lengthened}
 use Rattle.storage.specs.Head.{terms_held, certificates_held, put_head_field}
-use Rattle.storage_bytes.proofs.WordLaws.{word_bytes_length}
 use Rattle.storage.proofs.FreshLaws.{zeros_length}
 use Rattle.storage.proofs.WriteLaws.{region_back}
-use Rattle.storage.proofs.RowLaws.{word_before, word_after}
 use Rattle.storage.proofs.RuleLaws.{pass, stop}
+use Rattle.storage.proofs.HeadLaws.{head_other, head_before}
 use Rattle.units.specs.declared.LogIndex.{LogIndex}
 use Rattle.table_rows.specs.TermSearch.{found_index}
 use Rattle.table_rows.proofs.TermSearchLaws.{index_found, index_none, index_told, nothing_told}
@@ -62,8 +61,9 @@ module _ (h : Bytes) (new : ℕ) where
   unfolding lengthened_to terms_lengthened
   lengthened_certificates =
       cond_cases (λ (u : Bytes). certificates_held u ≡ certificates_held h) (ltb (terms_held h) new) _ h
-      (λ _. let l = word_bytes_length 2 new in
-      word_after _ 2 (word_bytes 2 new) 6 1 (omega arith) ∙ word_before h (terms_start + terms_held h * term_width) (zeros ((new - terms_held h) * term_width)) 6 1 (omega arith))
+      (λ _.
+      head_other _ terms_field new certificates_field (λ e. omega (arith, e))
+      ∙ head_before h (terms_start + terms_held h * term_width) (zeros ((new - terms_held h) * term_width)) certificates_field (omega arith))
       (λ _. refl)
 
 -- ---- one place, as it was read
@@ -177,7 +177,7 @@ replace_certificates : (h : Bytes) (k t : ℕ) → certificates_held (replace_by
 unfolding replace_bytes
 replace_certificates h k t =
     cond_cases (λ (u : Bytes). certificates_held u ≡ certificates_held h) (is_replaced t (term_in h k)) _ h
-    (λ _. word_before h (terms_start + k * term_width) (word_bytes term_width t) 6 1 (omega arith)) (λ _. refl)
+    (λ _. head_before h (terms_start + k * term_width) (word_bytes term_width t) certificates_field (omega arith)) (λ _. refl)
 
 pub replace_all_certificates : (h : Bytes) (t k n : ℕ) → certificates_held (replace_all h t k n) ≡ certificates_held h
 unfolding replace_all

@@ -3,7 +3,7 @@
 use Rattle.std.specs.Prelude.{ℕ, ◌+◌, ◌*◌, Bool, false, Option, Some, None}
 use Rattle.model.specs.Sizes.{Bytes}
 use Rattle.storage_bytes.specs.Words.{put_bytes}
-use Rattle.storage_bytes.specs.Layout.{node_width}
+use Rattle.storage_bytes.specs.Layout.{node_width, nodes_start}
 use Rattle.storage.specs.Tables.{PrefixRow, NodeRow, row_of_node, prefix_row, nodes_part, prefixes_part}
 use Rattle.storage.specs.Writes.{node_bytes, committed_set}
 use Rattle.prefix_lookup.specs.Prefix.{slice_of}
@@ -34,7 +34,7 @@ agree_in h a b i = same_slices (rows_of h) (slice_of (rows_of h) a i) (slice_of 
 -- the node's unseen mark
 unfoldable pub unseen_set : Bytes → ℕ → ℕ → Bytes
 unfolding put_bytes node_bytes
-unseen_set h n m = put_bytes h (9 + n * node_width) (node_bytes (record { front = (node_of h n).front; last = (node_of h n).last; unseen = m }))
+unseen_set h n m = put_bytes h (nodes_start + n * node_width) (node_bytes (record { front = (node_of h n).front; last = (node_of h n).last; unseen = m }))
 
 -- the prefix of number p kept, with its owner; the mark is cleared
 unfoldable pub keep_bytes : Bytes → ℕ → ℕ → Bytes

@@ -5,6 +5,7 @@ ghost use Rattle.prefix_lookup.specs.Prefix.{stored_of};
 ghost use Rattle.committed_prefix.specs.Prefix.{unseen_set, agree_in, keep_bytes};
 ghost use Rattle.storage.specs.Head.{prefixes_held, committed_number};
 ghost use Rattle.model.specs.Sizes.{node_count};
+ghost use Rattle.storage_bytes.specs.Layout.{head_length};
 
 use log_comparison::comparison::same_prefix;
 use prefix_lookup::lookup::slice_through;
@@ -19,7 +20,7 @@ use units::{LogIndex, LogPrefixWitness, NodeId};
 // all of it.
 #[tactic(auto, using(model::proofs::Tests::unless_zero), unfolding(prefix_lookup::specs::Prefix::stored_of))]
 pub fn committed_prefix(history: &[u8]) -> Option<LogPrefixWitness>
-    requires { 9 ≤ length history.now }
+    requires { head_length ≤ length history.now }
     ensures { result ≡ stored_of (committed_number history.now) }
 {
     let p = committed(history);

@@ -18,7 +18,7 @@ use Rattle.model.specs.Sizes.{Bytes, finding_limit}
 use Rattle.model.proofs.Tests.{tf, either, cond_cases, cond_true, cond_false, and_left, and_right, and_both}
 use Rattle.model.proofs.Members.{with_there, with_fresh, with_longer}
 use Rattle.storage_bytes.specs.Lists.{tabulate, some}
-use Rattle.storage_bytes.specs.Words.{put_bytes, word_bytes}
+use Rattle.storage_bytes.specs.Words.{put_bytes}
 use Rattle.storage_bytes.specs.Layout.{findings_start, findings_length, history_length, finding_width, findings_field}
 use Rattle.storage.specs.Tables.{finding_row, finding_rows, findings_part}
 use Rattle.storage.specs.Rules.{well_formed}
@@ -30,6 +30,7 @@ use Rattle.storage_bytes.proofs.PartLaws.{part_length, part_lent, put_whole}
 use Rattle.storage.proofs.WellFormed.{formed}
 use Rattle.storage.proofs.WriteLaws.{part_written}
 use Rattle.storage.proofs.RowLaws.{rows_append, finding_own, finding_length, finding_back}
+use Rattle.storage.proofs.HeadLaws.{head_kept}
 use Rattle.log_violation.specs.declared.violation.FindingsFull.{FindingsFull}
 use Rattle.log_violation.specs.Violation.{same_numbers, is_noted, note_held, note_bytes, held_all, bytes_all, NotedAll, note_where, findings_written, fits_answer, room_for, room_answer, noted_in, too_many}
 
@@ -138,7 +139,7 @@ module _ (t : Bytes) (n : ℕ) (f : Finding) (fs : List Finding) (long : length 
       subst (After (n + 1)) (sym bytes)
       (inl (
         omega arith,
-        rows_append 8 finding_row finding_own t (finding_bytes f) n f (finding_length f) (finding_back t n f fits (omega arith))
+        rows_append finding_width finding_row finding_own t (finding_bytes f) n f (finding_length f) (finding_back t n f fits (omega arith))
             ∙ ap (λ (l : List Finding). l ++ (f ∷ [])) e ∙ sym fresh,
       )))
       (either (leb finding_limit n)))
@@ -246,7 +247,7 @@ findings_long h right = part_length h findings_start findings_length (omega (ari
 
 pub written_length : (h : Bytes) (t : Bytes) (n : ℕ) → length (findings_written h t n) ≡ length h
 unfolding findings_written
-written_length h t n = put_length (put_bytes h findings_start t) 7 (word_bytes 1 n) ∙ put_length h findings_start t
+written_length h t n = head_kept findings_field (put_bytes h findings_start t) n ∙ put_length h findings_start t
 
 -- ---- a finding noted in the history itself
 

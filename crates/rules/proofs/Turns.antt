@@ -9,7 +9,7 @@ use borrow.Author.Tests.{eq-eqb, ne_eqb}
 use Rattle.model.specs.Sizes.{Bytes}
 use Rattle.storage_bytes.specs.Lists.{every}
 use Rattle.storage_bytes.specs.Layout.{history_length}
-use Rattle.storage.specs.Tables.{prefix_row, rows_of_prefixes, node_rows, term_row, certificate_row, rows_of_certificates, finding_row, finding_rows, head_part, nodes_part, terms_part, certificates_part, findings_part, prefixes_part, tables_in}
+use Rattle.storage.specs.Tables.{prefix_row, rows_of_prefixes, node_rows, term_row, certificate_row, rows_of_certificates, finding_row, finding_rows, head_part, nodes_part, terms_part, certificates_part, findings_part, prefixes_part, tables_in, term_rows}
 use Rattle.storage.specs.Rules.{numbered, prefixes_right_after, node_right, certificate_right, finding_right, within_limits, committed_right, tables_right, well_formed}
 use Rattle.storage.specs.Head.{prefixes_held, terms_held, committed_number, certificates_held, findings_held, owner_of}
 use Rattle.storage_bytes.proofs.ListLaws.{tabulate_length}
@@ -37,7 +37,17 @@ rules_in_turn h head ns cs fs ps n m f e eh en ec ef ep n' m' f' =
     let c = tabulate_length (certificate_row cs) 0 (certificates_held head) in
     let d = tabulate_length (finding_row fs) 0 (findings_held head) in
     pass _ (eq-eqb (length h) history_length e)
-    ∙ (λ i. tables_right (tables_in (sym eh i) (sym en i) (terms_part h) (sym ec i) (sym ef i) (sym ep i)))
+    ∙ (λ i.
+    tables_right
+    (record {
+      rows = rows_of_prefixes (sym ep i) (prefixes_held (sym eh i));
+      nodes = node_rows (sym en i);
+      committed = committed_number (sym eh i);
+      owner = owner_of (sym eh i);
+      terms = term_rows (terms_part h) (terms_held (sym eh i));
+      certificates = rows_of_certificates (sym ec i) (certificates_held (sym eh i));
+      findings = finding_rows (sym ef i) (findings_held (sym eh i));
+    }))
     ∙ (λ i. within_limits (r i) (t i) (c i) (d i)
     && (committed_right (r i) (committed_number head) (owner_of head)
     && (every (node_right ((r ∙ sym n') i)) (node_rows ns)

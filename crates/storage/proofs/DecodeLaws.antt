@@ -3,7 +3,7 @@
 use Prim.Native.Nat.{ℕ, ◌+◌, ◌≤◌, ◌<◌}
 use native.Mathlib.Omega.{arith}
 use mathlib.Core.Path.{◌≡◌, refl, ap, ◌∙◌}
-use mathlib.Core.Bool.{true, cond}
+use mathlib.Core.Bool.{Bool, true, cond}
 use mathlib.Core.List.{List, [], ◌∷◌, ◌++◌}
 use mathlib.Core.Option.{none, some}
 use lib.Dec.{leb, eqb}
@@ -19,7 +19,7 @@ use Rattle.storage.specs.Decode.{prefix_at, extended, resolve, front_in, certifi
 use Rattle.storage.specs.Rules.{node_right, certificate_right, finding_right, numbered, prefix_right, prefixes_right_after, within_limits, committed_right, tables_right, well_formed}
 use Rattle.storage.specs.Head.{prefixes_held}
 use Rattle.storage_bytes.proofs.ListLaws.{both, every_weaker, every_set, map_set, map_every}
-use Rattle.storage.proofs.RuleLaws.{Limited, within, pass}
+use Rattle.storage.proofs.RuleLaws.{pass, all_of, all_set, all_last}
 use Rattle.storage.proofs.RowFacts.{Facts, facts_of, rows_sized, number_kept, resolve_snoc, resolve_count, right_snoc}
 
 -- ---- the storage rules, one by one
@@ -135,84 +135,87 @@ pub committed_test : (n p o : ℕ) → p ≤ n → o ≤ last_node → committed
 unfolding committed_right
 committed_test n p o h g = pass _ (le-leb _ _ h) ∙ le-leb _ _ g
 
-pub within_test : (ps ts cs fs : ℕ) → Limited ps ts cs fs → within_limits ps ts cs fs ≡ true
-unfolding within_limits
-within_test ps ts cs fs l =
-    pass _ (le-leb _ _ l.prefixes) ∙ pass _ (le-leb _ _ l.terms) ∙ pass _ (le-leb _ _ l.certificates) ∙ le-leb _ _ l.findings
+-- ---- changes that keep the rules: each changes some of the tests, and the others stay
 
--- ---- changes that keep the rules
+abbrev limits_of : Tables → List Bool
+limits_of t = leb (length t.rows) prefix_limit ∷ leb (length t.terms) index_limit ∷ leb (length t.certificates) certificate_limit ∷ []
+
+abbrev tests_of : Tables → List Bool
+tests_of t =
+    within_limits (length t.rows) (length t.terms) (length t.certificates) (length t.findings)
+    ∷ committed_right (length t.rows) t.committed t.owner
+    ∷ every (node_right (length t.rows)) t.nodes
+    ∷ every (certificate_right (length t.rows)) t.certificates
+    ∷ numbered t.certificates
+    ∷ every finding_right t.findings
+    ∷ []
 
 module _ (t : Tables) (k : Kept t) where
-  limited : Limited (length t.rows) (length t.terms) (length t.certificates) (length t.findings)
-  limited = within _ _ _ _ k.limits
+  -- the i-th test, and the last, told to be b
+  test_set : (ts : List Bool) (i : ℕ) (b : Bool) → all_of ts (prefixes_right_after [] t.rows) ≡ true → b ≡ true
+      → all_of (set ts i b) (prefixes_right_after [] t.rows) ≡ true
+  test_set ts i b e q = all_set ts (prefixes_right_after [] t.rows) i b e q
+
+  limit_set : (i n m : ℕ) → n ≤ m → all_of (set (limits_of t) i (leb n m)) (leb (length t.findings) finding_limit) ≡ true
+  unfolding within_limits
+  limit_set i n m h = all_set (limits_of t) (leb (length t.findings) finding_limit) i (leb n m) k.limits (le-leb n m h)
+
+  all_right : all_of (tests_of t) (prefixes_right_after [] t.rows) ≡ true
+  unfolding tables_right
+  all_right = kept_right t k
 
   pub kept_node : (i : ℕ) (x : NodeRow) → NodeNamed (length t.rows) x → Kept (with_node_row t i x)
+  unfolding tables_right
   kept_node i x f =
-      record {
-        limits = k.limits;
-        committed = k.committed;
-        nodes = every_set (node_right (length t.rows)) t.nodes i x (node_test _ x f) k.nodes;
-        certificates = k.certificates;
-        numbered = k.numbered;
-        findings = k.findings;
-        rows = k.rows;
-      }
+      kept_of (with_node_row t i x)
+      (test_set (tests_of t) 2 (every (node_right (length t.rows)) (set t.nodes i x)) all_right
+      (every_set (node_right (length t.rows)) t.nodes i x (node_test _ x f) k.nodes))
 
   pub kept_committed : (p o : ℕ) → p ≤ length t.rows → o ≤ last_node → Kept (with_committed_number t p o)
+  unfolding tables_right
   kept_committed p o h g =
-      record {
-        limits = k.limits;
-        committed = committed_test _ p o h g;
-        nodes = k.nodes;
-        certificates = k.certificates;
-        numbered = k.numbered;
-        findings = k.findings;
-        rows = k.rows;
-      }
+      kept_of (with_committed_number t p o)
+      (test_set (tests_of t) 1 (committed_right (length t.rows) p o) all_right (committed_test _ p o h g))
 
   pub kept_terms : (ts : List ℕ) → length ts ≤ index_limit → Kept (with_term_rows t ts)
+  unfolding tables_right within_limits
   kept_terms ts h =
-      record {
-        limits = within_test _ _ _ _ (record { prefixes = limited.prefixes; terms = h; certificates = limited.certificates; findings = limited.findings });
-        committed = k.committed;
-        nodes = k.nodes;
-        certificates = k.certificates;
-        numbered = k.numbered;
-        findings = k.findings;
-        rows = k.rows;
-      }
+      kept_of (with_term_rows t ts)
+      (test_set (tests_of t) 0 (within_limits (length t.rows) (length ts) (length t.certificates) (length t.findings)) all_right
+      (limit_set 1 (length ts) index_limit h))
 
-  pub kept_certificates : (cs : List CertificateRow) → length cs ≤ certificate_limit → every (certificate_right (length t.rows)) cs ≡ true → numbered cs ≡ true
-      → Kept (with_certificate_rows t cs)
+  pub kept_certificates : (cs : List CertificateRow) → length cs ≤ certificate_limit → every (certificate_right (length t.rows)) cs ≡ true
+      → numbered cs ≡ true → Kept (with_certificate_rows t cs)
+  unfolding tables_right within_limits
   kept_certificates cs h e m =
-      record {
-        limits = within_test _ _ _ _ (record { prefixes = limited.prefixes; terms = limited.terms; certificates = h; findings = limited.findings });
-        committed = k.committed;
-        nodes = k.nodes;
-        certificates = e;
-        numbered = m;
-        findings = k.findings;
-        rows = k.rows;
-      }
+      let u = set (tests_of t) 0 (within_limits (length t.rows) (length t.terms) (length cs) (length t.findings)) in
+      let v = set u 3 (every (certificate_right (length t.rows)) cs) in
+      kept_of (with_certificate_rows t cs)
+      (test_set v 4 (numbered cs)
+      (test_set u 3 (every (certificate_right (length t.rows)) cs)
+      (test_set (tests_of t) 0 (within_limits (length t.rows) (length t.terms) (length cs) (length t.findings)) all_right
+      (limit_set 2 (length cs) certificate_limit h))
+      e)
+      m)
 
   pub kept_findings : (fs : List Finding) → length fs ≤ finding_limit → every finding_right fs ≡ true → Kept (with_finding_rows t fs)
+  unfolding tables_right within_limits
   kept_findings fs h e =
-      record {
-        limits = within_test _ _ _ _ (record { prefixes = limited.prefixes; terms = limited.terms; certificates = limited.certificates; findings = h });
-        committed = k.committed;
-        nodes = k.nodes;
-        certificates = k.certificates;
-        numbered = k.numbered;
-        findings = e;
-        rows = k.rows;
-      }
+      let u = set (tests_of t) 0 (within_limits (length t.rows) (length t.terms) (length t.certificates) (length fs)) in
+      kept_of (with_finding_rows t fs)
+      (test_set u 5 (every finding_right fs)
+      (test_set (tests_of t) 0 (within_limits (length t.rows) (length t.terms) (length t.certificates) (length fs)) all_right
+      (all_last (limits_of t) (leb (length t.findings) finding_limit) (leb (length fs) finding_limit) k.limits (le-leb _ _ h)))
+      e)
 
+  -- a prefix more: what names prefixes by number names them still
   pub kept_row : (x : PrefixRow) → length t.rows < prefix_limit → prefix_right t.rows x ≡ true → Kept (with_prefix_row t x)
+  unfolding within_limits
   kept_row x h e =
       let l : length (t.rows ++ (x ∷ [])) ≡ length t.rows + 1 = length-append t.rows (x ∷ []) in
       let c = committed_named _ _ _ k.committed in
       record {
-        limits = within_test _ _ _ _ (record { prefixes = omega arith; terms = limited.terms; certificates = limited.certificates; findings = limited.findings });
+        limits = limit_set 0 (length (t.rows ++ (x ∷ []))) prefix_limit (omega arith);
         committed = committed_test _ _ _ (omega arith) c.1;
         nodes = every_weaker (node_right (length t.rows)) _ t.nodes
             (λ y q.

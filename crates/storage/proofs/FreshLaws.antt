@@ -12,8 +12,8 @@ use Rattle.model.specs.History.{fresh}
 use Rattle.model.specs.Sizes.{Bytes, node_count}
 use Rattle.storage_bytes.specs.Lists.{tabulate}
 use Rattle.storage_bytes.specs.Words.{word_at}
-use Rattle.storage_bytes.specs.Layout.{part, history_length, head_start, head_length, nodes_start, nodes_length, node_width, number_width, index_width, node_last, node_unseen}
-use Rattle.storage.specs.Tables.{Tables, NodeRow, prefix_row, row_of_node, term_row, certificate_row, finding_row, head_part, nodes_part, terms_part, certificates_part, findings_part, prefixes_part, tables_in, tables_of}
+use Rattle.storage_bytes.specs.Layout.{part, history_length, head_start, head_length, nodes_start, nodes_length, node_width, number_width, index_width, node_last, node_unseen, start_in, length_in, head_fields}
+use Rattle.storage.specs.Tables.{Tables, NodeRow, row_of_node, head_part, nodes_part, tables_in, tables_of, regions_of, tables_by, with_node_rows}
 use Rattle.storage.specs.Decode.{history_in, resolve_from, decode}
 use Rattle.storage.specs.Rules.{tables_right, well_formed}
 use Rattle.storage.specs.Fresh.{zeros, fresh_history}
@@ -69,16 +69,8 @@ pub fresh_tables : tables_of fresh_history ≡ empty_tables
 unfolding tables_in tabulate
 fresh_tables =
     let z = part_zero fresh_history head_start head_length (zeros_zero history_length) in
-    λ i.
-    record {
-      rows = tabulate (prefix_row (prefixes_part fresh_history)) 0 (word_zero (head_part fresh_history) 0 2 z i);
-      nodes = nodes_zero i;
-      committed = word_zero (head_part fresh_history) 4 2 z i;
-      owner = word_zero (head_part fresh_history) 8 1 z i;
-      terms = tabulate (term_row (terms_part fresh_history)) 0 (word_zero (head_part fresh_history) 2 2 z i);
-      certificates = tabulate (certificate_row (certificates_part fresh_history)) 0 (word_zero (head_part fresh_history) 6 1 z i);
-      findings = tabulate (finding_row (findings_part fresh_history)) 0 (word_zero (head_part fresh_history) 7 1 z i);
-    }
+    (λ i. tables_by (λ k. word_zero (head_part fresh_history) (start_in head_fields k) (length_in head_fields k) z i) (regions_of fresh_history))
+    ∙ ap (with_node_rows empty_tables) nodes_zero
   where
     zn : Zero (nodes_part fresh_history)
     zn = part_zero fresh_history nodes_start nodes_length (zeros_zero history_length)

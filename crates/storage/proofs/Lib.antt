@@ -1,6 +1,7 @@
 pub mod RuleLaws
 pub mod FreshLaws
 pub mod RowLaws
+pub mod HeadLaws
 pub mod TableLaws
 pub mod WriteLaws
 pub mod RowFacts

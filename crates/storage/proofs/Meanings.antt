@@ -14,7 +14,7 @@ use Rattle.model.specs.Sizes.{Bytes, last_node, node_count, index_limit, prefix_
 use Rattle.model.proofs.Tests.{cond_cases}
 use Rattle.storage_bytes.specs.Lists.{every}
 use Rattle.storage_bytes.specs.Words.{word_bytes, put_bytes}
-use Rattle.storage_bytes.specs.Layout.{head_start, head_length, nodes_start, terms_start, certificates_start, findings_start, findings_length, prefixes_start, history_length, node_width, term_width, prefix_width, committed_field, findings_field}
+use Rattle.storage_bytes.specs.Layout.{nodes_start, terms_start, certificates_start, findings_start, findings_length, prefixes_start, history_length, node_width, term_width, prefix_width, committed_field, findings_field, prefixes_field, terms_field, certificates_field, owner_field}
 use Rattle.storage.specs.Tables.{NodeRow, CertificateRow, Tables, row_of_node, term_row, finding_row, rows_of_prefixes, term_rows, rows_of_certificates, finding_rows, head_part, nodes_part, terms_part, certificates_part, findings_part, prefixes_part, tables_in, tables_of, with_prefix_row, with_node_row, with_committed_number, with_term_rows, with_certificate_rows, with_finding_rows}
 use Rattle.storage.specs.Decode.{prefix_at, extended, resolve, front_in, certificate_in, history_in, decode}
 use Rattle.storage.specs.Rules.{certificate_right, finding_right, numbered, prefix_right, well_formed}
@@ -22,7 +22,6 @@ use Rattle.storage.specs.Values.{number_index, committed_end}
 use Rattle.storage.specs.Writes.{node_bytes, prefix_bytes, prefix_of, CertificateFits, PrefixFits, prefix_appended, terms_lengthened, committed_set, certificate_inserted, certificate_added}
 use Rattle.storage_bytes.proofs.ListLaws.{tabulate_length, tabulate_at, every_insert, map_insert, every_snoc}
 use Rattle.storage_bytes.proofs.WordLaws.{put_length}
-use Rattle.storage_bytes.proofs.PartLaws.{word_part}
 use Rattle.storage.proofs.RowFacts.{resolve_count}
 use Rattle.storage.proofs.RuleLaws.{within, pass}
 use Rattle.storage.proofs.TableLaws.{findings_written_lem, set_node, set_term, prefix_appended_lem, terms_lengthened_lem, committed_set_lem, certificate_added_lem}
@@ -31,6 +30,7 @@ use Rattle.storage.specs.Head.{prefixes_held, terms_held, committed_number, cert
 use Rattle.storage.proofs.FreshLaws.{fresh_well_formed, fresh_decodes}
 use Rattle.storage.proofs.WellFormed.{rows_are, terms_are, certificates_are, findings_are, rows_count, terms_count, certificates_count, findings_count, node_row, formed, formed_rows, rows_index}
 use Rattle.storage.proofs.DecodeLaws.{Kept, well_formed_parts, well_formed_of, NodeNamed, CertificateNamed, certificate_test, kept_node, kept_committed, kept_terms, kept_certificates, kept_findings, kept_row, decode_is, history_node, history_row, FindingNamed, finding_test}
+use Rattle.storage.proofs.HeadLaws.{head_read, head_kept}
 
 -- well-formed bytes that stand for a history
 pub record Stands (h : Bytes) (x : History) : Type 0 where
@@ -68,11 +68,11 @@ module _ (h : Bytes) where
   -- the committed prefix and its owner
   pub committed_read : (decode h).committed ≡ prefix_at (decode h).prefixes (committed_number h)
   unfolding decode tables_in
-  committed_read = ap (prefix_at (decode h).prefixes) (word_part h head_start head_length 4 2 (omega arith))
+  committed_read = ap (prefix_at (decode h).prefixes) (head_read h committed_field)
 
   pub owner_read : (decode h).owner ≡ owner_of h
   unfolding decode tables_in
-  owner_read = word_part h head_start head_length 8 1 (omega arith)
+  owner_read = head_read h owner_field
 
   -- a node's front, last index and unseen mark
   abbrev no_node : NodeRow
@@ -98,7 +98,7 @@ module _ (h : Bytes) where
   pub term_read : (k d : ℕ) → k < terms_held h → get_or (decode h).terms k d ≡ term_row (terms_part h) k
   unfolding decode tables_in
   term_read k d l =
-      tabulate_at (term_row (terms_part h)) 0 (terms_held (head_part h)) k d (omega (arith, word_part h head_start head_length 2 2 (omega arith)))
+      tabulate_at (term_row (terms_part h)) 0 (terms_held (head_part h)) k d (omega (arith, head_read h terms_field))
       ∙ ap (term_row (terms_part h)) (zero-add k)
 
 -- ---- noted findings keep the rules
@@ -189,7 +189,7 @@ module _ (h : Bytes) (x : History) (s : Stands h x) where
       let c = within _ _ _ _ kept.limits in
       let r = rows_count h in
       stands (committed_set h p o) (with_committed_number (tables_of h) p o) _
-      (put_length (put_head_field committed_field h p) 8 (word_bytes 1 o) ∙ put_length h 4 (word_bytes 2 p) ∙ long)
+      (head_kept owner_field (put_head_field committed_field h p) o ∙ head_kept committed_field h p ∙ long)
       (committed_set_lem h long p o (omega (arith, c.prefixes)) (omega arith))
       (kept_committed (tables_of h) kept p o (omega arith) b)
       (ap (λ (y : History). with_committed y (prefix_at y.prefixes p) o) is)
@@ -203,7 +203,7 @@ module _ (h : Bytes) (x : History) (s : Stands h x) where
       let r = rows_count h in
       let m = prefixes_held h in
       stands (prefix_appended h p i t n c) (with_prefix_row (tables_of h) (prefix_of p i t n c)) _
-      (put_length (put_bytes h (prefixes_start + m * prefix_width) (prefix_bytes p i t n c)) 0 (word_bytes 2 (m + 1)) ∙ put_length h (prefixes_start + m * prefix_width) (prefix_bytes p i t n c) ∙ long)
+      (head_kept prefixes_field (put_bytes h (prefixes_start + m * prefix_width) (prefix_bytes p i t n c)) (m + 1) ∙ put_length h (prefixes_start + m * prefix_width) (prefix_bytes p i t n c) ∙ long)
       (prefix_appended_lem h long p i t n c l f)
       (kept_row (tables_of h) kept (prefix_of p i t n c) (omega arith) e)
       (history_row (tables_of h) (prefix_of p i t n c) kept
@@ -231,7 +231,7 @@ module _ (h : Bytes) (x : History) (s : Stands h x) where
       let more : length ((tables_of h).terms ++ zs) ≡ length (tables_of h).terms + (m - n)
       = length-append (tables_of h).terms zs ∙ ap (λ (k : ℕ). length (tables_of h).terms + k) (length-replicate (m - n) 0) in
       stands (terms_lengthened h m) (with_term_rows (tables_of h) ((tables_of h).terms ++ zs)) _
-      (put_length (put_bytes h (terms_start + n * term_width) (zeros ((m - n) * term_width))) 2 (word_bytes 2 m) ∙ put_length h (terms_start + n * term_width) (zeros ((m - n) * term_width)) ∙ long)
+      (head_kept terms_field (put_bytes h (terms_start + n * term_width) (zeros ((m - n) * term_width))) m ∙ put_length h (terms_start + n * term_width) (zeros ((m - n) * term_width)) ∙ long)
       (terms_lengthened_lem h long m l f)
       (kept_terms (tables_of h) kept ((tables_of h).terms ++ zs) (omega arith))
       (ap (λ (y : History). with_terms y (y.terms ++ zs)) is)
@@ -265,7 +265,7 @@ module _ (h : Bytes) (x : History) (s : Stands h x) where
       added_length : length (certificate_added h k c) ≡ length h
       added_length =
           unfold certificate_added in
-          put_length (put_bytes h certificates_start (certificate_inserted (certificates_part h) (certificates_held h) k c)) 6 (word_bytes 1 (certificates_held h + 1))
+          head_kept certificates_field (put_bytes h certificates_start (certificate_inserted (certificates_part h) (certificates_held h) k c)) (certificates_held h + 1)
           ∙ put_length h certificates_start (certificate_inserted (certificates_part h) (certificates_held h) k c)
 
   -- the findings' region written whole, with the count: a judged copy that is taken over
@@ -273,7 +273,7 @@ module _ (h : Bytes) (x : History) (s : Stands h x) where
       → Stands (put_head_field findings_field (put_bytes h findings_start fs) m) (with_findings x (finding_rows fs m))
   findings_taken fs m lf lm e =
       stands (put_head_field findings_field (put_bytes h findings_start fs) m) (with_finding_rows (tables_of h) (finding_rows fs m)) _
-      (put_length (put_bytes h findings_start fs) 7 (word_bytes 1 m) ∙ put_length h findings_start fs ∙ long)
+      (head_kept findings_field (put_bytes h findings_start fs) m ∙ put_length h findings_start fs ∙ long)
       (findings_written_lem h long fs m lf (omega arith))
       (kept_findings (tables_of h) kept (finding_rows fs m) (omega (arith, tabulate_length (finding_row fs) 0 m)) e)
       (ap (λ (y : History). with_findings y (finding_rows fs m)) is)

@@ -18,7 +18,7 @@ use Rattle.storage_bytes.specs.Layout.{certificates_length, node_width, term_wid
 use Rattle.storage.specs.Tables.{NodeRow, CertificateRow, row_of_node, term_row, certificate_row, rows_of_certificates, finding_row, prefix_row, content_size}
 use Rattle.storage.specs.Writes.{certificate_inserted, node_bytes, certificate_bytes, finding_bytes, prefix_bytes, prefix_of, NodeFits, CertificateFits, FindingFits, PrefixFits}
 use Rattle.storage_bytes.proofs.ListLaws.{tabulate_insert, tabulate_same, tabulate_snoc, tabulate_set, tabulate_length, tabulate_at}
-use Rattle.storage_bytes.proofs.WordLaws.{word_shift, put_in, put_length, Agree, word_agree, bytes_agree, word_put, bytes_put, bytes_shift, put_before, put_after, word_bytes_length, word_back}
+use Rattle.storage_bytes.proofs.WordLaws.{word_shift, put_in, put_length, Agree, word_agree, bytes_agree, word_put, bytes_put, bytes_shift, put_before, put_after, word_bytes_length, word_back, word_first}
 
 -- ---- any table: rows are w wide, and a row depends on its own bytes only
 
@@ -121,11 +121,6 @@ prefix_own t u k g =
     }
 
 -- ---- a row is read back as it was written
-
--- the first field of what was written
-word_first : (t : Bytes) (o : ℕ) (vs : Bytes) (n : ℕ) → o + length vs ≤ length t → n ≤ length vs → word_at (put_bytes t o vs) o n ≡ word_at vs 0 n
-word_first t o vs n r h =
-    ap (λ (k : ℕ). word_at (put_bytes t o vs) k n) (sym (add-zero o)) ∙ word_put t o vs 0 n r (omega arith)
 
 pub node_length : (x : NodeRow) → length (node_bytes x) ≡ node_width
 unfolding node_bytes
@@ -247,20 +242,6 @@ prefix_back r k p i t s c f h =
 
     at_size : (p i t s : ℕ) (c : Bytes) → word_at (prefix_bytes p i t s c) prefix_size byte_width ≡ word_at (word_bytes byte_width s) 0 byte_width
     at_size p i t s c = unfold prefix_bytes word_at in refl
-
--- ---- one number written
-
-pub word_set : (r : Bytes) (o n v : ℕ) → v < 256 ^ n → o + n ≤ length r → word_at (put_bytes r o (word_bytes n v)) o n ≡ v
-word_set r o n v f h =
-    let l = word_bytes_length n v in
-    word_first r o (word_bytes n v) n (omega (arith, l)) (omega (arith, l)) ∙ word_back n v f
-
--- a number before, and one after, what was written
-pub word_before : (r : Bytes) (o : ℕ) (vs : Bytes) (p m : ℕ) → p + m ≤ o → word_at (put_bytes r o vs) p m ≡ word_at r p m
-word_before r o vs p m h = word_agree (put_bytes r o vs) r p m (λ i a b. put_before r o vs i (omega arith))
-
-pub word_after : (r : Bytes) (o : ℕ) (vs : Bytes) (p m : ℕ) → o + length vs ≤ p → word_at (put_bytes r o vs) p m ≡ word_at r p m
-word_after r o vs p m h = word_agree (put_bytes r o vs) r p m (λ i a b. put_after r o vs i (omega arith))
 
 -- ---- a certificate put in its place, those behind it moved up
 

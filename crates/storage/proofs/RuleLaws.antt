@@ -40,6 +40,24 @@ stop b e = ap (λ (v : Bool). v && b) e
 pub pass : {a : Bool} (b : Bool) → a ≡ true → (a && b) ≡ b
 pass b e = ap (λ (v : Bool). v && b) e
 
+-- tests in a row, the last one apart; and such a row with one test changed
+abbrev pub all_of : List Bool → Bool → Bool
+all_of [] last = last
+all_of (b ∷ bs) last = b && all_of bs last
+
+pub all_set : (bs : List Bool) (last : Bool) (k : ℕ) (b : Bool) → all_of bs last ≡ true → b ≡ true → all_of (set bs k b) last ≡ true
+all_set [] last k b e q = e
+all_set (a ∷ bs) last zero b e q = pass (all_of bs last) q ∙ (both a (all_of bs last) e).1
+all_set (a ∷ bs) last (suc k) b e q =
+    let h = both a (all_of bs last) e in
+    pass (all_of (set bs k b) last) h.0 ∙ all_set bs last k b h.1 q
+
+pub all_last : (bs : List Bool) (last b : Bool) → all_of bs last ≡ true → b ≡ true → all_of bs b ≡ true
+all_last [] last b e q = q
+all_last (a ∷ bs) last b e q =
+    let h = both a (all_of bs last) e in
+    pass (all_of bs b) h.0 ∙ all_last bs last b h.1 q
+
 pub record Limited (ps ts cs fs : ℕ) : Type 0 where
   pub prefixes : ps ≤ prefix_limit
   pub terms : ts ≤ index_limit

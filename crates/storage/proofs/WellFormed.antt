@@ -9,36 +9,36 @@ use mathlib.Core.Bool.{true}
 use mathlib.Core.List.{[]}
 use lib.ListN.{length, get_or}
 use Rattle.model.specs.Sizes.{Bytes, last_node, node_count, index_limit, prefix_limit, certificate_limit, finding_limit}
-use Rattle.storage_bytes.specs.Layout.{head_start, head_length, history_length}
+use Rattle.storage_bytes.specs.Layout.{history_length, prefixes_field, terms_field, committed_field, certificates_field, findings_field, owner_field}
 use Rattle.storage.specs.Tables.{NodeRow, CertificateRow, row_of_node, certificate_row, prefix_row, finding_row, term_row, rows_of_prefixes, rows_of_certificates, finding_rows, term_rows, head_part, nodes_part, terms_part, certificates_part, findings_part, prefixes_part, tables_in, tables_of}
 use Rattle.storage.specs.Values.{number_index, committed_end}
 use Rattle.storage.specs.Decode.{prefix_at, resolve}
 use Rattle.storage.specs.Rules.{node_right, certificate_right, prefixes_right_after, well_formed}
 use Rattle.storage.specs.Head.{prefixes_held, terms_held, committed_number, certificates_held, findings_held, owner_of}
 use Rattle.storage_bytes.proofs.ListLaws.{tabulate_length, tabulate_at, every_at}
-use Rattle.storage_bytes.proofs.PartLaws.{word_part}
 use Rattle.storage.proofs.RowFacts.{Facts, facts_of, rows_sized, index_small}
 use Rattle.storage.proofs.RuleLaws.{within, index_among_lem}
 use Rattle.storage.proofs.DecodeLaws.{Kept, well_formed_parts, NodeNamed, node_named, CertificateNamed, certificate_named, committed_named}
+use Rattle.storage.proofs.HeadLaws.{head_read}
 
 -- ---- the tables by the counts in the head
 
 module _ (h : Bytes) where
   pub rows_are : (tables_of h).rows ≡ rows_of_prefixes (prefixes_part h) (prefixes_held h)
   unfolding tables_in
-  rows_are = ap (rows_of_prefixes (prefixes_part h)) (word_part h head_start head_length 0 2 (omega arith))
+  rows_are = ap (rows_of_prefixes (prefixes_part h)) (head_read h prefixes_field)
 
   pub terms_are : (tables_of h).terms ≡ term_rows (terms_part h) (terms_held h)
   unfolding tables_in
-  terms_are = ap (term_rows (terms_part h)) (word_part h head_start head_length 2 2 (omega arith))
+  terms_are = ap (term_rows (terms_part h)) (head_read h terms_field)
 
   pub certificates_are : (tables_of h).certificates ≡ rows_of_certificates (certificates_part h) (certificates_held h)
   unfolding tables_in
-  certificates_are = ap (rows_of_certificates (certificates_part h)) (word_part h head_start head_length 6 1 (omega arith))
+  certificates_are = ap (rows_of_certificates (certificates_part h)) (head_read h certificates_field)
 
   pub findings_are : (tables_of h).findings ≡ finding_rows (findings_part h) (findings_held h)
   unfolding tables_in
-  findings_are = ap (finding_rows (findings_part h)) (word_part h head_start head_length 7 1 (omega arith))
+  findings_are = ap (finding_rows (findings_part h)) (head_read h findings_field)
 
   pub rows_count : length (tables_of h).rows ≡ prefixes_held h
   rows_count = ap length rows_are ∙ tabulate_length (prefix_row (prefixes_part h)) 0 (prefixes_held h)
@@ -54,11 +54,11 @@ module _ (h : Bytes) where
 
   committed_is : (tables_of h).committed ≡ committed_number h
   unfolding tables_in
-  committed_is = word_part h head_start head_length 4 2 (omega arith)
+  committed_is = head_read h committed_field
 
   owner_is : (tables_of h).owner ≡ owner_of h
   unfolding tables_in
-  owner_is = word_part h head_start head_length 8 1 (omega arith)
+  owner_is = head_read h owner_field
 
   nodes_count : length (tables_of h).nodes ≡ node_count
   unfolding tables_in
@@ -72,7 +72,7 @@ module _ (h : Bytes) where
   pub certificate_row_lem : (k : ℕ) (d : CertificateRow) → k < certificates_held h → get_or (tables_of h).certificates k d ≡ certificate_row (certificates_part h) k
   unfolding tables_in
   certificate_row_lem k d l =
-      tabulate_at (certificate_row (certificates_part h)) 0 (certificates_held (head_part h)) k d (omega (arith, word_part h head_start head_length 6 1 (omega arith)))
+      tabulate_at (certificate_row (certificates_part h)) 0 (certificates_held (head_part h)) k d (omega (arith, head_read h certificates_field))
       ∙ ap (certificate_row (certificates_part h)) (zero-add k)
 
 -- ---- what the rules say

@@ -6,8 +6,8 @@ use Rattle.model.specs.History.{Finding}
 use Rattle.model.specs.Sizes.{Bytes, node_count, content_limit}
 use Rattle.storage_bytes.specs.Lists.{tabulate}
 use Rattle.storage_bytes.specs.Words.{word_at, bytes_at}
-use Rattle.storage_bytes.specs.Layout.{part, head_start, head_length, nodes_start, nodes_length, terms_start, terms_length, certificates_start, certificates_length, findings_start, findings_length, prefixes_start, prefixes_length, number_width, index_width, term_width, byte_width, node_last, node_unseen, node_width, certificate_log, certificate_mark, certificate_leader, certificate_number, certificate_present, certificate_width, finding_node, finding_index, finding_term, finding_width, prefix_index, prefix_term, prefix_size, prefix_content, prefix_width}
-use Rattle.storage.specs.Head.{prefixes_held, terms_held, committed_number, certificates_held, findings_held, owner_of}
+use Rattle.storage_bytes.specs.Layout.{part, start_in, length_in, regions, head_region, nodes_region, terms_region, certificates_region, findings_region, prefixes_region, prefixes_field, terms_field, committed_field, certificates_field, findings_field, owner_field, number_width, index_width, term_width, byte_width, node_last, node_unseen, node_width, certificate_log, certificate_mark, certificate_leader, certificate_number, certificate_present, certificate_width, finding_node, finding_index, finding_term, finding_width, prefix_index, prefix_term, prefix_size, prefix_content, prefix_width}
+use Rattle.storage.specs.Head.{head_field}
 
 -- a stored prefix: the number of the prefix that it extends, its own index, and its last entry's term and content
 pub record PrefixRow : Type 0 where
@@ -32,15 +32,6 @@ pub record CertificateRow : Type 0 where
   pub number : ℕ
   pub present : ℕ
 
--- the counts, and the committed prefix's number and owner
-pub record HeadRow : Type 0 where
-  pub prefixes : ℕ
-  pub terms : ℕ
-  pub committed : ℕ
-  pub certificates : ℕ
-  pub findings : ℕ
-  pub owner : ℕ
-
 pub record Tables : Type 0 where
   pub rows : List PrefixRow
   pub nodes : List NodeRow
@@ -51,17 +42,6 @@ pub record Tables : Type 0 where
   pub findings : List Finding
 
 -- ---- a row of a region, by its place from 0
-
-abbrev pub head_row : Bytes → HeadRow
-head_row r =
-    record {
-      prefixes = prefixes_held r;
-      terms = terms_held r;
-      committed = committed_number r;
-      certificates = certificates_held r;
-      findings = findings_held r;
-      owner = owner_of r;
-    }
 
 abbrev pub row_of_node : Bytes → ℕ → NodeRow
 row_of_node r k =
@@ -125,44 +105,56 @@ finding_rows r n = tabulate (finding_row r) 0 n
 abbrev pub rows_of_prefixes : Bytes → ℕ → List PrefixRow
 rows_of_prefixes r n = tabulate (prefix_row r) 0 n
 
--- ---- the regions of a history
+-- ---- the regions of a history, each by its place in the list of them (`regions`)
+
+abbrev pub Contents : Type 0
+Contents = ℕ → Bytes
+
+abbrev pub regions_of : Bytes → Contents
+regions_of h r = part h (start_in regions r) (length_in regions r)
 
 abbrev pub head_part : Bytes → Bytes
-head_part h = part h head_start head_length
+head_part h = regions_of h head_region
 
 abbrev pub nodes_part : Bytes → Bytes
-nodes_part h = part h nodes_start nodes_length
+nodes_part h = regions_of h nodes_region
 
 abbrev pub terms_part : Bytes → Bytes
-terms_part h = part h terms_start terms_length
+terms_part h = regions_of h terms_region
 
 abbrev pub certificates_part : Bytes → Bytes
-certificates_part h = part h certificates_start certificates_length
+certificates_part h = regions_of h certificates_region
 
 abbrev pub findings_part : Bytes → Bytes
-findings_part h = part h findings_start findings_length
+findings_part h = regions_of h findings_region
 
 abbrev pub prefixes_part : Bytes → Bytes
-prefixes_part h = part h prefixes_start prefixes_length
+prefixes_part h = regions_of h prefixes_region
 
--- the tables that the six regions stand for
-unfoldable pub tables_in : Bytes → Bytes → Bytes → Bytes → Bytes → Bytes → Tables
-unfolding word_at bytes_at
-tables_in head ns ts cs fs ps =
-    let c = head_row head in
+-- the tables, by the numbers of the head and what the regions hold
+abbrev pub tables_by : (ℕ → ℕ) → Contents → Tables
+tables_by n c =
     record {
-      rows = rows_of_prefixes ps c.prefixes;
-      nodes = node_rows ns;
-      committed = c.committed;
-      owner = c.owner;
-      terms = term_rows ts c.terms;
-      certificates = rows_of_certificates cs c.certificates;
-      findings = finding_rows fs c.findings;
+      rows = rows_of_prefixes (c prefixes_region) (n prefixes_field);
+      nodes = node_rows (c nodes_region);
+      committed = n committed_field;
+      owner = n owner_field;
+      terms = term_rows (c terms_region) (n terms_field);
+      certificates = rows_of_certificates (c certificates_region) (n certificates_field);
+      findings = finding_rows (c findings_region) (n findings_field);
     }
+
+-- the numbers of the head
+abbrev pub numbers_in : Contents → ℕ → ℕ
+numbers_in c k = head_field k (c head_region)
+
+unfoldable pub tables_in : Contents → Tables
+unfolding word_at bytes_at
+tables_in c = tables_by (numbers_in c) c
 
 -- the tables of a history
 abbrev pub tables_of : Bytes → Tables
-tables_of h = tables_in (head_part h) (nodes_part h) (terms_part h) (certificates_part h) (findings_part h) (prefixes_part h)
+tables_of h = tables_in (regions_of h)
 
 -- ---- tables with one thing changed
 

@@ -3,7 +3,7 @@
 -- Assumes nothing.
 use Rattle.std.specs.Prelude.{ℕ, ◌+◌, ◌-◌, ◌*◌, ◌<◌, ◌≤◌, ◌≡◌, ◌++◌, length, take}
 use Rattle.model.specs.History.{Finding}
-use Rattle.model.specs.Sizes.{Bytes, content_limit, term_end}
+use Rattle.model.specs.Sizes.{Bytes, content_limit}
 use Rattle.storage_bytes.specs.Layout.{terms_start, certificates_start, prefixes_start, term_width, certificate_width, prefix_width, number_width, index_width, byte_width, prefixes_field, terms_field, committed_field, certificates_field, owner_field}
 use Rattle.storage_bytes.specs.Words.{word_at, word_bytes, bytes_at, put_bytes, Fits}
 use Rattle.storage.specs.Tables.{PrefixRow, NodeRow, CertificateRow, certificates_part}

@@ -3,3 +3,4 @@ pub mod RangeLaws
 pub mod WordLaws
 pub mod PartLaws
 pub mod ByteTurns
+pub mod RegionLaws

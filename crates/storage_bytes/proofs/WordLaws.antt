@@ -137,3 +137,23 @@ word_back (suc n) v h =
     let last : get_or (xs ++ (v % 256 ∷ [])) (0 + n) 0 ≡ v % 256
     = ap (λ (k : ℕ). get_or (xs ++ (v % 256 ∷ [])) k 0) (zero-add n) ∙ get_or_at xs (v % 256) [] 0 n l in
     (λ i. low i * 256 + last i) ∙ div-add-mod' v 256
+
+-- ---- one number written
+
+-- the first field of what was written
+pub word_first : (t : Bytes) (o : ℕ) (vs : Bytes) (n : ℕ) → o + length vs ≤ length t → n ≤ length vs
+    → word_at (put_bytes t o vs) o n ≡ word_at vs 0 n
+word_first t o vs n r h =
+    ap (λ (k : ℕ). word_at (put_bytes t o vs) k n) (sym (add-zero o)) ∙ word_put t o vs 0 n r (omega arith)
+
+pub word_set : (r : Bytes) (o n v : ℕ) → v < 256 ^ n → o + n ≤ length r → word_at (put_bytes r o (word_bytes n v)) o n ≡ v
+word_set r o n v f h =
+    let l = word_bytes_length n v in
+    word_first r o (word_bytes n v) n (omega (arith, l)) (omega (arith, l)) ∙ word_back n v f
+
+-- a number before, and one after, what was written
+pub word_before : (r : Bytes) (o : ℕ) (vs : Bytes) (p m : ℕ) → p + m ≤ o → word_at (put_bytes r o vs) p m ≡ word_at r p m
+word_before r o vs p m h = word_agree (put_bytes r o vs) r p m (λ i a b. put_before r o vs i (omega arith))
+
+pub word_after : (r : Bytes) (o : ℕ) (vs : Bytes) (p m : ℕ) → o + length vs ≤ p → word_at (put_bytes r o vs) p m ≡ word_at r p m
+word_after r o vs p m h = word_agree (put_bytes r o vs) r p m (λ i a b. put_after r o vs i (omega arith))

@@ -24,7 +24,7 @@ impl Row for CommitTerm {
 
     ghost count = { index_limit };
 
-    ghost bytes = { λ x. word_bytes 4 x.0.0 };
+    ghost bytes = { λ x. word_bytes term_width x.0.0 };
 
     ghost whole = { λ x. Unit {0} };
 
@@ -32,7 +32,7 @@ impl Row for CommitTerm {
 
     ghost filled = { refl };
 
-    ghost wide = { λ x _. word_bytes_length 4 x.0.0 };
+    ghost wide = { λ x _. word_bytes_length term_width x.0.0 };
 
     const TABLE: Region = TERMS;
 

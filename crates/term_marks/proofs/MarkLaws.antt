@@ -16,42 +16,42 @@ use Rattle.model.specs.History.{Certificate, History, with_certificates}
 use Rattle.model.specs.Terms.{with_mark, lowered}
 use Rattle.model.specs.Sizes.{Bytes, index_limit, certificate_limit}
 use Rattle.model.proofs.Tests.{either, cond_true, cond_false}
-use Rattle.storage_bytes.specs.Words.{word_bytes, put_bytes}
-use Rattle.storage_bytes.specs.Layout.{certificates_start, certificates_length, history_length, certificate_width, number_width, index_width, term_width, byte_width, certificate_log, certificate_mark, certificate_leader, certificate_number, certificate_present}
+use Rattle.storage_bytes.specs.Words.{word_bytes, put_bytes, Fits}
+use Rattle.storage_bytes.specs.Layout.{certificates_start, certificates_length, history_length, certificate_width, number_width, index_width, term_width, byte_width, certificate_log, certificate_mark, certificate_leader, certificate_number, certificate_present, certificates_region}
 use Rattle.storage.specs.Tables.{CertificateRow, certificate_row, rows_of_certificates, certificates_part, head_part, tables_in, tables_of, with_certificate_rows}
 use Rattle.storage.specs.Decode.{certificate_in}
 use Rattle.storage.specs.Rules.{certificate_right, follows, numbered_after, numbered}
 use Rattle.storage.specs.Head.{certificates_held}
 use Rattle.storage_bytes.proofs.ListLaws.{both, tabulate_set, every_set, map_set}
-use Rattle.storage_bytes.proofs.WordLaws.{put_before, put_after, word_bytes_length}
 use Rattle.storage_bytes.proofs.PartLaws.{part_length}
-use Rattle.storage.proofs.RowLaws.{certificate_own, word_set, word_before, word_after}
+use Rattle.storage_bytes.proofs.WordLaws.{put_before, put_after, word_bytes_length, word_set, word_before, word_after}
+use Rattle.storage.proofs.RowLaws.{certificate_own}
 use Rattle.storage.proofs.RuleLaws.{pass, stop, within, numbered_set}
 use Rattle.storage.proofs.OrderLaws.{follows_rise}
-use Rattle.storage.proofs.TableLaws.{tables_from, in_certificates}
 use Rattle.storage.proofs.DecodeLaws.{CertificateNamed, certificate_test, kept_certificates, Kept}
 use Rattle.storage.proofs.Meanings.{Stands, stands, certificates_read, long, kept, is, certificates_is}
 use Rattle.storage.proofs.WellFormed.{rows_count, certificates_count, certificate_row_lem, formed}
+use Rattle.storage.proofs.TableLaws.{region_written}
 use Rattle.certificate_mark.specs.Marks.{marked_row}
 use Rattle.term_marks.specs.Marks.{mark_set, certificate_of, lower_bytes, lower_back}
 use Rattle.term_marks.proofs.MarkTurns.{mark_length}
 
 -- ---- a mark written
 
-module _ (r : Bytes) (k m : ℕ) (size : length r ≡ certificates_length) (here : k < certificate_limit) (fits : m < 65536) where
+module _ (r : Bytes) (k m : ℕ) (size : length r ≡ certificates_length) (here : k < certificate_limit) (fits : Fits index_width m) where
   abbrev put : Bytes
   put = put_bytes r (k * certificate_width + certificate_mark) (word_bytes index_width m)
 
   row_marked : certificate_row put k ≡ marked_row (certificate_row r k) m
   row_marked =
       let o = k * certificate_width + certificate_mark in
-      let w = word_bytes 2 m in
-      let l = word_bytes_length 2 m in
+      let w = word_bytes index_width m in
+      let l = word_bytes_length index_width m in
       λ i.
       record {
         term = word_before r o w (k * certificate_width) term_width (omega arith) i;
         log = word_before r o w (k * certificate_width + certificate_log) number_width (omega arith) i;
-        mark = word_set r o 2 m fits (omega arith) i;
+        mark = word_set r o index_width m fits (omega arith) i;
         leader = word_after r o w (k * certificate_width + certificate_leader) byte_width (omega arith) i;
         number = word_after r o w (k * certificate_width + certificate_number) byte_width (omega arith) i;
         present = word_after r o w (k * certificate_width + certificate_present) byte_width (omega arith) i;
@@ -63,7 +63,7 @@ module _ (r : Bytes) (k m : ℕ) (size : length r ≡ certificates_length) (here
       (⊎_elim (λ t i a b. let z = ltb-true j k t in put_before r (k * certificate_width + certificate_mark) (word_bytes index_width m) i (omega arith))
       (λ t i a b.
       let z = ltb-false j k t in
-      let l = word_bytes_length 2 m in
+      let l = word_bytes_length index_width m in
       put_after r (k * certificate_width + certificate_mark) (word_bytes index_width m) i (omega arith))
       (either (ltb j k)))
 
@@ -72,23 +72,14 @@ module _ (r : Bytes) (k m : ℕ) (size : length r ≡ certificates_length) (here
       tabulate_set (certificate_row r) (certificate_row put) 0 n k (marked_row (certificate_row r k) m)
       (ap (certificate_row put) (zero-add k) ∙ row_marked) (λ j ne. row_other j (λ e. ne (e ∙ sym (zero-add k))))
 
-tables_marked : (h : Bytes) (k m : ℕ) → length h ≡ history_length → k < certificate_limit → m < 65536
+tables_marked : (h : Bytes) (k m : ℕ) → length h ≡ history_length → k < certificate_limit → Fits index_width m
     → tables_of (mark_set h k m) ≡ with_certificate_rows (tables_of h) (set (tables_of h).certificates k (marked_row (certificate_of h k) m))
 unfolding mark_set tables_in
 tables_marked h k m right l f =
-    let b = word_bytes_length 2 m in
+    let b = word_bytes_length index_width m in
     let size : length (certificates_part h) ≡ certificates_length = part_length h certificates_start certificates_length (omega arith) in
-    ap tables_from (in_certificates h (k * certificate_width + certificate_mark) (word_bytes index_width m) right (omega arith))
-    ∙ (λ i.
-    record {
-      rows = (tables_of h).rows;
-      nodes = (tables_of h).nodes;
-      committed = (tables_of h).committed;
-      owner = (tables_of h).owner;
-      terms = (tables_of h).terms;
-      certificates = rows_marked (certificates_part h) k m size l f (certificates_held (head_part h)) i;
-      findings = (tables_of h).findings;
-    })
+    region_written h right certificates_region (k * certificate_width + certificate_mark) (word_bytes index_width m) (omega arith)
+    ∙ ap (with_certificate_rows (tables_of h)) (rows_marked (certificates_part h) k m size l f (certificates_held (head_part h)))
 
 module _ (h : Bytes) (x : History) (s : Stands h x) where
   -- the certificate of the model at that place

@@ -9,13 +9,14 @@ use borrow.Author.Tests.{le-leb, lt-leb}
 use Rattle.model.specs.Sizes.{Bytes, certificate_limit}
 use Rattle.model.proofs.Tests.{cond_true, cond_false}
 use Rattle.storage_bytes.specs.Words.{word_bytes}
+use Rattle.storage_bytes.specs.Layout.{index_width}
 use Rattle.storage_bytes.proofs.WordLaws.{put_length}
 use Rattle.term_marks.specs.Marks.{mark_set, certificate_of, lower_bytes, lower_back}
 use Rattle.storage.specs.Head.{certificates_held}
 
 pub mark_length : (h : Bytes) (k m : ℕ) → length (mark_set h k m) ≡ length h
 unfolding mark_set
-mark_length h k m = put_length h _ (word_bytes 2 m)
+mark_length h k m = put_length h _ (word_bytes index_width m)
 
 -- ---- the loop
 

@@ -4,7 +4,7 @@
 use Rattle.storage.proofs.WriteLaws.{field_next}
 use Rattle.storage.specs.Writes.{certificate_bytes}
 use Rattle.storage_bytes.specs.Words.{word_bytes}
-use Rattle.storage_bytes.specs.Layout.{certificate_width}
+use Rattle.storage_bytes.specs.Layout.{certificate_width, term_width, number_width, index_width, byte_width}
 use Rattle.std.proofs.Common.{◌++◌, ◌*◌, refl, ◌∙◌}
 use Rattle.certificate_rows.proofs.certificates.CertificateRow.put.Goals as goal
 
@@ -14,11 +14,11 @@ returns c =
     let t = c.args.certificates.now in
     let x = c.args.self in
     let o = c.args.k * certificate_width in
-    let A = word_bytes 4 x.term.0 in
-    let B = A ++ word_bytes 2 x.log.0 in
-    let C = B ++ word_bytes 2 x.mark.0 in
-    let D = C ++ word_bytes 1 x.leader.0 in
-    let E = D ++ word_bytes 1 x.number in
+    let A = word_bytes term_width x.term.0 in
+    let B = A ++ word_bytes number_width x.log.0 in
+    let C = B ++ word_bytes index_width x.mark.0 in
+    let D = C ++ word_bytes byte_width x.leader.0 in
+    let E = D ++ word_bytes byte_width x.number in
     let b = c.write-2.ensures ∙ field_next t o A _ _ c.write.ensures refl in
     let m = c.write-3.ensures ∙ field_next t o B _ _ b refl in
     let l = c.write-4.ensures ∙ field_next t o C _ _ m refl in
