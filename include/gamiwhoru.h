@@ -53,7 +53,7 @@ struct gamiwhoru_unknown_reply {
 struct gamiwhoru_committed_reply {
     uint8_t state;
     size_t length; /* 0 where there is no committed prefix, and so is the owner */
-    size_t owner;
+    uint8_t owner;
 };
 
 /* How many bytes a history has. */

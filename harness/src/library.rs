@@ -65,7 +65,7 @@ pub mod linked {
     struct CommittedReply {
         state: u8,
         length: usize,
-        owner: usize,
+        owner: u8,
     }
 
     extern "C" {

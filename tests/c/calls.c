@@ -36,7 +36,7 @@ FIELD(unknown_reply, index, 8, 8);
 SIZE(unknown_reply, 16);
 FIELD(committed_reply, state, 0, 1);
 FIELD(committed_reply, length, 8, 8);
-FIELD(committed_reply, owner, 16, 8);
+FIELD(committed_reply, owner, 16, 1);
 SIZE(committed_reply, 24);
 
 _Static_assert(GAMIWHORU_HERE == 0 && GAMIWHORU_NO_MORE == 1 && GAMIWHORU_BROKEN == 12, "a state has another number");

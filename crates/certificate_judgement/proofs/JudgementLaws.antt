@@ -8,7 +8,8 @@ use mathlib.Core.List.{List, [], ◌∷◌}
 use lib.Dec.{eqb}
 use borrow.Author.Tests.{eq-eqb, ne_eqb}
 use Rattle.model.specs.Sizes.{Bytes}
-use Rattle.model.proofs.Tests.{cond_true, cond_false}
+use Rattle.model.proofs.Tests.{cond_true, cond_false, cond_cases}
+use Rattle.certificate_rows.specs.Values.{told_row}
 use Rattle.storage_bytes.specs.Lists.{tabulate}
 use Rattle.storage.specs.Values.{certificates_of}
 use Rattle.storage.specs.Tables.{CertificateRow, certificate_row, certificates_part}
@@ -22,12 +23,38 @@ use Rattle.committed_prefix.specs.Prefix.{agree_in}
 use Rattle.certificate_judgement.specs.Judgement.{lacks_through, lacking_of, lacking_at, lacking_in, flag_in, JudgedAs, lackings_in, flags_in, JudgedAll}
 
 -- a certificate as it is read, and its log, which is stored
-pub row_here : (h p : Bytes) (k : ℕ) (c : CertificateRow) → p ≡ certificates_part h → c ≡ certificate_row p k → c ≡ certificate_row (certificates_part h) k
-row_here h p k c a e = e ∙ ap (λ (q : Bytes). certificate_row q k) a
+pub row_here : (h p : Bytes) (k : ℕ) (c : CertificateRow) → p ≡ certificates_part h → c ≡ told_row (certificate_row p k)
+    → c ≡ told_row (certificate_row (certificates_part h) k)
+row_here h p k c a e = e ∙ ap (λ (q : Bytes). told_row (certificate_row q k)) a
 
-pub row_stored : (h p : Bytes) (k : ℕ) → Formed h → k < certificates_held h → (c : CertificateRow) → p ≡ certificates_part h → c ≡ certificate_row p k
-    → c.log ≤ prefixes_held h
-row_stored h p k s l c a e = subst (λ (x : CertificateRow). x.log ≤ prefixes_held h) (sym (row_here h p k c a e)) (s.certificate k l).log
+told_stored : (n : ℕ) (c : CertificateRow) → c.log ≤ n → (told_row c).log ≤ n
+told_stored n c l = cond_cases (λ (x : ℕ). x ≤ n) (eqb c.present 0) 0 c.log (λ _. omega arith) (λ _. l)
+
+pub row_stored : (h p : Bytes) (k : ℕ) → Formed h → k < certificates_held h → (c : CertificateRow) → p ≡ certificates_part h
+    → c ≡ told_row (certificate_row p k) → c.log ≤ prefixes_held h
+row_stored h p k s l c a e =
+    subst (λ (x : CertificateRow). x.log ≤ prefixes_held h) (sym (row_here h p k c a e)) (told_stored (prefixes_held h) (certificate_row (certificates_part h) k) (s.certificate k l).log)
+
+-- a row and its certificate are judged alike: the number of an absent log is not looked at
+module _ (h : Bytes) (c : CertificateRow) where
+  lacks_told : (i : ℕ) → lacks_through h (told_row c) i ≡ lacks_through h c i
+  unfolding lacks_through
+  lacks_told i = by (eqb c.present 0)
+    where
+      by : (z : Bool) → cond (eqb (cond z 0 1) 0) true (not (agree_in h (cond z 0 c.log) (committed_number h) i)) ≡ cond z true (not (agree_in h c.log (committed_number h) i))
+      by true = refl
+      by false = refl
+
+  lacking_told : lacking_in h (told_row c) ≡ lacking_in h c
+  unfolding lacking_in lacking_at relevant_in
+  lacking_told =
+      let i = relevant_in h c in
+      ap (λ (b : Bool). cond (eqb i 0) [] (note_where b (lacking_of c i))) (lacks_told i)
+
+  pub judged_told : (t : Bytes) (held : ℕ) (r : Bool) (held' : ℕ) (t' : Bytes) → JudgedAs h (told_row c) t held r held' t' → JudgedAs h c t held r held' t'
+  unfolding flag_in relevant_in
+  judged_told t held r held' t' j =
+      record { flag = j.flag; holds = j.holds ∙ ap (held_all t held) lacking_told; table = j.table ∙ ap (bytes_all t held) lacking_told }
 
 -- ---- whether the log lacks the committed prefix
 
@@ -100,24 +127,29 @@ module _ (h t₀ : Bytes) (held m : ℕ) where
           table = sym (w.table ∙ ap (λ (cs : List CertificateRow). bytes_all t n (lackings_in h cs)) s);
         }
 
-    module _ (l : k < m) (c : CertificateRow) (e : c ≡ certificate_row (certificates_part h) k) where
+    module _ (l : k < m) where
+      row : CertificateRow
+      row = certificate_row (certificates_part h) k
+
       rest : List CertificateRow
       rest = tabulate (certificate_row (certificates_part h)) (k + 1) (m - (k + 1))
 
-      more : tabulate (certificate_row (certificates_part h)) k (m - k) ≡ c ∷ rest
-      unfolding rest
-      more = tabulate_cons (certificate_row (certificates_part h)) k m l ∙ ap (λ (x : CertificateRow). x ∷ rest) (sym e)
+      more : tabulate (certificate_row (certificates_part h)) k (m - k) ≡ row ∷ rest
+      unfolding rest row
+      more = tabulate_cons (certificate_row (certificates_part h)) k m l
 
-      -- r: this one has a relevant index
-      pub walking_next : (r : Bool) (n' : ℕ) (t' : Bytes) → JudgedAs h c t n r n' t' → (b' : Bool) → b' ≡ (b || r) → Walking h t₀ held m t' b' n' (k + 1)
-      unfolding rest flags_in lackings_in
-      walking_next r n' t' j b' e' =
+      -- c: the certificate that row k tells of; r: it has a relevant index
+      pub walking_next : (c : CertificateRow) → c ≡ told_row (certificate_row (certificates_part h) k) → (r : Bool) (n' : ℕ) (t' : Bytes)
+          → JudgedAs h c t n r n' t' → (b' : Bool) → b' ≡ (b || r) → Walking h t₀ held m t' b' n' (k + 1)
+      unfolding row rest flags_in lackings_in
+      walking_next c e r n' t' d b' e' =
+          let j = judged_told h row t n r n' t' (subst (λ (x : CertificateRow). JudgedAs h x t n r n' t') e d) in
           record {
             flag = w.flag ∙ ap (flags_in h (cond b 4 0)) more
                 ∙ ap (λ (x : ℕ). flags_in h x rest) (sym (j.flag (cond b 4 0)) ∙ either_flag r b ∙ ap (λ (x : Bool). cond {A = ℕ} x 4 0) (sym e'));
             holds = w.holds ∙ ap (λ (cs : List CertificateRow). held_all t n (lackings_in h cs)) more
-                ∙ held_then t n (lacking_in h c) n' t' (j.holds, j.table) (lackings_in h rest);
+                ∙ held_then t n (lacking_in h row) n' t' (j.holds, j.table) (lackings_in h rest);
             table = w.table ∙ ap (λ (cs : List CertificateRow). bytes_all t n (lackings_in h cs)) more
-                ∙ bytes_then t n (lacking_in h c) n' t' (j.holds, j.table) (lackings_in h rest);
+                ∙ bytes_then t n (lacking_in h row) n' t' (j.holds, j.table) (lackings_in h rest);
             within = omega arith;
           }

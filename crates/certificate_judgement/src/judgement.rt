@@ -6,12 +6,11 @@ ghost use Rattle.storage.specs.Head.{prefixes_held, committed_number};
 ghost use Rattle.certificate_rows.specs.Values.{certificate_value};
 ghost use Rattle.certificate_judgement.specs.Judgement.{lacks_through, JudgedAs, JudgedAll};
 
-use certificate_rows::certificates::Certificate;
+use certificate_rows::certificates::{Certificate, certificate_at};
 use check_relevance::relevance::relevant_index;
 use committed_prefix::committed::agree_through;
 use log_violation::violation::Notes;
 use storage::head::certificate_count;
-use storage::rows::StoredRow;
 use storage::stored::Stored;
 use storage_bytes::layout::CERTIFICATES;
 use table_rows::findings::{Found, LG_05};
@@ -33,10 +32,10 @@ fn lacks_through(
     c: Certificate,
     index: LogIndex,
 ) -> bool
-    requires { (committed.0 ≡ committed_number history.bytes.now) × (c.log.0 ≤ prefixes_held history.bytes.now) }
+    requires { (committed.0 ≡ committed_number history.bytes.now) × ((certificate_value c).log ≤ prefixes_held history.bytes.now) }
     ensures { result ≡ lacks_through history.entry.bytes.now (certificate_value c) index.0 }
 {
-    let Some(log) = c.log() else {
+    let Some(log) = c.log else {
         return true;
     };
     !agree_through(history, log, committed, index)
@@ -44,7 +43,7 @@ fn lacks_through(
 
 // One certificate: whether it has a relevant index. LG-05 is noted where its log lacks the committed prefix through it.
 pub fn judge(history: Stored<'_>, committed: Committed, c: Certificate, notes: &mut Notes) -> bool
-    requires { (committed.prefix.0 ≡ committed_number history.bytes.now) × (committed.end.0 ≡ committed_end history.bytes.now) × (c.log.0 ≤ prefixes_held history.bytes.now) }
+    requires { (committed.prefix.0 ≡ committed_number history.bytes.now) × (committed.end.0 ≡ committed_end history.bytes.now) × ((certificate_value c).log ≤ prefixes_held history.bytes.now) }
     ensures { JudgedAs history.entry.bytes.now (certificate_value c) notes.old.rows notes.old.held result notes.new.held notes.new.rows }
 {
     let Some(index) = relevant_index(history, committed.end, c) else {
@@ -69,10 +68,10 @@ pub fn judge_all(history: Stored<'_>, committed: Committed, notes: &mut Notes) -
 {
     let bytes = history.bytes;
     let m = certificate_count(bytes);
-    let certificates = CERTIFICATES.of(bytes);
+    let certificates = CERTIFICATES.array(bytes);
     let mut relevant = false;
     for k in 0..m {
-        let c = Certificate::at(certificates, k);
+        let c = certificate_at(certificates, k);
         relevant |= judge(history, committed, c, notes);
     }
     relevant

@@ -3,7 +3,7 @@ ghost use Rattle.std.specs.Prelude.{◌≡◌, ◌+◌, ◌*◌, ◌≤◌, ◌<
 ghost use Rattle.std.proofs.Common.{lit≤};
 ghost use Rattle.storage.specs.Tables.{CertificateRow, certificate_row};
 ghost use Rattle.storage.proofs.RowLaws.{certificate_length};
-ghost use Rattle.certificate_rows.specs.Values.{certificate_value, log_of};
+ghost use Rattle.certificate_rows.specs.Values.{certificate_value, stored_value, told_row};
 ghost use Rattle.storage_bytes.specs.declared.layout.TheConstants.{CERTIFICATES};
 ghost use Rattle.storage_bytes.specs.Words.{word_bytes, put_bytes};
 ghost use Rattle.storage_bytes.specs.Layout.{certificates_length, certificate_width, index_width, certificate_mark};
@@ -26,36 +26,71 @@ pub const LOG_ABSENT: usize = 0;
 // A certificate with its log.
 pub const LOG_PRESENT: usize = 1;
 
-// Whether its log is present is a number and no Option of a log: a row that breaks the storage rules holds any byte there.
 #[derive(Clone, Copy, PartialEq, Eq)]
 pub struct Certificate {
+    pub term: Term,
+    pub log: Option<LogPrefixWitness>,
+    pub mark: LogIndex,
+    pub leader: NodeId,
+    // Its number within its term: how many that term held before it, a count.
+    pub number: usize,
+}
+
+// A certificate's row as it is stored. Where the storage rules are broken any byte may stand for whether a log is present, and an absent
+// log may have any number: so the row is apart from the certificate that it tells of.
+#[derive(Clone, Copy, PartialEq, Eq)]
+pub struct StoredCertificate {
     pub term: Term,
     pub log: LogPrefixWitness,
     pub mark: LogIndex,
     pub leader: NodeId,
-    // Its number within its term: how many that term held before it, a count.
     pub number: usize,
     // LOG_ABSENT or LOG_PRESENT, written by `put8` as a count is.
     pub present: usize,
 }
 
-impl Certificate {
-    // The log that the certificate keeps.
-    pub fn log(self) -> Option<LogPrefixWitness>
-        ensures { result ≡ log_of (certificate_value self) }
-    {
-        (self.present != LOG_ABSENT).then_some(self.log)
+// The number of an absent log tells nothing.
+impl From<StoredCertificate> for Certificate {
+    ghost from_gives = { λ row c. certificate_value c ≡ told_row (stored_value row) };
+
+    fn from(row: StoredCertificate) -> Certificate {
+        Certificate {
+            term: row.term,
+            log: (row.present != LOG_ABSENT).then_some(row.log),
+            mark: row.mark,
+            leader: row.leader,
+            number: row.number,
+        }
     }
 }
 
-impl Row for Certificate {
+impl From<Certificate> for StoredCertificate {
+    ghost from_gives = { λ c row. stored_value row ≡ certificate_value c };
+
+    fn from(c: Certificate) -> StoredCertificate {
+        let (log, present) = match c.log {
+            Some(log) => (log, LOG_PRESENT),
+            None => (LogPrefixWitness::EMPTY, LOG_ABSENT),
+        };
+        StoredCertificate {
+            term: c.term,
+            log,
+            mark: c.mark,
+            leader: c.leader,
+            number: c.number,
+            present,
+        }
+    }
+}
+
+impl Row for StoredCertificate {
     ghost TABLE = { CERTIFICATES };
 
     ghost width = { certificate_width };
 
     ghost count = { certificate_limit };
 
-    ghost bytes = { λ x. certificate_bytes (certificate_value x) };
+    ghost bytes = { λ x. certificate_bytes (stored_value x) };
 
     ghost whole = { λ x. Unit {0} };
 
@@ -63,7 +98,7 @@ impl Row for Certificate {
 
     ghost filled = { refl };
 
-    ghost wide = { λ x _. certificate_length (certificate_value x) };
+    ghost wide = { λ x _. certificate_length (stored_value x) };
 
     const TABLE: Region = CERTIFICATES;
 
@@ -78,16 +113,16 @@ impl Row for Certificate {
     }
 }
 
-impl StoredRow for Certificate {
+impl StoredRow for StoredCertificate {
     ghost Value = { CertificateRow };
 
-    ghost value = { certificate_value };
+    ghost value = { stored_value };
 
     ghost stored = { certificate_row };
 
-    fn at(certificates: &[u8], k: usize) -> Certificate {
+    fn at(certificates: &[u8], k: usize) -> StoredCertificate {
         let o = k * CERTIFICATE_WIDTH;
-        Certificate {
+        StoredCertificate {
             term: Term::read(certificates, o),
             log: LogPrefixWitness::read(certificates, o + CERTIFICATE_LOG),
             mark: LogIndex::read(certificates, o + CERTIFICATE_MARK),
@@ -96,6 +131,14 @@ impl StoredRow for Certificate {
             present: usize::from(u8::read(certificates, o + CERTIFICATE_PRESENT)),
         }
     }
+}
+
+// The certificate of row k.
+pub fn certificate_at(certificates: &Certificates, k: usize) -> Certificate
+    requires { k < 64 }
+    ensures { certificate_value result ≡ told_row (certificate_row certificates.now k) }
+{
+    Certificate::from(StoredCertificate::at(certificates, k))
 }
 
 // The term of row k alone. Fields that are read alone have a function each: one generic function would take a field's place and type
@@ -139,7 +182,7 @@ pub fn insert_certificate(certificates: &mut [u8], n: usize, k: usize, c: Certif
 {
     let w = CERTIFICATE_WIDTH;
     move_up(certificates, k * w, (n - k) * w, w);
-    c.put(certificates, k);
+    StoredCertificate::from(c).put(certificates, k);
 }
 
 // One more certificate in the whole history, at place k. A function that lends a region to be written was tried, and its `Lends` did

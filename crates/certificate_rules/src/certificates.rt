@@ -3,10 +3,10 @@ ghost use Rattle.std.specs.Prelude.{◌≡◌, ◌≤◌};
 ghost use Rattle.storage_bytes.specs.Lists.{every};
 ghost use Rattle.storage.specs.Tables.{rows_of_certificates};
 ghost use Rattle.storage.specs.Rules.{certificate_right, follows as followsRow, numbered as numberedRows};
-ghost use Rattle.certificate_rows.specs.Values.{certificate_value};
+ghost use Rattle.certificate_rows.specs.Values.{stored_value};
 ghost use Rattle.model.specs.Sizes.{certificate_limit};
 
-use certificate_rows::certificates::Certificate;
+use certificate_rows::certificates::{LOG_PRESENT, StoredCertificate};
 use std::cmp::Ordering;
 use storage::rows::{StoredRow, all_rows};
 use storage_bytes::layout::Certificates;
@@ -14,8 +14,8 @@ use units::{LogIndex, NodeId};
 
 // The storage rules of one row by itself, where n prefixes are stored.
 #[tactic(auto, unfolding(storage::specs::Rules::certificate_right))]
-fn certificate_right(n: usize, c: Certificate) -> bool
-    ensures { result ≡ certificate_right n (certificate_value c) }
+fn certificate_right(n: usize, c: StoredCertificate) -> bool
+    ensures { result ≡ certificate_right n (stored_value c) }
 {
     if n < c.log.0 {
         return false;
@@ -26,7 +26,7 @@ fn certificate_right(n: usize, c: Certificate) -> bool
     if NodeId::LAST < c.leader {
         return false;
     }
-    c.present <= 1
+    c.present <= LOG_PRESENT
 }
 
 // The storage rules of every one of m rows by itself.
@@ -34,13 +34,17 @@ pub fn certificates_right(certificates: &Certificates, m: usize, n: usize) -> bo
     requires { m ≤ certificate_limit }
     ensures { result ≡ every (certificate_right n) (rows_of_certificates certificates.now m) }
 {
-    all_rows(certificates, m, |c: Certificate| certificate_right(n, c))
+    all_rows(
+        certificates,
+        m,
+        |c: StoredCertificate| certificate_right(n, c),
+    )
 }
 
 // One number more in the same term, or the first of a later one.
 #[tactic(auto, unfolding(storage::specs::Rules::follows))]
-fn follows(c: Certificate, d: Certificate) -> bool
-    ensures { result ≡ followsRow (certificate_value c) (certificate_value d) }
+fn follows(c: StoredCertificate, d: StoredCertificate) -> bool
+    ensures { result ≡ followsRow (stored_value c) (stored_value d) }
 {
     match d.term.cmp(&c.term) {
         Ordering::Less => false,
@@ -58,12 +62,12 @@ pub fn numbered(certificates: &Certificates, m: usize) -> bool
     if m == 0 {
         return true;
     }
-    let mut c = Certificate::at(certificates, 0);
+    let mut c = StoredCertificate::at(certificates, 0);
     if c.number != 0 {
         return false;
     }
     for k in 1..m {
-        let d = Certificate::at(certificates, k);
+        let d = StoredCertificate::at(certificates, k);
         if !follows(c, d) {
             return false;
         }

@@ -7,9 +7,8 @@ ghost use Rattle.model.specs.Sizes.{certificate_limit};
 ghost use Rattle.storage_bytes.specs.Layout.{certificate_mark};
 
 use certificate_mark::mark::with_mark;
-use certificate_rows::certificates::Certificate;
+use certificate_rows::certificates::certificate_at;
 use storage::head::certificate_count;
-use storage::rows::StoredRow;
 use storage_bytes::layout::{CERTIFICATES, History};
 use term_marks::marks::{checked_mark, store_mark};
 use units::LogIndex;
@@ -23,7 +22,7 @@ pub fn move_mark(history: &mut History, k: usize, end: LogIndex)
     if end <= checked_mark(history, k) {
         return;
     }
-    let c = Certificate::at(CERTIFICATES.of(history), k);
+    let c = certificate_at(CERTIFICATES.array(history), k);
     let moved = with_mark(c, end);
     store_mark(history, k, moved.mark);
 }

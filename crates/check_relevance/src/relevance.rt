@@ -12,7 +12,7 @@ use certificate_rows::certificates::Certificate;
 use storage::head::last_recorded;
 use storage::stored::Stored;
 use storage_bytes::layout::{TERMS, Terms};
-use table_rows::terms::term_at;
+use table_rows::terms::term_of;
 use units::{LogIndex, Term};
 
 // From the end back to the mark, so that the first one met is the last.
@@ -21,8 +21,9 @@ fn last_relevant(terms: &Terms, end: LogIndex, mark: LogIndex, term: Term) -> Op
     ensures { result ≡ found_index (last_relevant (term_row terms.now) mark.0 term.0 end.0) }
 {
     for k in (mark.0..end.0).rev() {
-        if term_at(terms, k) < term {
-            return Some(LogIndex(k + 1));
+        let index = LogIndex(k + 1);
+        if term_of(terms, index) < term {
+            return Some(index);
         }
     }
     None

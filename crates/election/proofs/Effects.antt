@@ -180,6 +180,10 @@ module _ (h : Bytes) (x : History) (s : Stands h x) where
       flag_small true = omega arith
       flag_small false = omega arith
 
+      log_stored : (b : Bool) → cond b q 0 ≤ word_at h 0 2
+      log_stored true = stored
+      log_stored false = omega arith
+
       new_fits : CertificateFits new
       new_fits =
           let a = held_within t cs in
@@ -187,7 +191,7 @@ module _ (h : Bytes) (x : History) (s : Stands h x) where
           let r = (formed h s.right).prefixes in
           record {
             term = fits;
-            log = omega arith;
+            log = omega (arith, log_stored p);
             mark = omega arith;
             leader = omega arith;
             number = omega arith;
@@ -195,7 +199,7 @@ module _ (h : Bytes) (x : History) (s : Stands h x) where
           }
 
       new_named : CertificateNamed (prefixes_held h) new
-      new_named = record { log = stored; mark = omega arith; leader = omega arith; term = omega arith; present = flag_small p }
+      new_named = record { log = log_stored p; mark = omega arith; leader = omega arith; term = omega arith; present = flag_small p }
 
       certificate_is : certificate_in x.prefixes new ≡ certificate x l t p n
       unfolding certificate

@@ -30,10 +30,10 @@ answer_of (Some log) true m = Err ElectionRefusal.CertificatesFull
 answer_of (Some log) false (Err e) = Err ElectionRefusal.NumberTaken
 answer_of (Some log) false (Ok m) = Ok tt
 
--- a new certificate's row: its mark is zero
+-- a new certificate's row: its mark is zero, and an absent log has no number
 abbrev pub kept : ℕ → ℕ → ℕ → Bool → ℕ → CertificateRow
 kept l t number p log =
-    record { term = t; log = log; mark = 0; leader = l; number = number; present = cond p 1 0 }
+    record { term = t; log = cond p log 0; mark = 0; leader = l; number = number; present = cond p 1 0 }
 
 -- the bytes after an election of leader l in term t: as before where it is refused, else with the certificate in its place
 abbrev pub bytes_of : Bytes → ℕ → ℕ → Bool → Option LogPrefixWitness → Bool → Result Numbering NumberTaken → Bytes

@@ -8,7 +8,7 @@ ghost use Rattle.election.specs.declared.certificate.ElectionRefusal.{ElectionRe
 ghost use Rattle.model.specs.Sizes.{node_count};
 
 use answers::answer::Refusal;
-use certificate_rows::certificates::{Certificate, LOG_ABSENT, LOG_PRESENT, add_certificate};
+use certificate_rows::certificates::{Certificate, add_certificate};
 use election_judging::judging::{NumberTaken, number_in_term};
 use prefix_lookup::lookup::front_through;
 use records::head::Election;
@@ -54,15 +54,10 @@ fn new_certificate(e: Election, number: usize, log: LogPrefixWitness) -> Certifi
 {
     Certificate {
         term: e.term,
-        log,
+        log: e.length.is_some().then_some(log),
         mark: LogIndex::ZERO,
         leader: e.leader,
         number,
-        present: if e.length.is_some() {
-            LOG_PRESENT
-        } else {
-            LOG_ABSENT
-        },
     }
 }
 

@@ -242,7 +242,7 @@ pub fn gamiwhoru_unknown(history: &[u8], n: usize) -> UnknownReply
 pub struct CommittedReply {
     pub state: u8,
     pub length: usize,
-    pub owner: usize,
+    pub owner: u8,
 }
 
 // The committed prefix: its length and its owner, 0 and 0 where there is none. So it is no reply of an element that may be missing.
@@ -261,6 +261,6 @@ pub fn gamiwhoru_committed(history: &[u8]) -> CommittedReply
     CommittedReply {
         state: HERE,
         length: committed.length.0,
-        owner: usize::from(committed.owner.0),
+        owner: committed.owner.0,
     }
 }

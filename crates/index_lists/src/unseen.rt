@@ -5,7 +5,7 @@ ghost use Rattle.index_lists.specs.Unseen.{mark_in, unseen_answer};
 use crate::pick::nth_held;
 use storage::stored::Stored;
 use storage_bytes::layout::{NODES, Nodes};
-use table_rows::nodes::mark_at;
+use table_rows::nodes::unseen_of;
 use units::{LogIndex, NODE_COUNT, NodeId};
 
 #[derive(Clone, Copy)]
@@ -19,8 +19,8 @@ fn mark_in(nodes: &Nodes, n: usize) -> Option<Unseen>
     ensures { result ≡ mark_in nodes.now n }
 {
     nth_held(NODE_COUNT, n, |k| {
-        let index = mark_at(nodes, k)?;
         let node = NodeId(k as u8);
+        let index = unseen_of(nodes, node)?;
         Some(Unseen { node, index })
     })
 }

@@ -11,7 +11,7 @@ ghost use Rattle.storage.specs.Writes.{node_bytes};
 ghost use Rattle.model.specs.Sizes.{node_count};
 
 use storage::rows::{Row, StoredRow};
-use storage_bytes::layout::{History, NODE_LAST, NODE_UNSEEN, NODE_WIDTH, NODES, Region};
+use storage_bytes::layout::{History, NODE_LAST, NODE_UNSEEN, NODE_WIDTH, NODES, Nodes, Region};
 use storage_bytes::words::Field;
 use units::{LogIndex, LogPrefixWitness, NodeId};
 
@@ -65,7 +65,7 @@ impl StoredRow for Node {
         Node {
             front: LogPrefixWitness::read(nodes, o),
             last: LogIndex::read(nodes, o + NODE_LAST),
-            unseen: mark_at(nodes, k),
+            unseen: stored_mark(LogIndex::read(nodes, o + NODE_UNSEEN)),
         }
     }
 }
@@ -78,12 +78,18 @@ pub fn node_of(history: &History, node: NodeId) -> Node
     Node::at(NODES.of(history), usize::from(node.0))
 }
 
-// The unseen mark of node k alone.
-#[tactic(auto, using(model::proofs::Tests::unless_zero), unfolding(crate::specs::TermSearch::found_index))]
-pub fn mark_at(nodes: &[u8], k: usize) -> Option<LogIndex>
-    requires { (k < node_count) × (length nodes.now ≡ nodes_length) }
-    ensures { result ≡ found_index (row_of_node nodes.now k).unseen }
+// The unseen mark of a node alone.
+pub fn unseen_of(nodes: &Nodes, node: NodeId) -> Option<LogIndex>
+    requires { node.0 < node_count }
+    ensures { result ≡ found_index (row_of_node nodes.now node.0).unseen }
 {
-    let mark = LogIndex::read(nodes, k * NODE_WIDTH + NODE_UNSEEN);
+    stored_mark(LogIndex::read(nodes, usize::from(node.0) * NODE_WIDTH + NODE_UNSEEN))
+}
+
+// A mark as it is stored: zero is none.
+#[tactic(auto, using(model::proofs::Tests::unless_zero), unfolding(crate::specs::TermSearch::found_index))]
+fn stored_mark(mark: LogIndex) -> Option<LogIndex>
+    ensures { result ≡ found_index mark.0 }
+{
     (mark != LogIndex::ZERO).then_some(mark)
 }

@@ -41,18 +41,10 @@ impl Row for CommitTerm {
     }
 }
 
-// The term of index k + 1.
-pub fn term_at(terms: &Terms, k: usize) -> Term
-    requires { k < index_limit }
-    ensures { result.0 ≡ term_row terms.now k }
-{
-    Term::read(terms, k * TERM_WIDTH)
-}
-
 // The term of an index.
 pub fn term_of(terms: &Terms, index: LogIndex) -> Term
     requires { (1 ≤ index.0) × (index.0 ≤ index_limit) }
     ensures { result.0 ≡ term_row terms.now (index.0 - 1) }
 {
-    term_at(terms, index.0 - 1)
+    Term::read(terms, (index.0 - 1) * TERM_WIDTH)
 }

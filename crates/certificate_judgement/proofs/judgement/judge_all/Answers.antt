@@ -12,12 +12,12 @@ judge-relevant-requires c =
     let l = c.loop-k-test.true in (
       c.requires.0,
       c.requires.1,
-      row_stored _ _ _ (formed _ c.args.history.formed) (omega arith) _ c.of-certificates.ensures.is c.at-c.ensures,
+      row_stored _ _ _ (formed _ c.args.history.formed) (omega arith) _ c.array-certificates.ensures.is c.certificate_at-c.ensures,
     )
 
 pub loop-k-preserved : goal.loop-k-preserved
 loop-k-preserved c =
-    walking_next _ _ _ _ _ _ _ _ c.loop-k.invariant c.loop-k-test.true _ (row_here _ _ _ _ c.of-certificates.ensures.is c.at-c.ensures) _ _ _ c.judge-relevant.ensures _ refl
+    walking_next _ _ _ _ _ _ _ _ c.loop-k.invariant c.loop-k-test.true _ (row_here _ _ _ _ c.array-certificates.ensures.is c.certificate_at-c.ensures) _ _ _ c.judge-relevant.ensures _ refl
 
 pub returns : goal.returns
 returns c =

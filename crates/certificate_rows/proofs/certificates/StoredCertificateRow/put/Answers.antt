@@ -1,4 +1,4 @@
--- `put` of `certificate_rows::certificates::Certificate` meets its contract: its fields side by side are the row.
+-- `put` of `certificate_rows::certificates::StoredCertificate` meets its contract: its fields side by side are the row.
 -- Assumes nothing.
 -- Search finds the rows of three and of four fields by `put_join` alone; for these six it was tried, and gave up.
 use Rattle.storage.proofs.WriteLaws.{field_next}
@@ -6,7 +6,7 @@ use Rattle.storage.specs.Writes.{certificate_bytes}
 use Rattle.storage_bytes.specs.Words.{word_bytes}
 use Rattle.storage_bytes.specs.Layout.{certificate_width, term_width, number_width, index_width, byte_width}
 use Rattle.std.proofs.Common.{◌++◌, ◌*◌, refl, ◌∙◌}
-use Rattle.certificate_rows.proofs.certificates.CertificateRow.put.Goals as goal
+use Rattle.certificate_rows.proofs.certificates.StoredCertificateRow.put.Goals as goal
 
 pub returns : goal.returns
 unfolding certificate_bytes
