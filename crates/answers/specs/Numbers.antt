@@ -4,6 +4,7 @@ use Rattle.std.specs.Prelude.{ℕ, Option, None, Result, Ok, Err}
 use Rattle.std.specs.Option.{unwrap_or}
 use Rattle.model.specs.Refusal.{number, prefixesFull, findingsFull, old_exceeds_new, lengthExceedsFront, certificatesFull, numberTaken}
 use Rattle.model.specs.Answer as model
+use Rattle.std.proofs.Math.Option as option
 use Rattle.bit_fields.specs.Answers.{refusal_of}
 use Rattle.units.specs.declared.NodeId.{NodeId}
 use Rattle.answers.specs.declared.answer.Accepted.{Accepted}
@@ -21,6 +22,18 @@ node_number n = (unwrap_or n (record { 0 = 0 })).0
 -- a refusal: value and node are 0
 abbrev pub refusal_in : ℕ → Reply
 refusal_in n = record { refusal = n; value = 0; node = 0 }
+
+-- an answer in the model's words; 12 is not among the model's
+abbrev pub modelled : Result Accepted Refusal → option.Option model.Answer
+modelled (Ok a) = option.some (model.accepted a.value (node_number a.node))
+modelled (Err (Refusal.Unreadable f)) = option.some (model.refused (refusal_of f))
+modelled (Err Refusal.PrefixesFull) = option.some (model.refused prefixesFull)
+modelled (Err Refusal.FindingsFull) = option.some (model.refused findingsFull)
+modelled (Err Refusal.OldExceedsNew) = option.some (model.refused old_exceeds_new)
+modelled (Err Refusal.LengthExceedsFront) = option.some (model.refused lengthExceedsFront)
+modelled (Err Refusal.CertificatesFull) = option.some (model.refused certificatesFull)
+modelled (Err Refusal.NumberTaken) = option.some (model.refused numberTaken)
+modelled (Err Refusal.StorageBroken) = option.none
 
 -- the number of a refusal
 abbrev pub number_of : Refusal → ℕ

@@ -135,7 +135,7 @@ impl StoredRow for StoredCertificate {
 
 // The certificate of row k.
 pub fn certificate_at(certificates: &Certificates, k: usize) -> Certificate
-    requires { k < 64 }
+    requires { k < certificate_limit }
     ensures { certificate_value result ≡ told_row (certificate_row certificates.now k) }
 {
     Certificate::from(StoredCertificate::at(certificates, k))

@@ -25,9 +25,12 @@ use Rattle.units.specs.declared.LogIndex.{LogIndex}
 use Rattle.table_rows.specs.TermSearch.{found_index}
 use Rattle.table_rows.proofs.TermSearchLaws.{index_found, index_none, index_told, nothing_told}
 use Rattle.term_marks.specs.Marks.{lower_back}
-use Rattle.commit_terms.specs.Terms.{lengthened_to, term_in, is_replaced, first_replaced, replace_bytes, replace_all, changed_from, record_bytes, terms_answer, terms_bytes}
-use Rattle.commit_terms.specs.declared.terms.OldExceedsNew.{OldExceedsNew}
-use Rattle.std.specs.Prelude.{Option, Some, None, Result, Ok, Err, ⊤}
+use Rattle.commit_terms.specs.Terms.{lengthened_to, term_in, is_replaced, first_replaced, replace_bytes, replace_all, changed_from, record_bytes, terms_step}
+use Rattle.answers.specs.declared.answer.Refusal.{Refusal}
+use Rattle.answers.specs.Numbers.{accepted_with}
+use Rattle.answers.specs.Step.{Gives, accepting, refusing}
+use Rattle.answers.proofs.StepLaws.{ends}
+use Rattle.std.specs.Prelude.{Option, Some, None, Err}
 
 -- ---- lengthening
 
@@ -186,37 +189,28 @@ replace_all_certificates h t k (suc n) = replace_all_certificates (replace_bytes
 
 -- ---- the record
 
-abbrev pub Recorded : Bytes → ℕ → ℕ → ℕ → Result ⊤ OldExceedsNew → Bytes → Type 0
-Recorded h old new t r h' = (r ≡ terms_answer old new) × (h' ≡ terms_bytes h old new t)
-
 module _ (h : Bytes) (old new t : ℕ) where
-  pub record_refused : new < old → Recorded h old new t (Err (record {})) h
-  unfolding terms_answer terms_bytes
-  record_refused l =
-      let f = lt-ltb new old l in (
-        sym (cond_true (ltb new old) (Err (record {})) (Ok tt) f),
-        sym (cond_true (ltb new old) h (record_bytes h old new t) f),
-      )
+  pub record_refused : new < old → Gives (terms_step h old new t) (Err Refusal.OldExceedsNew) h
+  unfolding terms_step
+  record_refused l = ends _ (refusing Refusal.OldExceedsNew h) (cond_true (ltb new old) _ _ (lt-ltb new old l))
 
   module _ (l : old ≤ new) (u : Bytes) (eu : u ≡ lengthened_to h new) (ts : Bytes) (et : ts ≡ terms_part u)
       (found : Option LogIndex) (ef : found ≡ found_index (first_replaced (term_row ts) t old (new - old))) where
-    accepted : (z : Bytes) → z ≡ changed_from u new t (first_replaced (term_row ts) t old (new - old)) → Recorded h old new t (Ok tt) z
-    unfolding terms_answer terms_bytes record_bytes
+    accepted : (z : Bytes) → z ≡ changed_from u new t (first_replaced (term_row ts) t old (new - old)) → Gives (terms_step h old new t) (accepted_with 0) z
+    unfolding terms_step record_bytes
     accepted z e =
-        let f = le-ltb new old l in
-        let g = ap (λ (r : Bytes). first_replaced (term_row r) t old (new - old)) (et ∙ ap terms_part eu) in (
-          sym (cond_false (ltb new old) (Err (record {})) (Ok tt) f),
-          e ∙ (λ i. changed_from (eu i) new t (g i)) ∙ sym (cond_false (ltb new old) h (record_bytes h old new t) f),
-        )
+        let g = ap (λ (r : Bytes). first_replaced (term_row r) t old (new - old)) (et ∙ ap terms_part eu) in
+        let w : z ≡ record_bytes h old new t = e ∙ (λ i. changed_from (eu i) new t (g i)) in
+        ends _ (accepting 0 z) (cond_false (ltb new old) _ _ (le-ltb new old l) ∙ ap (accepting 0) (sym w))
 
-    pub record_unchanged : found ≡ None → Recorded h old new t (Ok tt) u
+    pub record_unchanged : found ≡ None → (z : Bytes) → z ≡ u → Gives (terms_step h old new t) (accepted_with 0) z
     unfolding changed_from
-    record_unchanged q =
+    record_unchanged q z ez =
         let k = first_replaced (term_row ts) t old (new - old) in
-        accepted u (sym (cond_true (eqb k 0) u _ (eq-eqb k 0 (nothing_told k found ef q))))
+        accepted z (ez ∙ sym (cond_true (eqb k 0) u _ (eq-eqb k 0 (nothing_told k found ef q))))
 
     pub record_changed : (first : LogIndex) → found ≡ Some first → (v : Bytes) → v ≡ replace_all u t (first.0 - 1) (new + 1 - first.0)
-        → (z : Bytes) → z ≡ lower_back v t first.0 (certificates_held v) → Recorded h old new t (Ok tt) z
+        → (z : Bytes) → z ≡ lower_back v t first.0 (certificates_held v) → Gives (terms_step h old new t) (accepted_with 0) z
     unfolding changed_from
     record_changed first q v ev z ez =
         let k = first_replaced (term_row ts) t old (new - old) in

@@ -1,17 +1,16 @@
 -- Commit terms on the bytes of a history, in the order of the code: the list lengthened, the first changed index found, each place
 -- from there on replaced, marks lowered. The term of index k + 1 is in place k.
 -- Assumes nothing.
-use Rattle.std.specs.Prelude.{ℕ, zero, suc, ◌+◌, ◌-◌, ◌*◌, Bool, cond, ◌&&◌, ◌||◌, ltb, eqb, Result, Ok, Err, ⊤}
+use Rattle.std.specs.Prelude.{ℕ, zero, suc, ◌+◌, ◌-◌, ◌*◌, Bool, cond, ◌&&◌, ◌||◌, ltb, eqb}
 use Rattle.model.specs.Sizes.{Bytes}
-use Rattle.model.specs.Refusal.{old_exceeds_new}
-use Rattle.model.specs.Answer.{Answer, accepted, refused}
 use Rattle.storage_bytes.specs.Words.{word_at, word_bytes, put_bytes}
 use Rattle.storage_bytes.specs.Layout.{terms_start, term_width}
 use Rattle.storage.specs.Tables.{term_row, terms_part}
 use Rattle.storage.specs.Writes.{terms_lengthened}
 use Rattle.storage.specs.Head.{terms_held, certificates_held}
 use Rattle.term_marks.specs.Marks.{lower_back}
-use Rattle.commit_terms.specs.declared.terms.OldExceedsNew.{OldExceedsNew}
+use Rattle.answers.specs.declared.answer.Refusal.{Refusal}
+use Rattle.answers.specs.Step.{Step, accepting, refusing}
 
 -- the list with zeros to new, where it is shorter
 unfoldable pub lengthened_to : Bytes → ℕ → Bytes
@@ -56,15 +55,7 @@ record_bytes h old new t =
     let u = lengthened_to h new in
     changed_from u new t (first_replaced (term_row (terms_part u)) t old (new - old))
 
--- the answer and the bytes after it: 8 leaves every byte
-unfoldable pub terms_answer : ℕ → ℕ → Result ⊤ OldExceedsNew
-terms_answer old new = cond (ltb new old) (Err (record {})) (Ok tt)
-
-unfoldable pub terms_bytes : Bytes → ℕ → ℕ → ℕ → Bytes
+-- 8 leaves every byte
+unfoldable pub terms_step : Bytes → ℕ → ℕ → ℕ → Step
 unfolding record_bytes
-terms_bytes h old new t = cond (ltb new old) h (record_bytes h old new t)
-
--- the answer in the model's words
-abbrev pub terms_reply : Result ⊤ OldExceedsNew → Answer
-terms_reply (Ok x) = accepted 0 0
-terms_reply (Err e) = refused old_exceeds_new
+terms_step h old new t = cond (ltb new old) (refusing Refusal.OldExceedsNew h) (accepting 0 (record_bytes h old new t))

@@ -4,11 +4,11 @@ ghost use Rattle.std.specs.Prelude.{◌≡◌, true, ◌+◌, ◌-◌, ◌≤◌
 ghost use Rattle.storage.specs.Rules.{well_formed};
 ghost use Rattle.storage.specs.Tables.{term_row};
 ghost use Rattle.table_rows.specs.TermSearch.{found_index};
-ghost use Rattle.commit_terms.specs.Terms.{lengthened_to, is_replaced, first_replaced, replace_bytes, replace_all, terms_answer, terms_bytes};
-ghost use Rattle.answers.specs.declared.answer.Refusal.{Refusal};
 ghost use Rattle.model.specs.Sizes.{index_limit};
+ghost use Rattle.commit_terms.specs.Terms.{lengthened_to, is_replaced, first_replaced, replace_bytes, replace_all, terms_step};
+ghost use Rattle.answers.specs.Step.{Gives};
 
-use answers::answer::Refusal;
+use answers::answer::{Accepted, Refusal};
 use records::head::CommitTerms;
 use storage::fresh::clear;
 use storage::head::{last_recorded, set_last_recorded};
@@ -17,18 +17,6 @@ use storage_bytes::layout::{History, TERM_WIDTH, TERMS, Terms};
 use table_rows::terms::{CommitTerm, term_of};
 use term_marks::marks::lower_marks;
 use units::{LogIndex, Term};
-
-// Old exceeds new: refusal 8.
-#[derive(Clone, Copy, PartialEq, Eq)]
-pub struct OldExceedsNew;
-
-impl From<OldExceedsNew> for Refusal {
-    ghost from_gives = { λ _ r. r ≡ Refusal.OldExceedsNew };
-
-    fn from(_e: OldExceedsNew) -> Refusal {
-        Refusal::OldExceedsNew
-    }
-}
 
 // The list is lengthened with zeros to `new`: the places first, then the count, once. The places are lent on the spot, as the table is in
 // `storage::rows::set`.
@@ -91,14 +79,14 @@ fn replace_terms(history: &mut History, first: LogIndex, new: LogIndex, term: Te
     }
 }
 
-// The indexes after old, through new, were committed in the term. A repeated record writes nothing.
+// The indexes after old, through new, were committed in the term: 8 when old exceeds new. A repeated record writes nothing.
 #[tactic(auto, using(storage::proofs::WellFormed::certificates_fit, crate::proofs::TermTurns::lengthened_certificates, crate::proofs::TermTurns::replace_all_certificates, table_rows::proofs::TermSearchLaws::index_told))]
-pub fn record_commit_terms(history: &mut History, t: CommitTerms) -> Result<(), OldExceedsNew>
+pub fn record_commit_terms(history: &mut History, t: CommitTerms) -> Result<Accepted, Refusal>
     requires { (well_formed history.old ≡ true) × (t.new.0 ≤ index_limit) }
-    ensures { (result ≡ terms_answer t.old.0 t.new.0) × (history.new ≡ terms_bytes history.old t.old.0 t.new.0 t.term.0) }
+    ensures { Gives (terms_step history.old t.old.0 t.new.0 t.term.0) result history.new }
 {
     if t.new < t.old {
-        return Err(OldExceedsNew);
+        return Err(Refusal::OldExceedsNew);
     }
     lengthen(history, t.new);
     let found = first_replaced(TERMS.array(history), t.old, t.new, t.term);
@@ -106,5 +94,5 @@ pub fn record_commit_terms(history: &mut History, t: CommitTerms) -> Result<(), 
         replace_terms(history, first, t.new, t.term);
         lower_marks(history, t.term, first);
     }
-    Ok(())
+    Ok(Accepted::with(0))
 }

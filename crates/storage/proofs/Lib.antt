@@ -8,6 +8,5 @@ pub mod RowFacts
 pub mod DecodeLaws
 pub mod WellFormed
 pub mod Meanings
-pub mod Answered
 pub mod PrefixLaws
 pub mod OrderLaws
