@@ -1,10 +1,11 @@
--- Observing a commit index means the model's commit: unseen, nothing, the first prefix, agreement, or a difference.
+-- What `observe_committed_prefixes` means: of bytes that stand for a history, its answer is the model's, and the bytes after it stand for
+-- the model's history after it: unseen, nothing, the first prefix, agreement, or a difference.
 -- Assumes nothing.
 use Prim.Native.Nat.{ℕ, ◌≤◌, ◌<◌, min}
 use native.Mathlib.Omega.{arith}
-use mathlib.Core.Path.{◌≡◌, refl, sym, ◌∙◌, ap, subst, subst₂}
+use mathlib.Core.Path.{◌≡◌, refl, sym, ◌∙◌, ap, subst}
 use mathlib.Core.Bool.{Bool, true, false, cond}
-use mathlib.Core.Logic.{◌⊎◌, inl, inr, ⊎_elim}
+use mathlib.Core.Logic.{⊎_elim}
 use mathlib.Core.List.{List, [], ◌∷◌}
 use mathlib.Core.Option.{none, some}
 use lib.Dec.{leb, ltb, eqb}
@@ -21,17 +22,22 @@ use Rattle.storage.proofs.Meanings.{Stands, findings_read}
 use Rattle.log_violation.specs.Violation.{room_for, noted_in}
 use Rattle.prefix_lookup.specs.Prefix.{witness, stored_of, front_through}
 use Rattle.committed_prefix.specs.Prefix.{agree_in, unseen_set, keep_bytes}
-use Rattle.commit.specs.Prefix.{longer_in, end_in, flags_of, difference, note_answer, note_leaves, commit_answer, commit_bytes, Inserted, Observed}
+use Rattle.commit.specs.Prefix.{longer_in, end_in, flags_of, difference, note_step, insert_step, kept_step, commit_step}
 use Rattle.prefix_lookup.proofs.StoredLaws.{stored_none, stored_read}
 use Rattle.prefix_lookup.proofs.Fronts.{Part, front_cut}
-use Rattle.log_violation.specs.declared.violation.FindingsFull.{FindingsFull}
+use Rattle.answers.specs.declared.answer.Refusal.{Refusal}
+use Rattle.answers.specs.Step.{Step, accepting, refusing}
+use Rattle.answers.proofs.Meaning.{Means, accepts, refuses}
 use Rattle.storage.proofs.WellFormed.{formed}
-use Rattle.commit.proofs.PrefixTurns.{insert_differs, keep_is, insert_longer, insert_shorter, observe_unseen, observe_zero, observe_first, observe_later}
+use Rattle.commit.proofs.PrefixTurns.{differs_step, longer_step, shorter_step, unseen_step, zero_step, some_step}
 use Rattle.committed_prefix.proofs.PrefixLaws.{changed, at, committed_is, owner_is, empty_is, unseen_written, keep_written}
 use Rattle.commit.proofs.Ends.{longer_means, end_means, agree_means, end_limit}
 use Rattle.commit.proofs.Difference.{difference_noted}
-use Rattle.std.specs.Prelude.{None, Result, Ok, Err}
 use Rattle.storage.specs.Head.{prefixes_held, committed_number, owner_of}
+use Rattle.std.specs.Prelude.{Option, Some, None}
+use Rattle.units.specs.declared.LogPrefixWitness.{LogPrefixWitness}
+use Rattle.model.specs.Record.{commit}
+use Rattle.model.specs.Answer.{accepted}
 
 -- ---- of the model alone
 
@@ -71,11 +77,8 @@ module _ (x : History) (n i : ℕ) where
     pub value : v ≡ commit_value x n i
     pub stands : Stands h' (commit_effect x n i)
 
-  -- what an answer and the bytes after it, where h was before, come to
-  abbrev pub Outcome : Bytes → Result ℕ FindingsFull → Bytes → Type 0
-  Outcome h r h' =
-      ((v : ℕ) × (r ≡ Ok v) × Accepts v h')
-      ⊎ ((r ≡ Err (record {})) × (commit_refusal x n i ≡ some findingsFull) × (h' ≡ h))
+  taken : (h : Bytes) (v : ℕ) (h' : Bytes) → Accepts v h' → Means h x (commit n i) (accepting v h')
+  taken h v h' a = accepts h x (commit n i) _ h' a.refuses (ap (λ (m : ℕ). accepted m 0) a.value) a.stands
 
   few : (fs : List Finding) → fs ≡ commit_findings x n i → length fs ≤ finding_limit → commit_refusal x n i ≡ none
   unfolding commit_refusal
@@ -203,14 +206,15 @@ module _ (x : History) (n i : ℕ) where
           keeps : replaces x.committed (seen x n i) ≡ false
           keeps = replaces_not x.committed (seen x n i) (agree_is ∙ e)
 
-          differs_seen : Outcome h (note_answer h n (end_in h c p)) (note_leaves h n (end_in h c p))
-          unfolding note_answer note_leaves
+          differs_seen : Means h x (commit n i) (note_step h n (end_in h c p))
+          unfolding note_step
           differs_seen =
               let f = difference n (end_in h c p) in
               ⊎_elim
               (λ y.
-              let made : Accepts 0 (unseen_set (noted_in h f) n 0) =
-              record {
+              subst (Means h x (commit n i)) (sym (cond_true (room_for h f) _ (refusing Refusal.FindingsFull h) y.room))
+              (taken h 0 (unseen_set (noted_in h f) n 0)
+              (record {
                 refuses = few fs found y.few;
                 value = sym (value_is false e);
                 stands =
@@ -218,31 +222,29 @@ module _ (x : History) (n i : ℕ) where
                     (effect_is 0 x.committed x.owner fs reach
                     (sym (cond_false (replaces x.committed (seen x n i)) _ _ keeps)) (sym (cond_false (replaces x.committed (seen x n i)) _ _ keeps)) found)
                     (unseen_written (noted_in h f) (with_findings x fs) y.stands n 0 here (omega arith));
-              } in
-              inl (0, cond_true (room_for h f) _ _ y.room, subst (Accepts 0) (sym (cond_true (room_for h f) (unseen_set (noted_in h f) n 0) h y.room)) made))
-              (λ y. inr (cond_false (room_for h f) _ _ y.0, many fs found y.1, cond_false (room_for h f) _ h y.0))
+              })))
+              (λ y.
+              subst (Means h x (commit n i)) (sym (cond_false (room_for h f) (accepting 0 (unseen_set (noted_in h f) n 0)) _ y.0))
+              (refuses h x (commit n i) Refusal.FindingsFull findingsFull refl s (many fs found y.1)))
               (difference_noted h x s n (end_in h c p) here (end_limit h x s c p lc within))
 
 -- ---- all cases
 
 module _ (h : Bytes) (x : History) (n i : ℕ) (s : Stands h x) (here : n < node_count) (limit : i ≤ index_limit) where
-  abbrev Told : Type 0
-  Told = Outcome x n i h (commit_answer h n i) (commit_bytes h n i)
+  abbrev Meant : Step → Type 0
+  Meant t = Means h x (commit n i) t
 
-  from : (r : Result ℕ FindingsFull) (h' : Bytes) → Observed h n i r h' → Outcome x n i h r h' → Told
-  from r h' o w = subst₂ (Outcome x n i h) o.answers o.leaves w
+  from : (t : Step) → commit_step h n i ≡ t → Meant t → Meant (commit_step h n i)
+  from t e = subst Meant (sym e)
 
   -- the front is shorter
-  not_reached : front_through h n i ≡ None → length (front_of x n) < i → Told
+  not_reached : front_through h n i ≡ None → length (front_of x n) < i → Meant (commit_step h n i)
   not_reached e l =
       let short = lt-leb i (length (front_of x n)) l in
-      from (Ok 0) (unseen_set h n i) (observe_unseen h n i (front_through h n i) refl e (unseen_set h n i) refl)
-      (inl (
-        0,
-        refl,
-        nothing_seen x n i h s here limit i limit (sym (cond_false (leb i (length (front_of x n))) 0 i short))
-            (cond_false (leb i (length (front_of x n))) (take i (front_of x n)) [] short),
-      ))
+      from _ (unseen_step h n i e)
+      (taken x n i h 0 (unseen_set h n i)
+      (nothing_seen x n i h s here limit i limit (sym (cond_false (leb i (length (front_of x n))) 0 i short))
+      (cond_false (leb i (length (front_of x n))) (take i (front_of x n)) [] short)))
 
   module _ (b : Part h x (front_through h n i) (front_of x n) i) where
     reaches : leb i (length (front_of x n)) ≡ true
@@ -254,63 +256,54 @@ module _ (h : Bytes) (x : History) (n i : ℕ) (s : Stands h x) (here : n < node
     shown : seen x n i ≡ at h x s b.part
     shown = cond_true (leb i (length (front_of x n))) (take i (front_of x n)) [] reaches ∙ sym b.first
 
-    index_zero : b.part ≡ 0 → Told
+    index_zero : b.part ≡ 0 → Meant (commit_step h n i)
     index_zero z =
-        from (Ok 0) (unseen_set h n 0) (observe_zero h n i (front_through h n i) refl (witness b.part) b.told z (unseen_set h n 0) refl)
-        (inl (0, refl, nothing_seen x n i h s here limit 0 (omega arith) cleared (shown ∙ ap (at h x s) z)))
+        from _ (zero_step h n i (witness b.part) b.told z)
+        (taken x n i h 0 (unseen_set h n 0) (nothing_seen x n i h s here limit 0 (omega arith) cleared (shown ∙ ap (at h x s) z)))
 
     module _ (some-seen : b.part ≡ 0 → ⊥) where
-      first_one : committed_number h ≡ 0 → Told
+      kept : (k : Option LogPrefixWitness) → stored_of (committed_number h) ≡ k → Meant (kept_step h n b.part k) → Meant (commit_step h n i)
+      kept k e m = from _ (some_step h n i (witness b.part) b.told some-seen) (subst (λ (o : Option LogPrefixWitness). Meant (kept_step h n b.part o)) (sym e) m)
+
+      first_one : committed_number h ≡ 0 → Meant (commit_step h n i)
       first_one z =
-          from (Ok 0) (keep_bytes h n b.part)
-          (observe_first h n i (front_through h n i) refl (witness b.part) b.told some-seen (stored_of (committed_number h)) refl
-          (sym (stored_none (committed_number h) z)) (keep_bytes h n b.part) refl)
-          (inl (0, refl, first_seen x n i h s here limit b.part b.within cleared shown some-seen (committed_is h x s ∙ ap (at h x s) z)))
+          kept None (sym (stored_none (committed_number h) z))
+          (taken x n i h 0 (keep_bytes h n b.part)
+          (first_seen x n i h s here limit b.part b.within cleared shown some-seen (committed_is h x s ∙ ap (at h x s) z)))
 
       module _ (some-kept : committed_number h ≡ 0 → ⊥) where
         abbrev c : ℕ
         c = committed_number h
 
-        later : (r : Result ℕ FindingsFull) (h' : Bytes) → Inserted h n c b.part r h' → Outcome x n i h r h' → Told
-        later r h' w o =
-            from r h'
-            (observe_later h n i (front_through h n i) refl (witness b.part) b.told some-seen (stored_of c) refl (witness c)
-            (sym (stored_read c c refl some-kept)) r h' w)
-            o
+        later : (t : Step) → insert_step h n c b.part ≡ t → Meant t → Meant (commit_step h n i)
+        later t e m = kept (Some (witness c)) (sym (stored_read c c refl some-kept)) (subst Meant (sym e) m)
 
         lc : c ≤ prefixes_held h
         lc = (formed h s.right).committed
 
-        agreeing : agree_in h c b.part (end_in h c b.part) ≡ true → Told
+        agreeing : agree_in h c b.part (end_in h c b.part) ≡ true → Meant (commit_step h n i)
         agreeing e =
-            let v = flags_of (owner_of h) n in
             ⊎_elim
-            (λ l.
-            later (Ok v) (keep_bytes h n b.part)
-            (insert_longer h n c b.part (end_in h c b.part) refl (agree_in h c b.part (end_in h c b.part)) refl e (owner_of h) v refl refl (unseen_set h n 0) refl l (keep_bytes h n b.part) (keep_is h n b.part))
-            (inl (v, refl, longer_seen x n i h s here limit b.part b.within cleared shown some-seen c lc (committed_is h x s) some-kept e l)))
-            (λ l.
-            later (Ok v) (unseen_set h n 0)
-            (insert_shorter h n c b.part (end_in h c b.part) refl (agree_in h c b.part (end_in h c b.part)) refl e (owner_of h) v refl refl (unseen_set h n 0) refl l)
-            (inl (v, refl, shorter_seen x n i h s here limit b.part b.within cleared shown some-seen c lc (committed_is h x s) some-kept e l)))
+            (λ l. later _ (longer_step h n c b.part e l)
+            (taken x n i h _ _ (longer_seen x n i h s here limit b.part b.within cleared shown some-seen c lc (committed_is h x s) some-kept e l)))
+            (λ l. later _ (shorter_step h n c b.part e l)
+            (taken x n i h _ _ (shorter_seen x n i h s here limit b.part b.within cleared shown some-seen c lc (committed_is h x s) some-kept e l)))
             (either (longer_in h c b.part))
 
-        differing_one : agree_in h c b.part (end_in h c b.part) ≡ false → Told
-        differing_one e =
-            let k = end_in h c b.part in
-            later (note_answer h n k) (note_leaves h n k)
-            (insert_differs h n c b.part k refl (agree_in h c b.part k) refl e (note_answer h n k) (note_leaves h n k) (record { answers = refl; leaves = refl }))
-            (differs_seen x n i h s here limit b.part b.within cleared shown some-seen c lc (committed_is h x s) some-kept e)
+        compared : Meant (commit_step h n i)
+        compared =
+            ⊎_elim agreeing
+            (λ e. later _ (differs_step h n c b.part e)
+            (differs_seen x n i h s here limit b.part b.within cleared shown some-seen c lc (committed_is h x s) some-kept e))
+            (either (agree_in h c b.part (end_in h c b.part)))
 
-        compared : Told
-        compared = ⊎_elim agreeing differing_one (either (agree_in h c b.part (end_in h c b.part)))
-
-      some_one : Told
+      some_one : Meant (commit_step h n i)
       some_one =
           ⊎_elim (λ e. first_one (eqb-true (committed_number h) 0 e)) (λ e. compared (eqb-false (committed_number h) 0 e)) (either (eqb (committed_number h) 0))
 
-    reached : Told
+    reached : Meant (commit_step h n i)
     reached = ⊎_elim (λ e. index_zero (eqb-true b.part 0 e)) (λ e. some_one (eqb-false b.part 0 e)) (either (eqb b.part 0))
 
-  pub commit_told : Outcome x n i h (commit_answer h n i) (commit_bytes h n i)
-  commit_told = ⊎_elim (λ b. not_reached b.0 b.1) reached (front_cut h x s n here i)
+  -- kind 2
+  pub commit_means : Means h x (commit n i) (commit_step h n i)
+  commit_means = ⊎_elim (λ b. not_reached b.0 b.1) reached (front_cut h x s n here i)

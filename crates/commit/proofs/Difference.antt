@@ -25,7 +25,12 @@ use Rattle.storage.proofs.WellFormed.{formed}
 use Rattle.log_violation.specs.Violation.{note_held, note_bytes, findings_written, room_for, room_answer, noted_in}
 use Rattle.log_violation.proofs.ViolationLaws.{Holds, note_holds, note_length, findings_long}
 use Rattle.committed_prefix.specs.Prefix.{unseen_set}
-use Rattle.commit.specs.Prefix.{difference, note_answer, note_leaves, Noted}
+use Rattle.commit.specs.Prefix.{difference, note_step}
+use Rattle.answers.specs.declared.answer.Accepted.{Accepted}
+use Rattle.answers.specs.declared.answer.Refusal.{Refusal}
+use Rattle.answers.specs.Numbers.{accepted_with}
+use Rattle.answers.specs.Step.{Gives}
+use Rattle.answers.proofs.StepLaws.{accepts_with, refuses_with}
 use Rattle.log_violation.specs.declared.violation.FindingsFull.{FindingsFull}
 
 module _ (h : Bytes) (n i : ℕ) (r : Result ⊤ FindingsFull) (u : Bytes)
@@ -38,23 +43,16 @@ module _ (h : Bytes) (n i : ℕ) (r : Result ⊤ FindingsFull) (u : Bytes)
   unfolding room_answer
   some_room v z = ⊎_elim (λ t. t) (λ f. absurd (tf (ap is_ok (sym z ∙ em.0 ∙ cond_false _ _ _ f)))) (either (room_for h (difference n i)))
 
-  pub note_full : (e : FindingsFull) → r ≡ Err e → (a : Result ℕ FindingsFull) → a ≡ Err (record {}) → Noted h n i a u
-  unfolding note_answer note_leaves noted_in
+  pub note_full : (e : FindingsFull) → r ≡ Err e → (a : Result Accepted Refusal) → a ≡ Err Refusal.FindingsFull → Gives (note_step h n i) a u
+  unfolding note_step noted_in
   note_full e z a ea =
       let full = no_room e z in
-      record {
-        answers = ea ∙ sym (cond_false (room_for h (difference n i)) _ _ full);
-        leaves = em.1 ∙ cond_false (room_for h (difference n i)) _ h full ∙ sym (cond_false (room_for h (difference n i)) _ h full);
-      }
+      refuses_with _ _ _ (cond_false (room_for h (difference n i)) _ _ full) a ea u (em.1 ∙ cond_false (room_for h (difference n i)) _ h full)
 
-  pub note_so : (v : ⊤) → r ≡ Ok v → (w : Bytes) → w ≡ unseen_set u n 0 → Noted h n i (Ok 0) w
-  unfolding note_answer note_leaves
-  note_so v z w ew =
-      let room = some_room v z in
-      record {
-        answers = sym (cond_true (room_for h (difference n i)) _ _ room);
-        leaves = ew ∙ ap (λ (y : Bytes). unseen_set y n 0) em.1 ∙ sym (cond_true (room_for h (difference n i)) _ h room);
-      }
+  pub note_so : (v : ⊤) → r ≡ Ok v → (a : Result Accepted Refusal) → a ≡ accepted_with 0 → (w : Bytes) → w ≡ unseen_set u n 0 → Gives (note_step h n i) a w
+  unfolding note_step
+  note_so v z a ea w ew =
+      accepts_with _ _ _ (cond_true (room_for h (difference n i)) _ _ (some_room v z)) a ea w (ew ∙ ap (λ (y : Bytes). unseen_set y n 0) em.1)
 
 module _ (h : Bytes) (x : History) (s : Stands h x) (n i : ℕ) (here : n < node_count) (limit : i ≤ index_limit) where
   -- the findings with the difference; how many are held with it, and their table

@@ -2,4 +2,3 @@ pub mod Ends
 pub mod PrefixTurns
 pub mod CommitLaws
 pub mod Difference
-pub mod Meaning

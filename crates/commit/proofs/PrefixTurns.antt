@@ -1,8 +1,8 @@
--- What `insert_committed_prefix` and `observe_committed_prefixes` answer and leave, by what they read.
+-- What a commit index comes to by what is read, and the exits of `insert_committed_prefix` and `observe_committed_prefixes`.
 -- Assumes nothing.
 use Prim.Native.Nat.{ℕ}
 use mathlib.Core.Path.{◌≡◌, refl, sym, ◌∙◌, ap}
-use mathlib.Core.Bool.{Bool, true, false}
+use mathlib.Core.Bool.{Bool, true, false, cond}
 use lib.Dec.{eqb}
 use borrow.Author.Tests.{eq-eqb, ne_eqb}
 use Rattle.model.specs.Sizes.{Bytes}
@@ -11,10 +11,14 @@ use Rattle.storage.specs.Writes.{committed_set}
 use Rattle.storage.specs.Head.{committed_number, owner_of}
 use Rattle.prefix_lookup.specs.Prefix.{stored_of, front_through}
 use Rattle.committed_prefix.specs.Prefix.{agree_in, unseen_set, keep_bytes}
-use Rattle.commit.specs.Prefix.{longer_in, end_in, flags_of, note_answer, note_leaves, Noted, insert_answer, insert_leaves, kept_answer, kept_leaves, seen_answer, seen_leaves, commit_answer, commit_bytes, Inserted, Observed}
+use Rattle.commit.specs.Prefix.{longer_in, end_in, flags_of, note_step, insert_step, kept_step, seen_step, commit_step}
 use Rattle.units.specs.declared.LogPrefixWitness.{LogPrefixWitness}
-use Rattle.log_violation.specs.declared.violation.FindingsFull.{FindingsFull}
-use Rattle.std.specs.Prelude.{Option, Some, None, Result, Ok}
+use Rattle.answers.specs.declared.answer.Accepted.{Accepted}
+use Rattle.answers.specs.declared.answer.Refusal.{Refusal}
+use Rattle.answers.specs.Numbers.{accepted_with}
+use Rattle.answers.specs.Step.{accepting, Gives}
+use Rattle.answers.proofs.StepLaws.{accepts_with, goes_on}
+use Rattle.std.specs.Prelude.{Option, Some, None, Result}
 
 -- ---- held against the committed prefix
 
@@ -22,79 +26,72 @@ pub keep_is : (h : Bytes) (n p : ℕ) → keep_bytes h n p ≡ committed_set (un
 unfolding keep_bytes
 keep_is h n p = refl
 
+module _ (h : Bytes) (n c p : ℕ) where
+  pub differs_step : agree_in h c p (end_in h c p) ≡ false → insert_step h n c p ≡ note_step h n (end_in h c p)
+  unfolding insert_step
+  differs_step f = cond_false (agree_in h c p (end_in h c p)) _ _ f
+
+  agrees_step : agree_in h c p (end_in h c p) ≡ true
+      → insert_step h n c p ≡ accepting (flags_of (owner_of h) n) (cond (longer_in h c p) (keep_bytes h n p) (unseen_set h n 0))
+  unfolding insert_step
+  agrees_step f = cond_true (agree_in h c p (end_in h c p)) _ _ f
+
+  pub longer_step : agree_in h c p (end_in h c p) ≡ true → longer_in h c p ≡ true → insert_step h n c p ≡ accepting (flags_of (owner_of h) n) (keep_bytes h n p)
+  longer_step f g = agrees_step f ∙ ap (accepting (flags_of (owner_of h) n)) (cond_true (longer_in h c p) _ _ g)
+
+  pub shorter_step : agree_in h c p (end_in h c p) ≡ true → longer_in h c p ≡ false → insert_step h n c p ≡ accepting (flags_of (owner_of h) n) (unseen_set h n 0)
+  shorter_step f g = agrees_step f ∙ ap (accepting (flags_of (owner_of h) n)) (cond_false (longer_in h c p) _ _ g)
+
 module _ (h : Bytes) (n c p i : ℕ) (ei : i ≡ end_in h c p) (b : Bool) (eb : b ≡ agree_in h c p i) where
   agree_is : agree_in h c p (end_in h c p) ≡ b
   agree_is = ap (agree_in h c p) (sym ei) ∙ sym eb
 
-  pub insert_differs : b ≡ false → (r : Result ℕ FindingsFull) (h' : Bytes) → Noted h n i r h' → Inserted h n c p r h'
-  unfolding insert_answer insert_leaves
-  insert_differs f r h' w =
-      record {
-        answers = w.answers ∙ ap (note_answer h n) ei ∙ sym (cond_false (agree_in h c p (end_in h c p)) _ _ (agree_is ∙ f));
-        leaves = w.leaves ∙ ap (note_leaves h n) ei ∙ sym (cond_false (agree_in h c p (end_in h c p)) _ _ (agree_is ∙ f));
-      }
+  pub insert_differs : b ≡ false → (r : Result Accepted Refusal) (h' : Bytes) → Gives (note_step h n i) r h' → Gives (insert_step h n c p) r h'
+  insert_differs f r h' w = goes_on _ _ (differs_step h n c p (agree_is ∙ f) ∙ ap (note_step h n) (sym ei)) r h' w
 
-  module _ (f : b ≡ true) (o v : ℕ) (eo : o ≡ owner_of h) (ev : v ≡ flags_of o n) (u : Bytes) (eu : u ≡ unseen_set h n 0) where
-    flags_are : Ok v ≡ insert_answer h n c p
-    unfolding insert_answer
-    flags_are =
-        ap Ok (ev ∙ ap (λ (y : ℕ). flags_of y n) eo)
-        ∙ sym (cond_true (agree_in h c p (end_in h c p)) _ _ (agree_is ∙ f))
+  module _ (f : b ≡ true) (o v : ℕ) (eo : o ≡ owner_of h) (ev : v ≡ flags_of o n) (u : Bytes) (eu : u ≡ unseen_set h n 0)
+      (r : Result Accepted Refusal) (er : r ≡ accepted_with v) where
+    told_is : r ≡ accepted_with (flags_of (owner_of h) n)
+    told_is = er ∙ ap accepted_with (ev ∙ ap (λ (y : ℕ). flags_of y n) eo)
 
-    pub insert_longer : longer_in h c p ≡ true → (h' : Bytes) → h' ≡ committed_set u p n → Inserted h n c p (Ok v) h'
-    unfolding insert_leaves
+    pub insert_longer : longer_in h c p ≡ true → (h' : Bytes) → h' ≡ committed_set u p n → Gives (insert_step h n c p) r h'
     insert_longer g h' w =
-        record {
-          answers = flags_are;
-          leaves =
-              w ∙ ap (λ (y : Bytes). committed_set y p n) eu ∙ sym (keep_is h n p)
-              ∙ sym (cond_true (agree_in h c p (end_in h c p)) _ _ (agree_is ∙ f) ∙ cond_true (longer_in h c p) _ _ g);
-        }
+        accepts_with _ _ _ (longer_step h n c p (agree_is ∙ f) g) r told_is h'
+        (w ∙ ap (λ (y : Bytes). committed_set y p n) eu ∙ sym (keep_is h n p))
 
-    pub insert_shorter : longer_in h c p ≡ false → Inserted h n c p (Ok v) u
-    unfolding insert_leaves
-    insert_shorter g =
-        record {
-          answers = flags_are;
-          leaves = eu ∙ sym (cond_true (agree_in h c p (end_in h c p)) _ _ (agree_is ∙ f) ∙ cond_false (longer_in h c p) _ _ g);
-        }
+    pub insert_shorter : longer_in h c p ≡ false → (h' : Bytes) → h' ≡ u → Gives (insert_step h n c p) r h'
+    insert_shorter g h' w = accepts_with _ _ _ (shorter_step h n c p (agree_is ∙ f) g) r told_is h' (w ∙ eu)
 
 -- ---- observed
 
-module _ (h : Bytes) (n i : ℕ) (s : Option LogPrefixWitness) (es : s ≡ front_through h n i) where
-  pub observe_unseen : s ≡ None → (h' : Bytes) → h' ≡ unseen_set h n i → Observed h n i (Ok 0) h'
-  unfolding commit_answer commit_bytes
-  observe_unseen e h' w =
-      record {
-        answers = sym (ap (seen_answer h n) (sym es ∙ e));
-        leaves = w ∙ sym (ap (seen_leaves h n i) (sym es ∙ e));
-      }
+module _ (h : Bytes) (n i : ℕ) where
+  pub unseen_step : front_through h n i ≡ None → commit_step h n i ≡ accepting 0 (unseen_set h n i)
+  unfolding commit_step
+  unseen_step e = ap (seen_step h n i) e
+
+  module _ (p : LogPrefixWitness) (e : front_through h n i ≡ Some p) where
+    pub zero_step : p.0 ≡ 0 → commit_step h n i ≡ accepting 0 (unseen_set h n 0)
+    unfolding commit_step
+    zero_step z = ap (seen_step h n i) e ∙ cond_true (eqb p.0 0) _ _ (eq-eqb p.0 0 z)
+
+    pub some_step : (p.0 ≡ 0 → ⊥) → commit_step h n i ≡ kept_step h n p.0 (stored_of (committed_number h))
+    unfolding commit_step
+    some_step z = ap (seen_step h n i) e ∙ cond_false (eqb p.0 0) _ _ (ne_eqb p.0 0 z)
+
+module _ (h : Bytes) (n i : ℕ) (s : Option LogPrefixWitness) (es : s ≡ front_through h n i) (r : Result Accepted Refusal) (h' : Bytes) where
+  pub observe_unseen : s ≡ None → r ≡ accepted_with 0 → h' ≡ unseen_set h n i → Gives (commit_step h n i) r h'
+  observe_unseen e er w = accepts_with _ _ 0 (unseen_step h n i (sym es ∙ e)) r er h' w
 
   module _ (p : LogPrefixWitness) (e : s ≡ Some p) where
-    pub observe_zero : p.0 ≡ 0 → (h' : Bytes) → h' ≡ unseen_set h n 0 → Observed h n i (Ok 0) h'
-    unfolding commit_answer commit_bytes
-    observe_zero z h' w =
-        record {
-          answers = sym (ap (seen_answer h n) (sym es ∙ e) ∙ cond_true (eqb p.0 0) _ _ (eq-eqb p.0 0 z));
-          leaves = w ∙ sym (ap (seen_leaves h n i) (sym es ∙ e) ∙ cond_true (eqb p.0 0) _ _ (eq-eqb p.0 0 z));
-        }
+    pub observe_zero : p.0 ≡ 0 → r ≡ accepted_with 0 → h' ≡ unseen_set h n 0 → Gives (commit_step h n i) r h'
+    observe_zero z er w = accepts_with _ _ 0 (zero_step h n i p (sym es ∙ e) z) r er h' w
 
     module _ (z : p.0 ≡ 0 → ⊥) (k : Option LogPrefixWitness) (ek : k ≡ stored_of (committed_number h)) where
-      answer_is : commit_answer h n i ≡ kept_answer h n p.0 k
-      unfolding commit_answer
-      answer_is = ap (seen_answer h n) (sym es ∙ e) ∙ cond_false (eqb p.0 0) _ _ (ne_eqb p.0 0 z) ∙ ap (kept_answer h n p.0) (sym ek)
+      kept_is : (g : Option LogPrefixWitness) → k ≡ g → commit_step h n i ≡ kept_step h n p.0 g
+      kept_is g eg = some_step h n i p (sym es ∙ e) z ∙ ap (kept_step h n p.0) (sym ek ∙ eg)
 
-      bytes_are : commit_bytes h n i ≡ kept_leaves h n p.0 k
-      unfolding commit_bytes
-      bytes_are = ap (seen_leaves h n i) (sym es ∙ e) ∙ cond_false (eqb p.0 0) _ _ (ne_eqb p.0 0 z) ∙ ap (kept_leaves h n p.0) (sym ek)
+      pub observe_first : k ≡ None → r ≡ accepted_with 0 → h' ≡ keep_bytes h n p.0 → Gives (commit_step h n i) r h'
+      observe_first g er w = accepts_with _ _ 0 (kept_is None g) r er h' w
 
-      pub observe_first : k ≡ None → (h' : Bytes) → h' ≡ keep_bytes h n p.0 → Observed h n i (Ok 0) h'
-      observe_first g h' w =
-          record { answers = sym (answer_is ∙ ap (kept_answer h n p.0) g); leaves = w ∙ sym (bytes_are ∙ ap (kept_leaves h n p.0) g) }
-
-      pub observe_later : (c : LogPrefixWitness) → k ≡ Some c → (r : Result ℕ FindingsFull) (h' : Bytes) → Inserted h n c.0 p.0 r h' → Observed h n i r h'
-      observe_later c g r h' w =
-          record {
-            answers = w.answers ∙ sym (answer_is ∙ ap (kept_answer h n p.0) g);
-            leaves = w.leaves ∙ sym (bytes_are ∙ ap (kept_leaves h n p.0) g);
-          }
+      pub observe_later : (c : LogPrefixWitness) → k ≡ Some c → Gives (insert_step h n c.0 p.0) r h' → Gives (commit_step h n i) r h'
+      observe_later c g w = goes_on _ _ (kept_is (Some c) g) r h' w

@@ -3,11 +3,13 @@
 ghost use Rattle.std.specs.Prelude.{◌≡◌, true, ◌≤◌, ◌<◌};
 ghost use Rattle.storage.specs.Rules.{well_formed};
 ghost use Rattle.storage.specs.Head.{prefixes_held};
-ghost use Rattle.commit.specs.Prefix.{flags_of, Noted, Inserted, Observed};
 ghost use Rattle.model.specs.Sizes.{node_count};
+ghost use Rattle.commit.specs.Prefix.{flags_of, note_step, insert_step, commit_step};
+ghost use Rattle.answers.specs.Step.{Gives};
 
+use answers::answer::{Accepted, Refusal};
 use committed_prefix::committed::{agree_through, committed_prefix, keep, set_unseen};
-use log_violation::violation::{FindingsFull, note_in};
+use log_violation::violation::note_in;
 use prefix_lookup::lookup::front_through;
 use prefix_rows::prefixes::through;
 use storage::head::{owner, set_committed};
@@ -36,13 +38,9 @@ fn flags(owner: NodeId, node: NodeId) -> usize
 
 // A difference through the shorter end adds LG-04 and changes nothing else. The finding is noted in place: it is the only one.
 #[tactic(auto, using(storage::proofs::WellFormed::findings_fit))]
-fn note_difference(
-    history: &mut History,
-    node: NodeId,
-    end: LogIndex,
-) -> Result<usize, FindingsFull>
+fn note_difference(history: &mut History, node: NodeId, end: LogIndex) -> Result<Accepted, Refusal>
     requires { (well_formed history.old ≡ true) × (node.0 < node_count) }
-    ensures { Noted history.old node.0 end.0 result history.new }
+    ensures { Gives (note_step history.old node.0 end.0) result history.new }
 {
     let lg04 = Found {
         name: LG_04,
@@ -52,7 +50,7 @@ fn note_difference(
     };
     note_in(history, lg04)?;
     set_unseen(history, node, None);
-    Ok(0)
+    Ok(Accepted::with(0))
 }
 
 // The prefix seen is compared with the committed one; a longer one replaces it.
@@ -62,9 +60,9 @@ fn insert_committed_prefix(
     node: NodeId,
     committed: LogPrefixWitness,
     seen: LogPrefixWitness,
-) -> Result<usize, FindingsFull>
+) -> Result<Accepted, Refusal>
     requires { (well_formed history.old ≡ true) × (node.0 < node_count) × (committed.0 ≤ prefixes_held history.old) × (seen.0 ≤ prefixes_held history.old) }
-    ensures { Inserted history.old node.0 committed.0 seen.0 result history.new }
+    ensures { Gives (insert_step history.old node.0 committed.0 seen.0) result history.new }
 {
     let prefixes = PREFIXES.array(history);
     let committed_end = through(prefixes, committed);
@@ -79,7 +77,7 @@ fn insert_committed_prefix(
     if committed_end < seen_end {
         set_committed(history, seen, node);
     }
-    Ok(sum)
+    Ok(Accepted::with(sum))
 }
 
 // A node's commit index: the committed prefix that it shows is unseen, kept, or compared. The sum of its flags: 1 for agreement
@@ -88,21 +86,21 @@ pub fn observe_committed_prefixes(
     history: &mut History,
     node: NodeId,
     index: LogIndex,
-) -> Result<usize, FindingsFull>
+) -> Result<Accepted, Refusal>
     requires { (well_formed history.old ≡ true) × (node.0 < node_count) }
-    ensures { Observed history.old node.0 index.0 result history.new }
+    ensures { Gives (commit_step history.old node.0 index.0) result history.new }
 {
     let Some(seen) = front_through(Stored { bytes: &*history }, node, index) else {
         set_unseen(history, node, Some(index));
-        return Ok(0);
+        return Ok(Accepted::with(0));
     };
     if seen == LogPrefixWitness::EMPTY {
         set_unseen(history, node, None); // index zero does nothing more
-        return Ok(0);
+        return Ok(Accepted::with(0));
     }
     let Some(committed) = committed_prefix(history) else {
         keep(history, node, seen);
-        return Ok(0);
+        return Ok(Accepted::with(0));
     };
     insert_committed_prefix(history, node, committed, seen)
 }

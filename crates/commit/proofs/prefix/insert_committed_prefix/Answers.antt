@@ -9,7 +9,7 @@ use Prim.Native.Nat.{◌≤◌, ◌<◌, min}
 use borrow.Author.Rules.{rules}
 use mathlib.Core.Path.{◌≡◌, sym, ◌∙◌}
 use Rattle.commit.proofs.prefix.insert_committed_prefix.Goals as goal
-use Rattle.commit.proofs.prefix.insert_committed_prefix.Goals.{After-min-end}
+use Rattle.commit.proofs.prefix.insert_committed_prefix.Goals.{After-min-end, then-lt, else-lt}
 
 -- the ends as they were read: the shorter one, and which prefix is longer
 shorter_end : (c : After-min-end) → c.min-end.result.0 ≡ end_in c.args.history.now c.args.committed.0 c.args.seen.0
@@ -25,16 +25,16 @@ returns-then-not-agree_through c =
     let read = (goal.at.returns-then-not-agree_through c).After-min-end in
     insert_differs _ _ _ _ _ (shorter_end read) _ c.agree_through.ensures c.if-not-agree_through.true _ _ c.note_difference.ensures
 
-pub returns-then-lt : goal.returns-then-lt
-returns-then-lt c =
-    let read = (goal.at.returns-then-lt c).After-min-end in
-    let longer : c.through-committed_end.result.0 < c.through-seen_end.result.0 = search rules in
-    insert_longer _ _ _ _ _ (shorter_end read) _ c.agree_through.ensures c.if-not-agree_through.false _ _ c.owner-former.ensures.is c.flags-sum.ensures _ c.set_unseen.ensures
-    (is_longer read ∙ lt-ltb _ _ longer) _ c.set_committed.ensures
-
-pub returns-else-lt : goal.returns-else-lt
-returns-else-lt c =
-    let read = (goal.at.returns-else-lt c).After-min-end in
-    let shorter : c.through-seen_end.result.0 ≤ c.through-committed_end.result.0 = search rules in
-    insert_shorter _ _ _ _ _ (shorter_end read) _ c.agree_through.ensures c.if-not-agree_through.false _ _ c.owner-former.ensures.is c.flags-sum.ensures _ c.set_unseen.ensures
-    (is_longer read ∙ le-ltb _ _ shorter)
+pub returns : goal.returns
+returns c =
+    let read = (goal.at.returns c).After-min-end in
+    elim c.if-lt.branch [
+    | then-lt w ↦
+        let longer : c.through-committed_end.result.0 < c.through-seen_end.result.0 = search rules in
+        insert_longer _ _ _ _ _ (shorter_end read) _ c.agree_through.ensures c.if-not-agree_through.false _ _ c.owner-former.ensures.is c.flags-sum.ensures _ c.set_unseen.ensures
+        _ c.with.ensures (is_longer read ∙ lt-ltb _ _ longer) _ (w.history-is ∙ w.set_committed.ensures)
+    | else-lt w ↦
+        let shorter : c.through-seen_end.result.0 ≤ c.through-committed_end.result.0 = search rules in
+        insert_shorter _ _ _ _ _ (shorter_end read) _ c.agree_through.ensures c.if-not-agree_through.false _ _ c.owner-former.ensures.is c.flags-sum.ensures _ c.set_unseen.ensures
+        _ c.with.ensures (is_longer read ∙ le-ltb _ _ shorter) _ w.history-is
+    ]

@@ -10,15 +10,15 @@ use Rattle.commit.proofs.prefix.observe_committed_prefixes.Goals as goal
 
 pub returns-in_default : goal.returns-in_default
 returns-in_default c =
-    observe_unseen _ _ _ _ c.front_through.ensures c.in_default.is _ c.set_unseen.ensures
+    observe_unseen _ _ _ _ c.front_through.ensures _ _ c.in_default.is c.with.ensures c.set_unseen.ensures
 
 pub returns-then-eq : goal.returns-then-eq
 returns-then-eq c =
-    observe_zero _ _ _ _ c.front_through.ensures _ c.in-Some.is (eqb-true _ _ (sym c.if-eq.ensures)) _ c.set_unseen-then-eq.ensures
+    observe_zero _ _ _ _ c.front_through.ensures _ _ _ c.in-Some.is (eqb-true _ _ (sym c.if-eq.ensures)) c.with-then-eq.ensures c.set_unseen-then-eq.ensures
 
 pub returns-in_default-committed_prefix : goal.returns-in_default-committed_prefix
 returns-in_default-committed_prefix c =
-    observe_first _ _ _ _ c.front_through.ensures _ c.in-Some.is (eqb-false _ _ (sym c.if-eq.ensures)) _ c.committed_prefix.ensures c.in_default-committed_prefix.is _ c.keep.ensures
+    observe_first _ _ _ _ c.front_through.ensures _ _ _ c.in-Some.is (eqb-false _ _ (sym c.if-eq.ensures)) _ c.committed_prefix.ensures c.in_default-committed_prefix.is c.with-in_default-committed_prefix.ensures c.keep.ensures
 
 pub insert_committed_prefix-requires : goal.insert_committed_prefix-requires
 insert_committed_prefix-requires c =
@@ -32,4 +32,4 @@ insert_committed_prefix-requires c =
 
 pub returns : goal.returns
 returns c =
-    observe_later _ _ _ _ c.front_through.ensures _ c.in-Some.is (eqb-false _ _ (sym c.if-eq.ensures)) _ c.committed_prefix.ensures _ c.in-Some-committed_prefix.is _ _ c.insert_committed_prefix.ensures
+    observe_later _ _ _ _ c.front_through.ensures _ _ _ c.in-Some.is (eqb-false _ _ (sym c.if-eq.ensures)) _ c.committed_prefix.ensures _ c.in-Some-committed_prefix.is c.insert_committed_prefix.ensures
