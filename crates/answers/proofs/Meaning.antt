@@ -18,17 +18,21 @@ use Rattle.answers.specs.declared.answer.Refusal as own
 use Rattle.answers.specs.Numbers.{modelled, node_number}
 use Rattle.answers.specs.Step.{Step, refusing}
 
--- to the record r, of bytes that stand for x, the step's answer is the model's, and its bytes stand for the history after it
-pub record Means (h : Bytes) (x : History) (r : Record) (s : Step) : Type 0 where
-  pub answers : modelled s.answer ≡ some (answer_unless x r (refusal x r))
-  pub stands : Stands s.bytes (after_unless x r (refusal x r))
+-- Where the model's refusal of the record r, or none, is o: of bytes that stand for x the step's answer is the model's, and its bytes stand
+-- for the history after it.
+pub record MeansUnder (o : Option Refusal) (h : Bytes) (x : History) (r : Record) (s : Step) : Type 0 where
+  pub answers : modelled s.answer ≡ some (answer_unless x r o)
+  pub stands : Stands s.bytes (after_unless x r o)
   -- a refused record leaves every byte
-  pub keeps : is_accepted (answer_unless x r (refusal x r)) ≡ false → s.bytes ≡ h
+  pub keeps : is_accepted (answer_unless x r o) ≡ false → s.bytes ≡ h
 
-module _ (h : Bytes) (x : History) (r : Record) where
+abbrev pub Means : Bytes → History → Record → Step → Type 0
+Means h x r s = MeansUnder (refusal x r) h x r s
+
+module _ {o : Option Refusal} (h : Bytes) (x : History) (r : Record) where
   -- where the model does not refuse the record
-  pub accepts : (a : Accepted) (h' : Bytes) → refusal x r ≡ none → model.accepted a.value (node_number a.node) ≡ model.accepted (value x r) (failing_node r)
-      → Stands h' (effect x r) → Means h x r (record { answer = Ok a; bytes = h' })
+  pub accepts : (a : Accepted) (h' : Bytes) → o ≡ none → model.accepted a.value (node_number a.node) ≡ model.accepted (value x r) (failing_node r)
+      → Stands h' (effect x r) → MeansUnder o h x r (record { answer = Ok a; bytes = h' })
   accepts a h' e q s =
       record {
         answers = ap some (q ∙ ap (answer_unless x r) (sym e));
@@ -37,11 +41,11 @@ module _ (h : Bytes) (x : History) (r : Record) where
       }
 
   -- where it does
-  pub refuses : (v : own.Refusal) (w : Refusal) → modelled (Err v) ≡ some (model.refused w) → Stands h x → refusal x r ≡ some w
-      → Means h x r (refusing v h)
+  pub refuses : (v : own.Refusal) (w : Refusal) → modelled (Err v) ≡ some (model.refused w) → Stands h x → o ≡ some w
+      → MeansUnder o h x r (refusing v h)
   refuses v w q s e =
       record {
-        answers = q ∙ ap (λ (o : Option Refusal). some (answer_unless x r o)) (sym e);
+        answers = q ∙ ap (λ (y : Option Refusal). some (answer_unless x r y)) (sym e);
         stands = subst (Stands h) (ap (after_unless x r) (sym e)) s;
         keeps = λ _. refl;
       }

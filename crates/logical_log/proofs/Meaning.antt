@@ -8,17 +8,17 @@ use mathlib.Core.Bool.{Bool, true, false, cond}
 use mathlib.Core.Logic.{inl, ⊎_elim}
 use mathlib.Core.List.Memᴰ
 use mathlib.Core.List.{List, [], ◌∷◌, Memᴰ}
-use mathlib.Core.Option.{Option, none, some}
+use mathlib.Core.Option.{none, some}
 use lib.Dec.{ltb}
 use lib.ListN.{length, get_or, set}
 use lib.Seq.{set-get_or}
 use borrow.Author.Tests.{lt-ltb, ltb-false}
-use Rattle.std.specs.Prelude.{Result, Ok, Err, ⊤}
+use Rattle.model.specs.Sizes.{Bytes}
 use Rattle.model.specs.Entry.{Entry, Prefix, prefixes, with_all}
-use Rattle.model.specs.Refusal.{Refusal, prefixesFull, findingsFull}
+use Rattle.model.specs.Refusal.{prefixesFull, findingsFull}
 use Rattle.model.specs.Record.{Shown, view, front, last_from, last_index}
-use Rattle.model.specs.History.{Finding, History, noted, with_node, with_findings, with_prefixes, with_views, with_unseen}
-use Rattle.model.specs.Answer.{Answer, accepted, refused}
+use Rattle.model.specs.History.{Finding, History, noted}
+use Rattle.model.proofs.Tests.{cond_cases, cond_true, cond_false}
 use Rattle.model.specs.View.{begun_by, mismatches, stored, view_findings, view_refusal, view_effect}
 use Rattle.model.specs.Sizes.{Bytes, node_count, index_limit, prefix_limit, finding_limit, term_end}
 use Rattle.record_scan.specs.Places.{Walk, first_entry, index_at, term_at, next_at, entries_at, items_at}
@@ -33,14 +33,15 @@ use Rattle.storage_bytes.proofs.ListLaws.{tabulate_length, tabulate_at, every_at
 use Rattle.storage.proofs.DecodeLaws.{NodeNamed, node_named, FindingNamed}
 use Rattle.storage.proofs.RowFacts.{resolve_count}
 use Rattle.storage.proofs.WellFormed.{rows_count, formed}
-use Rattle.storage.proofs.Meanings.{Stands, prefixes_is, findings_stored, findings_right, noted_right, kept, unseen_read, node_written}
-use Rattle.storage.proofs.Answered.{Means, accepts, refuses}
+use Rattle.storage.proofs.Meanings.{Stands, with_prefixes, with_node, with_findings, prefixes_is, findings_stored, findings_right, noted_right, kept, unseen_read, node_written}
+use Rattle.answers.proofs.Meaning.{MeansUnder, accepts, refuses}
+use Rattle.answers.specs.declared.answer.Refusal as own-refusal
+use Rattle.answers.specs.Step.{Step, accepting, refusing}
 use Rattle.view_writing.specs.Observation.{view_replaced}
-use Rattle.logical_log.specs.Observation.{view_written, observed, observed_bytes}
+use Rattle.logical_log.specs.Observation.{view_written, view_step}
 use Rattle.view_judging.specs.Judging.{other, is_remembered, note_of, lack_notes, front_at, ends_at, place_from, stored_notes, notes_from, place_in, missing_in, notes_in, held_in, table_in}
 use Rattle.log_prefix.specs.Extension.{written_bytes, written_count, written_number}
 use Rattle.log_violation.specs.Violation.{held_all, bytes_all}
-use Rattle.logical_log.specs.declared.observation.ViewRefusal.{ViewRefusal}
 use Rattle.log_prefix.proofs.Extend.{Fits, extend_all, extends_all}
 use Rattle.view_judging.proofs.Places.{Turn, gap, lost, more, turn, next, ends_gap, ends_lost, goes_on, stored_stays, stored_goes, walk_more}
 use Rattle.view_judging.proofs.Judge.{missing_made, notes_are}
@@ -50,35 +51,6 @@ use Rattle.log_violation.proofs.Kept.{findings_kept_lem}
 use Rattle.logical_log.proofs.Whole.{front_count, table_length}
 use Rattle.view_writing.proofs.Stored.{rows_good, rows_by_place}
 use Rattle.logical_log.proofs.Stored.{Sound, front_sound, Whole, front_stands}
-
--- ---- statement
-
--- the answer in the model's words
-abbrev pub refusal_is : Result ⊤ ViewRefusal → Option Refusal
-refusal_is (Ok v) = none
-refusal_is (Err ViewRefusal.PrefixesFull) = some prefixesFull
-refusal_is (Err ViewRefusal.FindingsFull) = some findingsFull
-
--- The answer to a view is the model's; an accepted one leaves bytes that stand for the model's effect, a refused one every byte.
-pub record ViewMeans (limit : ℕ) (h : Bytes) (x : History) (s : Bytes) (m node : ℕ) : Type 0 where
-  pub answers : refusal_is (observed limit h s m node) ≡ view_refusal limit x node (entries_at s first_entry m)
-  pub accepted : view_refusal limit x node (entries_at s first_entry m) ≡ none
-      → Stands (observed_bytes limit h s m node) (view_effect x node (entries_at s first_entry m))
-  pub refused : (r : Refusal) → view_refusal limit x node (entries_at s first_entry m) ≡ some r → observed_bytes limit h s m node ≡ h
-
--- For every well-formed history and every readable view. A limit past what the table holds counts as that.
-abbrev pub ViewsMean : Type 0
-ViewsMean =
-    (limit : ℕ) (h : Bytes) (x : History) (s : Bytes) (m node : ℕ)
-    → Stands h x → Walk s first_entry m → node < node_count → ViewMeans (min limit prefix_limit) h x s m node
-
--- ---- no refusal
-
--- a view that is not refused passed both tests
-neither_full : (a b : Bool) → cond a (some prefixesFull) (cond b (some findingsFull) none) ≡ none → (a ≡ false) × (b ≡ false)
-neither_full true b e = absurd (let z : ◌≡◌ {A = ℕ} 0 1 = cc in omega arith)
-neither_full false true e = absurd (let z : ◌≡◌ {A = ℕ} 0 1 = cc in omega arith)
-neither_full false false e = (refl, refl)
 
 -- ---- lists
 
@@ -205,48 +177,30 @@ module _ (limit : ℕ) (h : Bytes) (x : History) (s : Bytes) (m node : ℕ) (st 
       (λ b. lt-ltb finding_limit (held_in h s m node) (let c = b.0 in omega arith) ∙ sym (lt-ltb finding_limit (length (view_findings x node F)) b.1))
       holds
 
-  -- ---- the answer
+  -- ---- the tests, as the model makes them
 
-  answer_is : refusal_is (observed limit h s m node) ≡ view_refusal limit x node E
-  unfolding observed view_refusal
-  answer_is =
-      ap refusal_is (λ j. cond (ltb limit (total j)) (Err ViewRefusal.PrefixesFull) (cond (same_seven j) (Err ViewRefusal.FindingsFull) (Ok tt)))
-      ∙ three (ltb limit (length (stored x.prefixes F))) (ltb finding_limit (length (view_findings x node F)))
-    where
-      three : (a b : Bool) → refusal_is (cond a (Err ViewRefusal.PrefixesFull) (cond b (Err ViewRefusal.FindingsFull) (Ok tt))) ≡ cond a (some prefixesFull) (cond b (some findingsFull) none)
-      three true b = refl
-      three false true = refl
-      three false false = refl
+  abbrev many : Bool
+  many = ltb limit (length (stored x.prefixes F))
 
-  -- ---- the bytes
+  abbrev many_findings : Bool
+  many_findings = ltb finding_limit (length (view_findings x node F))
 
-  -- either refused with every byte as it was, or accepted and written
-  refused_bytes : (r : Refusal) → view_refusal limit x node E ≡ some r → observed_bytes limit h s m node ≡ h
-  unfolding view_refusal observed_bytes
-  refused_bytes r e =
-      (λ j. cond (ltb limit (total j)) h (cond (same_seven j) h (view_written h (prefixes_held h) s m node (table_in h s m node) (held_in h s m node))))
-      ∙ go (ltb limit (length (stored x.prefixes F))) (ltb finding_limit (length (view_findings x node F))) e
-    where
-      go : (a b : Bool) → cond a (some prefixesFull) (cond b (some findingsFull) none) ≡ some r
-          → cond a h (cond b h (view_written h (prefixes_held h) s m node (table_in h s m node) (held_in h s m node))) ≡ h
-      go true b q = refl
-      go false true q = refl
-      go false false q = absurd (let z : ◌≡◌ {A = ℕ} 0 1 = cc in omega arith)
+  abbrev written : Bytes
+  written = view_written h (prefixes_held h) s m node (table_in h s m node) (held_in h s m node)
+
+  step_is : view_step limit h s m node ≡ cond many (refusing own-refusal.Refusal.PrefixesFull h) (cond many_findings (refusing own-refusal.Refusal.FindingsFull h) (accepting 0 written))
+  unfolding view_step
+  step_is = λ j. cond (ltb limit (total j)) (refusing own-refusal.Refusal.PrefixesFull h) (cond (same_seven j) (refusing own-refusal.Refusal.FindingsFull h) (accepting 0 written))
+
+  refusal_is : view_refusal limit x node E ≡ cond many (some prefixesFull) (cond many_findings (some findingsFull) none)
+  unfolding view_refusal
+  refusal_is = refl
 
   pub record Fine : Type 0 where
     pub few : length (stored x.prefixes F) ≤ limit
     pub few_findings : length (view_findings x node F) ≤ finding_limit
-    pub bytes : observed_bytes limit h s m node ≡ view_written h (prefixes_held h) s m node (table_in h s m node) (held_in h s m node)
 
-  fine : view_refusal limit x node E ≡ none → Fine
-  unfolding view_refusal observed_bytes
-  fine e =
-      let p = neither_full (ltb limit (length (stored x.prefixes F))) (ltb finding_limit (length (view_findings x node F))) e in
-      record {
-        few = ltb-false limit (length (stored x.prefixes F)) p.0;
-        few_findings = ltb-false finding_limit (length (view_findings x node F)) p.1;
-        bytes = (λ j. cond ((ap (ltb limit) total ∙ p.0) j) h (cond ((same_seven ∙ p.1) j) h (view_written h (prefixes_held h) s m node (table_in h s m node) (held_in h s m node))));
-      }
+  -- ---- the bytes
 
   module _ (ok : Fine) where
     held_few : (held_in h s m node ≤ finding_limit) × (finding_rows (table_in h s m node) (held_in h s m node) ≡ view_findings x node F)
@@ -322,35 +276,32 @@ module _ (limit : ℕ) (h : Bytes) (x : History) (s : Bytes) (m node : ℕ) (st 
         (un j))
         (fi j)
 
-    accepted_bytes : Stands (observed_bytes limit h s m node) (view_effect x node E)
-    accepted_bytes = subst (λ (u : Bytes). Stands u (view_effect x node E)) (sym ok.bytes) (subst (Stands _) same_history third)
+    accepted_bytes : Stands written (view_effect x node E)
+    accepted_bytes = subst (Stands _) same_history third
 
-pub views_mean : ViewsMean
-views_mean limit h x s m node st w hn =
-    let most = min limit prefix_limit in
-    let hl : most ≤ prefix_limit = omega arith in
-    record {
-      answers = answer_is most h x s m node st w hn hl;
-      accepted = λ e. accepted_bytes most h x s m node st w hn hl (fine most h x s m node st w hn hl e);
-      refused = refused_bytes most h x s m node st w hn hl;
-    }
+  -- ---- the whole
 
--- ---- at document 01's limit, as the other kinds are stated
+  abbrev Meant : Step → Type 0
+  Meant t = MeansUnder (view_refusal limit x node E) h x (view node E) t
 
-abbrev pub view_reply : Result ⊤ ViewRefusal → Answer
-view_reply (Ok v) = accepted 0 0
-view_reply (Err ViewRefusal.PrefixesFull) = refused prefixesFull
-view_reply (Err ViewRefusal.FindingsFull) = refused findingsFull
+  room_means : many ≡ false → Meant (cond many_findings (refusing own-refusal.Refusal.FindingsFull h) (accepting 0 written))
+  room_means a =
+      let e = refusal_is ∙ cond_false many (some prefixesFull) _ a in
+      cond_cases Meant many_findings _ _
+      (λ b. refuses h x (view node E) own-refusal.Refusal.FindingsFull findingsFull refl st (e ∙ cond_true many_findings (some findingsFull) none b))
+      (λ b.
+      accepts h x (view node E) _ written (e ∙ cond_false many_findings (some findingsFull) none b) refl
+      (accepted_bytes (record { few = ltb-false limit (length (stored x.prefixes F)) a; few_findings = ltb-false 128 (length (view_findings x node F)) b })))
 
-by_answer : (h : Bytes) (x : History) (node : ℕ) (E : List Shown) (h' : Bytes) (r : Result ⊤ ViewRefusal) → Stands h x → refusal_is r ≡ view_refusal prefix_limit x node E
-    → (view_refusal prefix_limit x node E ≡ none → Stands h' (view_effect x node E)) → ((w : Refusal) → view_refusal prefix_limit x node E ≡ some w → h' ≡ h)
-    → Means h x (view node E) (view_reply r) h'
-by_answer h x node E h' (Ok v) st e a k = accepts h x (view node E) _ h' (sym e) refl (a (sym e))
-by_answer h x node E h' (Err ViewRefusal.PrefixesFull) st e a k = refuses h x (view node E) _ h' prefixesFull st (sym e) refl (k prefixesFull (sym e))
-by_answer h x node E h' (Err ViewRefusal.FindingsFull) st e a k = refuses h x (view node E) _ h' findingsFull st (sym e) refl (k findingsFull (sym e))
+  pub step_means : Meant (view_step limit h s m node)
+  step_means =
+      subst Meant (sym step_is)
+      (cond_cases Meant many _ _
+      (λ a. refuses h x (view node E) own-refusal.Refusal.PrefixesFull prefixesFull refl st (refusal_is ∙ cond_true many (some prefixesFull) _ a))
+      room_means)
 
-pub view_mean : (h : Bytes) (x : History) (s : Bytes) (m node : ℕ) → Stands h x → Walk s first_entry m → node < node_count
-    → Means h x (view node (entries_at s first_entry m)) (view_reply (observed prefix_limit h s m node)) (observed_bytes prefix_limit h s m node)
-view_mean h x s m node st w l =
-    let v = views_mean prefix_limit h x s m node st w l in
-    by_answer h x node (entries_at s first_entry m) _ (observed prefix_limit h s m node) st v.answers v.accepted v.refused
+-- For every well-formed history and every readable view, at every limit; one past what the table holds counts as that.
+pub view_means : (limit : ℕ) (h : Bytes) (x : History) (s : Bytes) (m node : ℕ) → Stands h x → Walk s first_entry m → node < node_count
+    → (let es = entries_at s first_entry m in
+    MeansUnder (view_refusal (min limit prefix_limit) x node es) h x (view node es) (view_step (min limit prefix_limit) h s m node))
+view_means limit h x s m node st w l = step_means (min limit prefix_limit) h x s m node st w l (omega arith)

@@ -3,13 +3,14 @@
 use Prim.Native.Nat.{ℕ, suc, ◌+◌, ◌-◌, ◌<◌, ◌≤◌}
 use native.Mathlib.Omega.{arith}
 use mathlib.Core.Path.{◌≡◌, refl, sym, ◌∙◌, ap, subst, subst₂}
-use mathlib.Core.Bool.{true, false}
+use mathlib.Core.Bool.{true, false, cond}
 use mathlib.Core.Logic.{inl, inr}
 use mathlib.Core.List.{List, [], ◌∷◌}
 use lib.Dec.{ltb, eqb}
 use lib.ListN.{length}
 use borrow.Author.Tests.{lt-ltb, le-ltb, eq-eqb}
-use Rattle.std.specs.Prelude.{Result, Ok, Err, ⊤}
+use Rattle.std.specs.Prelude.{Result, Err}
+use Rattle.model.specs.Sizes.{Bytes}
 use Rattle.model.specs.Entry.{Entry}
 use Rattle.model.specs.Record.{front}
 use Rattle.model.specs.Sizes.{Bytes, prefix_limit, finding_limit}
@@ -23,7 +24,7 @@ use Rattle.storage.proofs.WellFormed.{formed}
 use Rattle.prefix_lookup.specs.Prefix.{search_from, find}
 use Rattle.log_violation.specs.Violation.{findings_kept}
 use Rattle.view_writing.specs.Observation.{Storing, view_replaced, rest_written}
-use Rattle.logical_log.specs.Observation.{view_written, observed, observed_bytes}
+use Rattle.logical_log.specs.Observation.{view_written, view_step}
 use Rattle.view_judging.specs.Judging.{next_number, front_at, Stand, place_in, missing_in, notes_in, held_in, table_in, ViewJudged}
 use Rattle.log_prefix.specs.Extension.{next_index, extension_in, extended_bytes, extended_count, extended_number, written_count}
 use Rattle.record_walk.proofs.Views.{walked}
@@ -32,7 +33,11 @@ use Rattle.view_judging.proofs.Rest.{Rest, rest_of}
 use Rattle.view_judging.proofs.Judged.{place_in_ended, place_in_stands, missing_most}
 use Rattle.log_prefix.proofs.Written.{number_made, count_made}
 use Rattle.log_violation.proofs.ViolationLaws.{all_length, findings_long}
-use Rattle.logical_log.specs.declared.observation.ViewRefusal.{ViewRefusal}
+use Rattle.answers.specs.declared.answer.Accepted.{Accepted}
+use Rattle.answers.specs.declared.answer.Refusal.{Refusal}
+use Rattle.answers.specs.Numbers.{accepted_with}
+use Rattle.answers.specs.Step.{accepting, refusing, Gives}
+use Rattle.answers.proofs.StepLaws.{ends, accepts_with, refuses_with}
 use Rattle.view_judging.specs.declared.judging.Place.{Place}
 
 -- ---- room: as many are made as are missing
@@ -108,37 +113,31 @@ module _ {h s : Bytes} {m node missing held count : ℕ} {r : Place} {t : Bytes}
   pub total_small : count + missing ≤ 768
   total_small = (let a = total in let b = (formed h right).prefixes in let c = missing_most h s m (walked s first_entry m walk) in omega arith)
 
-  abbrev As : ℕ → Result ⊤ ViewRefusal → Bytes → Type 0
-  As limit r u = (r ≡ observed limit h s m node) × (u ≡ observed_bytes limit h s m node)
-
   -- told the limit as it was read
   module _ {most limit : ℕ} (em : most ≡ limit) where
-    pub observed_six : most < count + missing → As limit (Err ViewRefusal.PrefixesFull) h
-    unfolding observed observed_bytes
+    pub observed_six : most < count + missing → Gives (view_step limit h s m node) (Err Refusal.PrefixesFull) h
+    unfolding view_step
     observed_six l =
         let b : ltb limit (prefixes_held h + missing_in h s m) ≡ true = lt-ltb limit _ (subst₂ (λ (x y : ℕ). x < y) em total l) in
-        (sym (cond_true (ltb limit (prefixes_held h + missing_in h s m)) (Err ViewRefusal.PrefixesFull) _ b), sym (cond_true (ltb limit (prefixes_held h + missing_in h s m)) h _ b))
+        ends _ (refusing Refusal.PrefixesFull h) (cond_true (ltb limit (prefixes_held h + missing_in h s m)) _ _ b)
 
     module _ (l : count + missing ≤ most) where
-      no_six : ltb limit (prefixes_held h + missing_in h s m) ≡ false
-      no_six = le-ltb limit _ (subst₂ (λ (x y : ℕ). x ≤ y) total em l)
+      no_six : view_step limit h s m node
+          ≡ cond (ltb finding_limit (held_in h s m node)) (refusing Refusal.FindingsFull h) (accepting 0 (view_written h (prefixes_held h) s m node (table_in h s m node) (held_in h s m node)))
+      unfolding view_step
+      no_six = cond_false (ltb limit (prefixes_held h + missing_in h s m)) _ _ (le-ltb limit _ (subst₂ (λ (x y : ℕ). x ≤ y) total em l))
 
-      pub observed_seven : finding_limit < held → As limit (Err ViewRefusal.FindingsFull) h
-      unfolding observed observed_bytes
-      observed_seven g =
-          let b : ltb finding_limit (held_in h s m node) ≡ true = lt-ltb finding_limit _ (subst (λ (x : ℕ). finding_limit < x) j.holds g) in (
-            sym (cond_false (ltb limit (prefixes_held h + missing_in h s m)) (Err ViewRefusal.PrefixesFull) _ no_six ∙ cond_true (ltb finding_limit (held_in h s m node)) (Err ViewRefusal.FindingsFull) _ b),
-            sym (cond_false (ltb limit (prefixes_held h + missing_in h s m)) h _ no_six ∙ cond_true (ltb finding_limit (held_in h s m node)) h _ b),
-          )
+      pub observed_seven : finding_limit < held → (q : Result Accepted Refusal) → q ≡ Err Refusal.FindingsFull → Gives (view_step limit h s m node) q h
+      observed_seven g q eq =
+          let b : ltb finding_limit (held_in h s m node) ≡ true = lt-ltb finding_limit _ (subst (λ (x : ℕ). finding_limit < x) j.holds g) in
+          refuses_with _ h Refusal.FindingsFull (no_six ∙ cond_true (ltb finding_limit (held_in h s m node)) _ _ b) q eq h refl
 
-      pub observed_ok : held ≤ finding_limit → (u : Bytes) → u ≡ rest_written h count s r node t held → As limit (Ok tt) u
-      unfolding observed observed_bytes
-      observed_ok g u w =
-          let b : ltb finding_limit (held_in h s m node) ≡ false = le-ltb finding_limit _ (subst (λ (x : ℕ). x ≤ finding_limit) j.holds g) in (
-            sym (cond_false (ltb limit (prefixes_held h + missing_in h s m)) (Err ViewRefusal.PrefixesFull) _ no_six ∙ cond_false (ltb finding_limit (held_in h s m node)) (Err ViewRefusal.FindingsFull) _ b),
-            w ∙ (λ i. rest_written h (e i) s (j.place i) node (j.table i) (j.holds i)) ∙ rest_written_lem h s m node _ _ rest
-                ∙ sym (cond_false (ltb limit (prefixes_held h + missing_in h s m)) h _ no_six ∙ cond_false (ltb finding_limit (held_in h s m node)) h _ b),
-          )
+      pub observed_ok : held ≤ finding_limit → (q : Result Accepted Refusal) → q ≡ accepted_with 0 → (u : Bytes) → u ≡ rest_written h count s r node t held
+          → Gives (view_step limit h s m node) q u
+      observed_ok g q eq u w =
+          let b : ltb finding_limit (held_in h s m node) ≡ false = le-ltb finding_limit _ (subst (λ (x : ℕ). x ≤ finding_limit) j.holds g) in
+          accepts_with _ _ 0 (no_six ∙ cond_false (ltb finding_limit (held_in h s m node)) _ _ b) q eq u
+          (w ∙ (λ i. rest_written h (e i) s (j.place i) node (j.table i) (j.holds i)) ∙ rest_written_lem h s m node _ _ rest)
 
       -- there is room for what is missing
       pub observed_room : limit ≤ prefix_limit → Storing h count s r

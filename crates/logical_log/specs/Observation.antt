@@ -1,21 +1,18 @@
 -- Observation of a view: what a judged view is answered, and the bytes after it.
 -- Assumes nothing.
-use Rattle.std.specs.Prelude.{ℕ, ◌+◌, cond, ltb, Result, Ok, Err, ⊤}
+use Rattle.std.specs.Prelude.{ℕ, ◌+◌, cond, ltb}
+use Rattle.model.specs.Sizes.{Bytes}
 use Rattle.model.specs.Record.{front, last_index}
 use Rattle.model.specs.Sizes.{Bytes, finding_limit}
 use Rattle.record_scan.specs.Places.{first_entry, entries_at}
-use Rattle.logical_log.specs.declared.observation.ViewRefusal.{ViewRefusal}
+use Rattle.storage_bytes.specs.Words.{word_at}
 use Rattle.answers.specs.declared.answer.Refusal.{Refusal}
+use Rattle.answers.specs.Step.{Step, accepting, refusing}
 use Rattle.log_prefix.specs.Extension.{written_bytes, written_number}
 use Rattle.view_judging.specs.Judging.{missing_in, held_in, table_in}
 use Rattle.log_violation.specs.Violation.{findings_kept}
 use Rattle.view_writing.specs.Observation.{view_replaced}
 use Rattle.storage.specs.Head.{prefixes_held}
-
--- the refusal of a record
-abbrev pub refusal_of : ViewRefusal → Refusal
-refusal_of ViewRefusal.PrefixesFull = Refusal.PrefixesFull
-refusal_of ViewRefusal.FindingsFull = Refusal.FindingsFull
 
 -- ---- a view as a whole
 
@@ -27,14 +24,9 @@ view_written h n s m node t held =
     findings_kept (view_replaced (written_bytes h n 0 1 (front es)) node (written_number h n 0 1 (front es)) (last_index es)) t held
 
 -- 6 before 7, each before anything is written
-unfoldable pub observed : ℕ → Bytes → Bytes → ℕ → ℕ → Result ⊤ ViewRefusal
-unfolding missing_in held_in
-observed limit h s m node =
-    cond (ltb limit (prefixes_held h + missing_in h s m)) (Err ViewRefusal.PrefixesFull) (cond (ltb finding_limit (held_in h s m node)) (Err ViewRefusal.FindingsFull) (Ok tt))
-
--- the history after it
-unfoldable pub observed_bytes : ℕ → Bytes → Bytes → ℕ → ℕ → Bytes
+unfoldable pub view_step : ℕ → Bytes → Bytes → ℕ → ℕ → Step
 unfolding missing_in held_in table_in view_written
-observed_bytes limit h s m node =
-    cond (ltb limit (prefixes_held h + missing_in h s m)) h
-    (cond (ltb finding_limit (held_in h s m node)) h (view_written h (prefixes_held h) s m node (table_in h s m node) (held_in h s m node)))
+view_step limit h s m node =
+    cond (ltb limit (prefixes_held h + missing_in h s m)) (refusing Refusal.PrefixesFull h)
+    (cond (ltb finding_limit (held_in h s m node)) (refusing Refusal.FindingsFull h)
+    (accepting 0 (view_written h (prefixes_held h) s m node (table_in h s m node) (held_in h s m node))))

@@ -25,9 +25,8 @@ pub returns-in_err-fits : goal.returns-in_err-fits
 returns-in_err-fits c =
     let m : c.min-most.result ≡ min c.args.limit prefix_limit = search rules in
     let p = err_from_is_err_and c.from_residual.result c.from_residual.ensures.1 in
-    let q = observed_seven c.requires c.args.view.walk c.judge_view-judged.ensures c.prefix_count-count.ensures.is m c.if-most-total.false
-    (over_limit _ _ c.fits.ensures _ c.in_err-fits.was) in
-    (p.1 ∙ ap Err p.2 ∙ q.0, q.1)
+    observed_seven c.requires c.args.view.walk c.judge_view-judged.ensures c.prefix_count-count.ensures.is m c.if-most-total.false
+    (too_many _ _ c.fits.ensures _ c.in_err-fits.was) _ (p.1 ∙ ap Err p.2)
 
 pub write_view-requires : goal.write_view-requires
 write_view-requires c =
@@ -40,4 +39,4 @@ pub returns : goal.returns
 returns c =
     let m : c.min-most.result ≡ min c.args.limit prefix_limit = search rules in
     observed_ok c.requires c.args.view.walk c.judge_view-judged.ensures c.prefix_count-count.ensures.is m c.if-most-total.false
-    (in_limit _ _ c.fits.ensures _ c.in_ok-fits.was) _ c.write_view.ensures
+    (in_limit _ _ c.fits.ensures _ c.in_ok-fits.was) _ c.with.ensures _ c.write_view.ensures
