@@ -1,46 +1,54 @@
 -- What recording an election means: of bytes that stand for a history the answer is the model's, and the bytes after it stand for
 -- the model's history after it.
 -- Assumes nothing.
-use Prim.Native.Nat.{ℕ, ◌^◌, ◌<◌}
-use mathlib.Core.Path.{◌≡◌, refl, ap, sym, ◌∙◌, subst}
-use mathlib.Core.Bool.{Bool, false}
+use Rattle.model.specs.Sizes.{Bytes, node_count}
+use Prim.Native.Nat.{ℕ, ◌^◌, ◌<◌, ◌≤◌}
+use mathlib.Core.Path.{◌≡◌, refl, sym, subst}
+use mathlib.Core.Bool.{Bool, true, false}
+use mathlib.Core.Logic.{⊎_elim}
+use lib.ListN.{length, take}
+use borrow.Author.Tests.{leb-false}
+use Rattle.model.specs.Sizes.{Bytes}
 use Rattle.model.specs.Refusal.{lengthExceedsFront, certificatesFull, numberTaken}
 use Rattle.model.specs.Record.{election}
-use Rattle.model.specs.History.{History}
-use Rattle.model.specs.Answer.{Answer, accepted, refused}
-use Rattle.model.specs.Election.{election_refusal, election_effect}
-use Rattle.model.specs.Sizes.{Bytes, node_count}
+use Rattle.model.specs.History.{History, front_of}
+use Rattle.storage_bytes.specs.Words.{word_at}
+use Rattle.storage.specs.Decode.{prefix_at}
 use Rattle.storage.proofs.Meanings.{Stands}
-use Rattle.storage.proofs.Answered.{Means, accepts, refuses}
-use Rattle.std.specs.Prelude.{Result, Ok, Err, is_ok, ⊤}
-use Rattle.election.specs.declared.certificate.ElectionRefusal.{ElectionRefusal}
-use Rattle.election.specs.Certify.{Recorded}
-use Rattle.election.proofs.Effects.{refusal_of, refusal_is, effect_stands, bytes_left}
+use Rattle.prefix_lookup.specs.Prefix.{witness}
+use Rattle.prefix_lookup.proofs.Fronts.{front_cut}
+use Rattle.certificate_order.specs.Order.{taken_of}
+use Rattle.answers.specs.declared.answer.Refusal.{Refusal}
+use Rattle.answers.specs.Step.{Step}
+use Rattle.answers.proofs.Meaning.{Means, accepts, refuses}
+use Rattle.std.specs.Prelude.{Some}
+use Rattle.election.specs.Certify.{full_in, step_of, election_step}
+use Rattle.election.proofs.Effects.{cs, place, number, found, numbering_same, model_beyond, model_within, kept_stands}
 
--- the answer in the model's words
-abbrev pub election_reply : Result ⊤ ElectionRefusal → Answer
-election_reply (Ok x) = accepted 0 0
-election_reply (Err ElectionRefusal.LengthExceedsFront) = refused lengthExceedsFront
-election_reply (Err ElectionRefusal.CertificatesFull) = refused certificatesFull
-election_reply (Err ElectionRefusal.NumberTaken) = refused numberTaken
+module _ (h : Bytes) (x : History) (s : Stands h x) (l t : ℕ) (p : Bool) (n : ℕ) (leads : l < node_count) (fits : t < 2 ^ 32) where
+  abbrev Meant : Step → Type 0
+  Meant = Means h x (election l t p n)
 
-module _ (h : Bytes) (x : History) (s : Stands h x) (l t : ℕ) (p : Bool) (n : ℕ) (h' : Bytes) where
-  abbrev As : Result ⊤ ElectionRefusal → Type 0
-  As r = Means h x (election l t p n) (election_reply r) h'
+  -- the first n entries of the leader's front are the stored prefix q
+  module _ (q : ℕ) (stored : q ≤ prefixes_held h) (log : prefix_at x.prefixes q ≡ take n (front_of x l)) (w : n ≤ length (front_of x l)) where
+    within : (a b : Bool) → full_in h ≡ a → taken_of t (number h x s t) (cs h x s) ≡ b
+        → Meant (step_of h l t p (Some (witness q)) a (found b (place h x s t) (number h x s t)))
+    within true b f g = refuses h x _ Refusal.CertificatesFull certificatesFull refl s (model_within h x s l t n w true b f g)
+    within false true f g = refuses h x _ Refusal.NumberTaken numberTaken refl s (model_within h x s l t n w false true f g)
+    within false false f g =
+        accepts h x _ _ _ (model_within h x s l t n w false false f g) refl
+        (kept_stands h x s l t p n leads fits q stored log (leb-false 64 (certificates_held h) f))
 
-  by_answer : (r : Result ⊤ ElectionRefusal) → refusal_of r ≡ election_refusal x l t n → (r ≡ Ok tt → Stands h' (election_effect x l t p n))
-      → (is_ok r ≡ false → h' ≡ h) → As r
-  by_answer (Ok y) e a k = accepts h x (election l t p n) _ h' (sym e) refl (a refl)
-  by_answer (Err ElectionRefusal.LengthExceedsFront) e a k = refuses h x (election l t p n) _ h' lengthExceedsFront s (sym e) refl (k refl)
-  by_answer (Err ElectionRefusal.CertificatesFull) e a k = refuses h x (election l t p n) _ h' certificatesFull s (sym e) refl (k refl)
-  by_answer (Err ElectionRefusal.NumberTaken) e a k = refuses h x (election l t p n) _ h' numberTaken s (sym e) refl (k refl)
-
--- "9 when length exceeds the leader's front, 10 when 64 are held, 11 when its number within its term is taken, in this order.
--- Else a certificate": what `record_election` promises is what the model says, of any leader and any term of 32 bits
-pub election_recorded : (h : Bytes) (x : History) → Stands h x → (l t : ℕ) (p : Bool) (n : ℕ) → l < node_count → t < 2 ^ 32
-    → (r : Result ⊤ ElectionRefusal) (h' : Bytes) → Recorded h l t p n r h'
-    → Means h x (election l t p n) (election_reply r) h'
-election_recorded h x s l t p n leads fits r h' d =
-    by_answer h x s l t p n h' r (ap refusal_of d.answer ∙ refusal_is h x s l t p n leads fits)
-    (λ e. subst (λ (y : Bytes). Stands y (election_effect x l t p n)) (sym d.bytes) (effect_stands h x s l t p n leads fits (sym d.answer ∙ e)))
-    (λ f. d.bytes ∙ bytes_left h l t p n (ap is_ok (sym d.answer) ∙ f))
+  -- "9 when length exceeds the leader's front, 10 when 64 are held, 11 when its number within its term is taken, in this order.
+  -- Else a certificate": what `record_election` promises is what the model says, of any leader and any term of 32 bits
+  pub election_means : Means h x (election l t p n) (election_step h l t p n)
+  unfolding election_step
+  election_means =
+      ⊎_elim
+      (λ c.
+      subst Meant (sym (λ i. step_of h l t p (c.0 i) (full_in h) (numbering_same h x s t i)))
+      (refuses h x _ Refusal.LengthExceedsFront lengthExceedsFront refl s (model_beyond h x s l t n c.1)))
+      (λ c.
+      subst Meant (sym (λ i. step_of h l t p (c.told i) (full_in h) (numbering_same h x s t i)))
+      (within c.part c.within c.first c.reaches _ _ refl refl))
+      (front_cut h x s l leads n)

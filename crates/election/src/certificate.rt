@@ -3,50 +3,19 @@
 ghost use Rattle.std.specs.Prelude.{◌≡◌, ◌<◌, true, is_some, unwrap_or};
 ghost use Rattle.storage.specs.Rules.{well_formed};
 ghost use Rattle.certificate_rows.specs.Values.{certificate_value};
-ghost use Rattle.election.specs.Certify.{refusal_of, kept, Recorded};
-ghost use Rattle.election.specs.declared.certificate.ElectionRefusal.{ElectionRefusal};
 ghost use Rattle.model.specs.Sizes.{node_count};
+ghost use Rattle.election.specs.Certify.{kept, election_step};
+ghost use Rattle.answers.specs.Step.{Gives};
 
-use answers::answer::Refusal;
+use answers::answer::{Accepted, Refusal};
 use certificate_rows::certificates::{Certificate, add_certificate};
-use election_judging::judging::{NumberTaken, number_in_term};
+use election_judging::judging::number_in_term;
 use prefix_lookup::lookup::front_through;
 use records::head::Election;
 use storage::head::certificate_count;
 use storage::stored::Stored;
 use storage_bytes::layout::History;
 use units::{CERTIFICATE_LIMIT, LogIndex, LogPrefixWitness};
-
-// Why an election is refused. An enum of its own, so that a contract rules every other refusal out.
-#[derive(Clone, Copy, PartialEq, Eq)]
-pub enum ElectionRefusal {
-    // 9: the length exceeds the leader's front.
-    LengthExceedsFront,
-    // 10: 64 certificates are held.
-    CertificatesFull,
-    // 11: its number within its term is taken.
-    NumberTaken,
-}
-
-impl From<NumberTaken> for ElectionRefusal {
-    ghost from_gives = { λ _ e. e ≡ ElectionRefusal.NumberTaken };
-
-    fn from(_e: NumberTaken) -> ElectionRefusal {
-        Self::NumberTaken
-    }
-}
-
-impl From<ElectionRefusal> for Refusal {
-    ghost from_gives = { λ e r. r ≡ refusal_of e };
-
-    fn from(r: ElectionRefusal) -> Refusal {
-        match r {
-            ElectionRefusal::LengthExceedsFront => Refusal::LengthExceedsFront,
-            ElectionRefusal::CertificatesFull => Refusal::CertificatesFull,
-            ElectionRefusal::NumberTaken => Refusal::NumberTaken,
-        }
-    }
-}
 
 // A new certificate: nothing of its log is checked yet.
 fn new_certificate(e: Election, number: usize, log: LogPrefixWitness) -> Certificate
@@ -64,19 +33,19 @@ fn new_certificate(e: Election, number: usize, log: LogPrefixWitness) -> Certifi
 // An election of the leader in the term, with the first `length` entries of its front where its log is present: 9, then 10,
 // then 11, else the certificate is put in its place.
 #[tactic(auto, using(crate::proofs::Turns::place_fits))]
-pub fn record_election(history: &mut History, e: Election) -> Result<(), ElectionRefusal>
+pub fn record_election(history: &mut History, e: Election) -> Result<Accepted, Refusal>
     requires { (well_formed history.old ≡ true) × (e.leader.0 < node_count) }
-    ensures { Recorded history.old e.leader.0 e.term.0 (is_some e.length) (unwrap_or e.length 0) result history.new }
+    ensures { Gives (election_step history.old e.leader.0 e.term.0 (is_some e.length) (unwrap_or e.length 0)) result history.new }
 {
     let end = LogIndex(e.length.unwrap_or(0)); // an absent log is no longer than any front
     let Some(log) = front_through(Stored { bytes: &*history }, e.leader, end) else {
-        return Err(ElectionRefusal::LengthExceedsFront);
+        return Err(Refusal::LengthExceedsFront);
     };
     if CERTIFICATE_LIMIT <= certificate_count(history) {
-        return Err(ElectionRefusal::CertificatesFull);
+        return Err(Refusal::CertificatesFull);
     }
     let next = number_in_term(Stored { bytes: &*history }, e.term)?;
     let c = new_certificate(e, next.number, log);
     add_certificate(history, next.place, c);
-    Ok(())
+    Ok(Accepted::with(0))
 }

@@ -2,7 +2,9 @@
 // is taken (11).
 ghost use Rattle.std.specs.Prelude.{◌≡◌};
 ghost use Rattle.election_judging.specs.Certify.{numbering_in};
+ghost use Rattle.answers.specs.declared.answer.Refusal.{Refusal};
 
+use answers::answer::Refusal;
 use certificate_order::order::{held_of, is_taken, place_of};
 use storage::head::certificate_count;
 use storage::stored::Stored;
@@ -19,6 +21,14 @@ pub struct Numbering {
 // One of the term has the number: refusal 11.
 #[derive(Clone, Copy, PartialEq, Eq)]
 pub struct NumberTaken;
+
+impl From<NumberTaken> for Refusal {
+    ghost from_gives = { λ _ r. r ≡ Refusal.NumberTaken };
+
+    fn from(_e: NumberTaken) -> Refusal {
+        Refusal::NumberTaken
+    }
+}
 
 // The place and the number are found once. The number is how many the term holds.
 #[tactic(auto, using(storage::proofs::WellFormed::certificates_fit, crate::proofs::Turns::place_fits, crate::proofs::Turns::number_fits))]

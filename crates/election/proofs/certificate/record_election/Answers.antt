@@ -1,6 +1,7 @@
 -- `election::certificate::record_election` meets its contract: each exit is a law of the ways an election goes.
 -- Assumes nothing.
 use Rattle.std.proofs.lemmas.Result.{err_from_is_err_and}
+use Rattle.answers.proofs.StepLaws.{told}
 use Rattle.election.proofs.Turns.{beyond, full, taken, accepted}
 use mathlib.Core.Path.{◌∙◌, ap}
 use Rattle.std.specs.Prelude.{Err}
@@ -17,10 +18,13 @@ returns-then-certificate_count-ge-CERTIFICATE_LIMIT c =
 pub returns-in_err-next : goal.returns-in_err-next
 returns-in_err-next c =
     let p = err_from_is_err_and c.from_residual.result c.from_residual.ensures.1 in
-    taken _ _ _ _ _ _ (rw c.unwrap_or.ensures at c.front_through.ensures) _ c.in-Some.is _ c.certificate_count.ensures.is c.if-certificate_count-ge-CERTIFICATE_LIMIT.false _
-    c.number_in_term.ensures _ c.in_err-next.was _ (p.1 ∙ ap Err p.2)
+    told _ _ (p.1 ∙ ap Err p.2)
+    (taken _ _ _ _ _ _ (rw c.unwrap_or.ensures at c.front_through.ensures) _ c.in-Some.is _ c.certificate_count.ensures.is
+    c.if-certificate_count-ge-CERTIFICATE_LIMIT.false _ c.number_in_term.ensures _ c.in_err-next.was)
 
 pub returns : goal.returns
 returns c =
-    accepted _ _ _ _ _ _ (rw c.unwrap_or.ensures at c.front_through.ensures) _ c.in-Some.is _ c.certificate_count.ensures.is c.if-certificate_count-ge-CERTIFICATE_LIMIT.false _
-    c.number_in_term.ensures _ c.in_ok-next.was _ c.new_certificate-c.ensures _ c.add_certificate.ensures
+    told _ _ c.with.ensures
+    (accepted _ _ _ _ _ _ (rw c.unwrap_or.ensures at c.front_through.ensures) _ c.in-Some.is _ c.certificate_count.ensures.is
+    c.if-certificate_count-ge-CERTIFICATE_LIMIT.false _ c.number_in_term.ensures _ c.in_ok-next.was
+    _ c.new_certificate-c.ensures _ c.add_certificate.ensures)
