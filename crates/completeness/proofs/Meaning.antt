@@ -3,7 +3,7 @@
 -- Assumes nothing.
 use Prim.Native.Nat.{ℕ, ◌<◌, ◌≤◌}
 use native.Mathlib.Omega.{arith}
-use mathlib.Core.Path.{◌≡◌, sym, ◌∙◌, ap, subst, subst₂}
+use mathlib.Core.Path.{◌≡◌, refl, sym, ◌∙◌, ap, subst}
 use mathlib.Core.Bool.{true, cond}
 use mathlib.Core.Logic.{inl, ⊎_elim}
 use mathlib.Core.List.{List, [], map, Memᴰ}
@@ -11,13 +11,13 @@ use mathlib.Core.Option.{none, some}
 use lib.Dec.{ltb}
 use lib.ListN.{length}
 use borrow.Author.Tests.{lt-ltb, le-ltb}
-use Rattle.std.specs.Prelude.{Result, Ok, Err}
+use Rattle.model.specs.Sizes.{Bytes}
 use Rattle.model.specs.Refusal.{findingsFull}
 use Rattle.model.specs.Record.{check}
 use Rattle.model.specs.History.{Finding, Certificate, History, noted, with_certificates, with_findings}
 use Rattle.model.specs.Check.{moved, lackings, some_relevant, check_findings, check_refusal, check_value, check_effect}
-use Rattle.model.specs.Answer.{refusal}
 use Rattle.model.specs.Sizes.{Bytes, finding_limit}
+use Rattle.model.specs.Answer.{accepted, refusal}
 use Rattle.model.proofs.Tests.{cond_true, cond_false}
 use Rattle.storage_bytes.specs.Lists.{every}
 use Rattle.storage_bytes.specs.Layout.{findings_length}
@@ -26,17 +26,17 @@ use Rattle.storage.specs.Decode.{prefix_at}
 use Rattle.storage.specs.Rules.{finding_right}
 use Rattle.storage_bytes.proofs.ListLaws.{tabulate_length}
 use Rattle.storage.proofs.DecodeLaws.{CertificateNamed}
-use Rattle.storage.proofs.Meanings.{Stands, certificates_stored, findings_stored, committed_stored, findings_right, noted_right, end_is}
-use Rattle.storage.proofs.Answered.{Means, accepts, refuses}
+use Rattle.storage.proofs.Meanings.{Stands, with_certificates, with_findings, certificates_stored, findings_stored, committed_stored, findings_right, noted_right, end_is}
+use Rattle.answers.specs.declared.answer.Refusal.{Refusal}
+use Rattle.answers.specs.Step.{accepting}
+use Rattle.answers.proofs.Meaning.{Means, accepts, refuses}
 use Rattle.log_violation.proofs.Kept.{findings_kept_lem}
 use Rattle.log_violation.proofs.ViolationLaws.{Holds, all_hold, all_length, findings_long}
-use Rattle.log_violation.specs.declared.violation.FindingsFull.{FindingsFull}
-use Rattle.log_violation.specs.Violation.{too_many}
 use Rattle.storage.specs.Values.{certificates_of, committed_end}
 use Rattle.storage.specs.Head.{prefixes_held, committed_number, certificates_held, findings_held}
 use Rattle.certificate_judgement.specs.Judgement.{lackings_in, flags_in}
 use Rattle.check_marks.specs.Marks.{marks_moved}
-use Rattle.completeness.specs.Check.{check_reply, check_held, check_table, check_written, judged_answer, judged_bytes, CheckedAs}
+use Rattle.completeness.specs.Check.{check_held, check_table, check_written, judged_step, check_step}
 use Rattle.storage.proofs.WellFormed.{formed, end_small}
 use Rattle.certificate_judgement.proofs.Fits.{stored}
 use Rattle.certificate_judgement.proofs.CertificateMeaning.{lackings_mean, flags_mean}
@@ -95,60 +95,48 @@ module _ (h : Bytes) (x : History) (s : Stands h x) where
     unfolding check_refusal
     model_accepts = cond_false (ltb finding_limit (length (check_findings x))) (some findingsFull) none (le-ltb finding_limit (length (check_findings x)) (let z = count in omega arith))
 
-    accepted : judged_answer h ≡ Ok (check_value x)
-    unfolding judged_answer
-    accepted = cond_false (ltb finding_limit (check_held h)) (Err (record {})) _ (le-ltb finding_limit _ few) ∙ ap Ok flag
-
-    table_kept : length (check_table h) ≡ findings_length
+    table_kept : length (check_table h) ≡ 1024
     unfolding check_table
     table_kept = all_length (lackings_in h (certificates_of h)) (findings_part h) (findings_held h) ∙ findings_long h s.right
 
-    written : Stands (judged_bytes h) (check_effect x)
-    unfolding judged_bytes check_written check_findings check_effect
+    written : Stands (check_written h (check_table h) (check_held h) (committed_end h)) (check_effect x)
+    unfolding check_written check_findings check_effect
     written =
-        subst (λ (u : Bytes). Stands u (check_effect x)) (sym (cond_false (ltb finding_limit (check_held h)) h _ (le-ltb finding_limit _ few)))
-        (subst (λ (fs : List Finding). Stands (check_written h (check_table h) (check_held h) (committed_end h)) (with_findings (with_certificates x (map (moved x.committed) x.certificates)) fs)) e
+        subst (λ (fs : List Finding). Stands (check_written h (check_table h) (check_held h) (committed_end h)) (with_findings (with_certificates x (map (moved x.committed) x.certificates)) fs)) e
         (findings_kept_lem (marks_moved h (committed_end h) 0 (certificates_held h)) (with_certificates x (map (moved x.committed) x.certificates)) marks
-        (check_table h) (check_held h) (lackings x.committed x.terms x.certificates) table_kept few (ap (every finding_right) e ∙ found_right) e))
+        (check_table h) (check_held h) (lackings x.committed x.terms x.certificates) table_kept few (ap (every finding_right) e ∙ found_right) e)
 
-    accepted_means : Means h x check (check_reply (judged_answer h)) (judged_bytes h)
-    accepted_means = accepts h x check _ (judged_bytes h) model_accepts (ap check_reply accepted) written
+    accepted_means : Means h x check (judged_step h)
+    unfolding judged_step
+    accepted_means =
+        subst (Means h x check) (sym (cond_false (ltb finding_limit (check_held h)) _ _ (le-ltb finding_limit _ few)))
+        (accepts h x check _ _ model_accepts (ap (λ (v : ℕ). accepted v 0) flag) written)
 
   -- too many: refused
-  module _ (many : check_held h ≡ too_many) (more : finding_limit < length (check_findings x)) where
-    over : ltb finding_limit (check_held h) ≡ true
-    over = lt-ltb finding_limit (check_held h) (omega arith)
-
+  module _ (many : check_held h ≡ 129) (more : finding_limit < length (check_findings x)) where
     model_refuses : refusal x check ≡ some findingsFull
     unfolding check_refusal
     model_refuses = cond_true (ltb finding_limit (length (check_findings x))) (some findingsFull) none (lt-ltb finding_limit _ more)
 
-    refused : judged_answer h ≡ Err (record {})
-    unfolding judged_answer
-    refused = cond_true (ltb finding_limit (check_held h)) (Err (record {})) _ over
-
-    unchanged : judged_bytes h ≡ h
-    unfolding judged_bytes
-    unchanged = cond_true (ltb finding_limit (check_held h)) h _ over
-
-    refused_means : Means h x check (check_reply (judged_answer h)) (judged_bytes h)
-    refused_means = refuses h x check _ (judged_bytes h) findingsFull s model_refuses (ap check_reply refused) unchanged
+    refused_means : Means h x check (judged_step h)
+    unfolding judged_step
+    refused_means =
+        subst (Means h x check) (sym (cond_true (ltb finding_limit (check_held h)) _ _ (lt-ltb finding_limit _ (omega arith))))
+        (refuses h x check Refusal.FindingsFull findingsFull refl s model_refuses)
 
 -- nothing is committed: accepted, and nothing changes
-nothing_means : (h : Bytes) (x : History) → Stands h x → committed_number h ≡ 0 → Means h x check (check_reply (Ok 0)) h
+nothing_means : (h : Bytes) (x : History) → Stands h x → committed_number h ≡ 0 → Means h x check (accepting 0 h)
 nothing_means h x s e =
     let none_kept : x.committed ≡ [] = sym (committed_stored h x s) ∙ ap (prefix_at x.prefixes) e in
     let count : findings_held h ≡ length x.findings =
     sym (tabulate_length (finding_row (findings_part h)) 0 (findings_held h)) ∙ ap length (findings_stored h x s) in
     let held = (formed h s.right).findings in
     accepts h x check _ h (nothing_refused x none_kept (omega arith))
-    (ap (λ (v : ℕ). check_reply (Ok v)) (sym (nothing_flagged x none_kept)))
+    (ap (λ (v : ℕ). accepted v 0) (sym (nothing_flagged x none_kept)))
     (subst (Stands h) (sym (nothing_changed x none_kept)) s)
 
 -- the check of bytes that stand for a history is the model's check of it
-pub check_means : (h : Bytes) (x : History) (answer : Result ℕ FindingsFull) (after : Bytes) → Stands h x → CheckedAs h answer after
-    → Means h x check (check_reply answer) after
-check_means h x answer after s c =
-    subst₂ (λ (a : Result ℕ FindingsFull) (u : Bytes). Means h x check (check_reply a) u) (sym c.is) (sym c.bytes)
-    (check_cases h (λ (a : Result ℕ FindingsFull) (u : Bytes). Means h x check (check_reply a) u) (nothing_means h x s)
-    (⊎_elim (λ a. accepted_means h x s a.0 a.1) (λ a. refused_means h x s a.0 a.1) (holds h x s)))
+pub check_means : (h : Bytes) (x : History) → Stands h x → Means h x check (check_step h)
+check_means h x s =
+    check_cases h (Means h x check) (nothing_means h x s)
+    (⊎_elim (λ a. accepted_means h x s a.0 a.1) (λ a. refused_means h x s a.0 a.1) (holds h x s))

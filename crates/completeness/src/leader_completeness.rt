@@ -1,12 +1,14 @@
 // The check of a whole history: its answer, its findings and its marks. A refused check leaves every byte.
 ghost use Rattle.std.specs.Prelude.{◌≡◌, true, cond};
 ghost use Rattle.storage.specs.Rules.{well_formed};
-ghost use Rattle.completeness.specs.Check.{CheckedAs};
+ghost use Rattle.completeness.specs.Check.{check_step};
+ghost use Rattle.answers.specs.Step.{Gives};
 
+use answers::answer::{Accepted, Refusal};
 use certificate_judgement::judgement::{Committed, judge_all};
 use check_marks::marks::move_marks;
 use committed_prefix::committed::committed_prefix;
-use log_violation::violation::{FindingsFull, Notes};
+use log_violation::violation::Notes;
 use prefix_rows::prefixes::through;
 use storage::stored::Stored;
 use storage_bytes::layout::{History, PREFIXES};
@@ -24,12 +26,12 @@ fn flags(relevant: bool) -> usize
 // The check: judged on a copy of the findings, then the marks and the findings are written. Its value: 4 where an index was relevant,
 // else 0. Where the findings would exceed their limit, no mark is moved.
 #[tactic(auto, using(storage::proofs::WellFormed::certificates_fit))]
-pub fn record_leader_completeness(history: &mut History) -> Result<usize, FindingsFull>
+pub fn record_leader_completeness(history: &mut History) -> Result<Accepted, Refusal>
     requires { well_formed history.old ≡ true }
-    ensures { CheckedAs history.old result history.new }
+    ensures { Gives (check_step history.old) result history.new }
 {
     let Some(prefix) = committed_prefix(history) else {
-        return Ok(0); // nothing is committed, so no mark is passed
+        return Ok(Accepted::with(0)); // nothing is committed, so no mark is passed
     };
     let end = through(PREFIXES.array(history), prefix);
     let committed = Committed { prefix, end };
@@ -38,5 +40,5 @@ pub fn record_leader_completeness(history: &mut History) -> Result<usize, Findin
     notes.fits()?;
     move_marks(history, end);
     notes.keep(history);
-    Ok(flags(relevant))
+    Ok(Accepted::with(flags(relevant)))
 }

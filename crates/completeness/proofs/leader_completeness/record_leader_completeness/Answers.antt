@@ -8,7 +8,9 @@ use Rattle.committed_prefix.proofs.PrefixTurns.{kept_within}
 use Rattle.storage.specs.Values.{committed_end}
 use mathlib.Core.Path.{◌≡◌, ap, ◌∙◌}
 use native.Mathlib.Omega.{arith}
-use Rattle.std.specs.Prelude.{Ok}
+use Rattle.std.specs.Prelude.{Err}
+use Rattle.answers.specs.Numbers.{accepted_with}
+use Rattle.answers.proofs.StepLaws.{goes_on, told}
 use Rattle.completeness.proofs.leader_completeness.record_leader_completeness.Goals as goal
 use Rattle.completeness.proofs.leader_completeness.record_leader_completeness.Goals.{After-through-end}
 
@@ -18,7 +20,7 @@ end_is c = end_read _ _ c.committed_prefix.ensures _ c.in-Some.is _ c.array.ensu
 
 pub returns-in_default : goal.returns-in_default
 returns-in_default c =
-    checked_nothing c.args.history.now _ c.committed_prefix.ensures c.in_default.is
+    told _ _ c.with.ensures (checked_nothing c.args.history.now _ c.committed_prefix.ensures c.in_default.is)
 
 pub through-end-requires : goal.through-end-requires
 through-end-requires c =
@@ -35,14 +37,17 @@ judge_all-relevant-requires c = (
 
 pub returns-in_err-fits : goal.returns-in_err-fits
 returns-in_err-fits c =
+    let h = c.args.history.now in
     let p = err_from_is_err_and c.from_residual.result c.from_residual.ensures.1 in
-    let q = judged_refused c.args.history.now _ _ _ _ _ c.of-notes.ensures c.judge_all-relevant.ensures (over_limit _ _ c.fits.ensures _ c.in_err-fits.was) in
-    checked_kept c.args.history.now _ c.committed_prefix.ensures _ c.in-Some.is _ _ (p.1 ∙ q.0, q.1)
+    goes_on _ _ (checked_kept h _ c.committed_prefix.ensures _ c.in-Some.is) _ _
+    (told _ _ (p.1 ∙ ap Err p.2)
+    (judged_refused h _ _ _ _ _ c.of-notes.ensures c.judge_all-relevant.ensures (too_many _ _ c.fits.ensures _ c.in_err-fits.was)))
 
 pub returns : goal.returns
 returns c =
     let h = c.args.history.now in
-    let q = judged_accepted h _ _ _ _ _ c.of-notes.ensures c.judge_all-relevant.ensures (in_limit _ _ c.fits.ensures _ c.in_ok-fits.was)
+    goes_on _ _ (checked_kept h _ c.committed_prefix.ensures _ c.in-Some.is) _ _
+    (told _ _ (c.with-2.ensures ∙ ap accepted_with c.flags.ensures)
+    (judged_accepted h _ _ _ _ _ c.of-notes.ensures c.judge_all-relevant.ensures (in_limit _ _ c.fits.ensures _ c.in_ok-fits.was)
     _ (end_is (goal.at.returns c).After-through-end)
-    _ (written_as h _ _ _ _ c.move_marks.ensures _ c.keep.ensures) in
-    checked_kept h _ c.committed_prefix.ensures _ c.in-Some.is _ _ (ap Ok c.flags.ensures ∙ q.0, q.1)
+    _ (written_as h _ _ _ _ c.move_marks.ensures _ c.keep.ensures)))
