@@ -1,6 +1,6 @@
 -- What `gamiwhoru_submit` promises, from what `submit` does: document 01's numbers for the answer, and both in the model's words.
 -- Assumes nothing.
-use mathlib.Core.Path.{◌≡◌, refl, ◌∙◌, ap}
+use mathlib.Core.Path.{◌≡◌, refl, sym, ◌∙◌, ap, subst}
 use mathlib.Core.Bool.{true, false}
 use mathlib.Core.Option.{Option, none, some}
 use mathlib.Core.Logic.{⊎_elim}
@@ -14,10 +14,11 @@ use Rattle.std.specs.Prelude.{Result, Ok, Err}
 use Rattle.answers.specs.declared.answer.Accepted.{Accepted}
 use Rattle.answers.specs.declared.answer.Refusal.{Refusal}
 use Rattle.answers.specs.declared.numbers.Reply.{Reply}
-use Rattle.answers.specs.Numbers.{refusal_in, reply_of, model_reply}
-use Rattle.submission.specs.Replies.{Submitted}
+use Rattle.answers.specs.Numbers.{refusal_in, modelled, reply_of, model_reply}
+use Rattle.submission.specs.Replies.{submit_step}
+use Rattle.answers.specs.Step.{Step, Gives}
 use Rattle.history.specs.Exports.{Handed}
-use Rattle.submission.proofs.Meaning.{modelled, Means, submit_means, submit_broken}
+use Rattle.submission.proofs.Meaning.{Means, submit_means, submit_broken}
 use Rattle.storage.proofs.Meanings.{stand}
 
 -- ---- the numbers of an answer are those of the model's
@@ -48,24 +49,32 @@ number_refused (model.refused r) f = refl
 
 -- ---- the promise
 
-module _ (h s : Bytes) (a : Result Accepted Refusal) (h' : Bytes) (p : Submitted h s a h') where
-  means : well_formed h ≡ true → Means h (decode h) s a h'
-  means w = submit_means h (decode h) s a h' (stand h w) p
+module _ (h s : Bytes) where
+  abbrev step : Step
+  step = submit_step h s
 
-  replies : well_formed h ≡ true → reply_of a ≡ model_reply (answer (decode h) s)
-  replies w = reply_alike a (answer (decode h) s) (means w).answers
+  means : well_formed h ≡ true → Means h (decode h) s step
+  means w = submit_means h (decode h) s (stand h w)
 
-  leaves : ((reply_of a).refusal ≡ 0 → ⊥) → h' ≡ h
+  replies : well_formed h ≡ true → reply_of step.answer ≡ model_reply (answer (decode h) s)
+  replies w = reply_alike step.answer (answer (decode h) s) (means w).answers
+
+  leaves : ((reply_of step.answer).refusal ≡ 0 → ⊥) → step.bytes ≡ h
   leaves f =
       ⊎_elim (λ w. (means w).keeps (number_refused (answer (decode h) s) (λ z. f (ap (λ (r : Reply). r.refusal) (replies w) ∙ z))))
-      (λ w. (submit_broken h s a h' w p).1) (either (well_formed h))
+      (λ w. ap (λ (t : Step). t.bytes) (submit_broken h s w)) (either (well_formed h))
 
-  pub handed : (r : Reply) → r ≡ reply_of a → Handed h s r h'
-  handed r e =
+  pub handed : (a : Result Accepted Refusal) (h' : Bytes) → Gives step a h' → (r : Reply) → r ≡ reply_of a → Handed h s r h'
+  handed a h' p r e =
+      let q = e ∙ ap reply_of p.answer in
       record {
-        reply = e ∙ ap reply_of p.answer;
+        reply = q;
         bytes = p.bytes;
-        broken = λ w. (e ∙ ap reply_of (submit_broken h s a h' w p).0, (submit_broken h s a h' w p).1);
-        meant = λ w. (e ∙ replies w, (means w).stands.right, (means w).stands.decodes);
-        refused = λ f. leaves (λ z. f (ap (λ (r : Reply). r.refusal) e ∙ z));
+        broken = λ w. let b = submit_broken h s w in (q ∙ ap (λ (t : Step). reply_of t.answer) b, p.bytes ∙ ap (λ (t : Step). t.bytes) b);
+        meant = λ w. (
+          q ∙ replies w,
+          subst (λ (u : Bytes). well_formed u ≡ true) (sym p.bytes) (means w).stands.right,
+          ap decode p.bytes ∙ (means w).stands.decodes,
+        );
+        refused = λ f. p.bytes ∙ leaves (λ z. f (ap (λ (r : Reply). r.refusal) q ∙ z));
       }

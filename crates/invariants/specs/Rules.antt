@@ -1,12 +1,14 @@
 -- The first rule that a row fails, the walk over the rows, and what the code answers, in the model's words.
 -- Assumes nothing.
-use Rattle.std.specs.Prelude.{ℕ, true, false, cond, List, [], ◌∷◌, ltb, eqb, Option, Some, None}
+use Rattle.std.specs.Prelude.{ℕ, true, false, cond, List, [], ◌∷◌, ltb, eqb, Option, Some, None, Result, Ok}
 use Rattle.model.specs.Record as model
 use Rattle.model.specs.Rows as rows
 use Rattle.record_walk.specs.declared.walk.Row.{Row}
 use Rattle.record_walk.specs.declared.walk.Configuration.{Configuration}
 use Rattle.invariants.specs.declared.commit_safety.Rule.{Rule}
 use Rattle.invariants.specs.declared.commit_safety.Failure.{Failure}
+use Rattle.answers.specs.declared.answer.Accepted.{Accepted}
+use Rattle.answers.specs.declared.answer.Refusal.{Refusal}
 
 -- the model's configuration: zeros where it is absent
 abbrev pub configuration_of : Option Configuration → model.Configuration
@@ -87,3 +89,12 @@ verdict_for v = cond (eqb v.rule 0) None (Some (record { rule = rule_of v.rule; 
 abbrev pub verdict_of : Option Failure → rows.Verdict
 verdict_of None = record { rule = 0; node = 0 }
 verdict_of (Some f) = record { rule = number f.rule; node = f.node.0 }
+
+-- a failure as the answer to its record
+abbrev pub accepted_for : Option Failure → Accepted
+accepted_for None = record { value = 0; node = None }
+accepted_for (Some f) = record { value = number f.rule; node = Some f.node }
+
+-- the answer to these rows
+abbrev pub rows_answer : List model.Row → Result Accepted Refusal
+rows_answer rs = Ok (accepted_for (verdict_for (rows.verdict rs)))

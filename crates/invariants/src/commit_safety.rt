@@ -3,8 +3,9 @@
 ghost use Rattle.std.specs.Prelude.{◌≡◌, ◌∷◌, ltb};
 ghost use Rattle.model.specs.Rows as model;
 ghost use Rattle.record_scan.specs.Places as places;
-ghost use Rattle.invariants.specs.Rules.{row_of, configured, number, rank, least, node_in, first_rule, least_from, verdict_for};
+ghost use Rattle.invariants.specs.Rules.{row_of, configured, number, rank, least, node_in, first_rule, least_from, verdict_for, accepted_for, rows_answer};
 
+use answers::answer::{Accepted, Refusal};
 use record_walk::walk::{Configuration, FIRST_ROW, Row, row_at};
 use units::NodeId;
 
@@ -127,4 +128,28 @@ pub fn check_commit_safety(s: &[u8], count: usize) -> Option<Failure>
         failed = with_row(failed, row);
     }
     failed
+}
+
+// A failure as the answer to its record: the rule that fails, 0 where none does, and its node.
+fn accepted(failed: Option<Failure>) -> Accepted
+    ensures { result ≡ accepted_for failed }
+{
+    match failed {
+        Some(f) => Accepted {
+            value: usize::from(u8::from(f.rule)),
+            node: Some(f.node),
+        },
+        None => Accepted {
+            value: 0,
+            node: None,
+        },
+    }
+}
+
+// Kind 6. No row is refused, and no history is looked at.
+pub fn check_rows(s: &[u8], count: usize) -> Result<Accepted, Refusal>
+    requires { places.RowWalk s.now places.first_row count }
+    ensures { result ≡ rows_answer (places.rows_at s.now places.first_row count) }
+{
+    Ok(accepted(check_commit_safety(s, count)))
 }

@@ -20,15 +20,15 @@ use Rattle.storage.proofs.Meanings.{Stands, fresh_stands}
 use Rattle.std.specs.Prelude.{Result, Ok, Err}
 use Rattle.answers.specs.declared.answer.Accepted.{Accepted}
 use Rattle.answers.specs.declared.answer.Refusal.{Refusal}
-use Rattle.answers.specs.Numbers.{reply_of}
-use Rattle.submission.specs.Replies.{submit_answer, submit_bytes}
-use Rattle.submission.proofs.Meaning.{modelled, Means, submit_means}
+use Rattle.answers.specs.Numbers.{modelled, reply_of}
+use Rattle.submission.specs.Replies.{submit_step, submit_answer, submit_bytes}
+use Rattle.submission.proofs.Meaning.{Means, submit_means}
 use Rattle.promises.specs.Run.{bytes_from, accepts, ledger_from}
 
 -- ---- the machine
 
-pub means : (h : Bytes) (x : History) → Stands h x → (s : Bytes) → Means h x s (submit_answer h s) (submit_bytes h s)
-means h x r s = submit_means h x s (submit_answer h s) (submit_bytes h s) r (record { answer = refl; bytes = refl })
+pub means : (h : Bytes) (x : History) → Stands h x → (s : Bytes) → Means h x s (submit_step h s)
+means h x r s = submit_means h x s r
 
 -- the model's answer. Bytes that stand for a history are never answered 12, so what stands for 12 does not matter.
 abbrev or_else : Option model.Answer → model.Answer

@@ -1,7 +1,7 @@
--- What a told head gives each kind, and a reply by another name of the same head.
+-- What a told head gives each kind, and the exits of `submit`.
 -- Assumes nothing.
 use Prim.Native.Nat.{ℕ, ◌<◌}
-use mathlib.Core.Path.{◌≡◌, refl, sym, ◌∙◌, ap, subst}
+use mathlib.Core.Path.{◌≡◌, sym, ◌∙◌, ap, subst}
 use mathlib.Core.Bool.{true, false}
 use Rattle.model.specs.Sizes.{Bytes, node_count}
 use Rattle.model.proofs.Tests.{cond_true, cond_false}
@@ -13,32 +13,24 @@ use Rattle.storage.specs.Rules.{well_formed}
 use Rattle.std.specs.Prelude.{Result, Ok, Err}
 use Rattle.answers.specs.declared.answer.Accepted.{Accepted}
 use Rattle.answers.specs.declared.answer.Refusal.{Refusal}
-use Rattle.submission.specs.Replies.{reply_to, bytes_to, Replied, submit_answer, submit_bytes, Submitted}
+use Rattle.answers.specs.Step.{refusing, Gives}
+use Rattle.answers.proofs.StepLaws.{ends, goes_on, refuses_with}
+use Rattle.submission.specs.Replies.{step_to, submit_step}
 
 pub view_node : (s : Bytes) (d : Result Head Fault) → Told s d → (n : NodeId) (c : ℕ) → d ≡ Ok (Head.View n c) → n.0 < node_count
 view_node s d t n c e = (subst Within e t.within).0
 
-pub replied : (h s : Bytes) (d d' : Result Head Fault) (r : Result Accepted Refusal) (h' : Bytes) → d ≡ d' → (r ≡ reply_to h s d') × (h' ≡ bytes_to h s d') → Replied h s d r h'
-replied h s d d' r h' e q = subst (λ (x : Result Head Fault). Replied h s x r h') (sym e) (record { answer = q.0; bytes = q.1 })
-
-pub unreadable_replied : (h s : Bytes) (d : Result Head Fault) (f : Fault) → d ≡ Err f → Replied h s d (Err (Refusal.Unreadable f)) h
-unreadable_replied h s d f e = replied h s d (Err f) (Err (Refusal.Unreadable f)) h e (refl, refl)
-
 -- ---- the whole
 
-pub broken : (h s : Bytes) → well_formed h ≡ false → Submitted h s (Err Refusal.StorageBroken) h
-unfolding submit_answer submit_bytes
-broken h s e =
-    record {
-      answer = sym (cond_false (well_formed h) _ (Err Refusal.StorageBroken) e);
-      bytes = sym (cond_false (well_formed h) _ h e);
-    }
+module _ (h s : Bytes) where
+  pub broken : well_formed h ≡ false → Gives (submit_step h s) (Err Refusal.StorageBroken) h
+  unfolding submit_step
+  broken e = ends _ (refusing Refusal.StorageBroken h) (cond_false (well_formed h) _ _ e)
 
-pub taken : (h s : Bytes) (d : Result Head Fault) (r : Result Accepted Refusal) (h' : Bytes) → well_formed h ≡ true → Told s d → Replied h s d r h'
-    → Submitted h s r h'
-unfolding submit_answer submit_bytes
-taken h s d r h' w t q =
-    record {
-      answer = q.answer ∙ ap (reply_to h s) t.head ∙ sym (cond_true (well_formed h) _ (Err Refusal.StorageBroken) w);
-      bytes = q.bytes ∙ ap (bytes_to h s) t.head ∙ sym (cond_true (well_formed h) _ h w);
-    }
+  module _ (w : well_formed h ≡ true) (d : Result Head Fault) (t : Told s d) (r : Result Accepted Refusal) (h' : Bytes) where
+    pub taken : Gives (step_to h s d) r h' → Gives (submit_step h s) r h'
+    unfolding submit_step
+    taken = goes_on _ _ (cond_true (well_formed h) _ _ w ∙ ap (step_to h s) (sym t.head)) r h'
+
+    pub unreadable : (f : Fault) → d ≡ Err f → r ≡ Err (Refusal.Unreadable f) → h' ≡ h → Gives (submit_step h s) r h'
+    unreadable f e er eh = taken (refuses_with _ h (Refusal.Unreadable f) (ap (step_to h s) e) r er h' eh)

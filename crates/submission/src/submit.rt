@@ -2,20 +2,26 @@
 ghost use Rattle.std.specs.Prelude.{◌≡◌, true, Ok};
 ghost use Rattle.records.specs.Heads.{Told};
 ghost use Rattle.storage.specs.Rules.{well_formed};
-ghost use Rattle.submission.specs.Replies.{Replied, Submitted};
+ghost use Rattle.submission.specs.Replies.{step_to, submit_step};
+ghost use Rattle.answers.specs.Step.{Gives};
 
 use answers::answer::{Accepted, Refusal};
-use leader_kinds::kinds::{take_check, take_election, take_rows};
-use log_kinds::kinds::{take_commit, take_terms, take_view};
+use commit::prefix::observe_committed_prefixes;
+use commit_terms::terms::record_commit_terms;
+use completeness::leader_completeness::record_leader_completeness;
+use election::certificate::record_election;
+use invariants::commit_safety::check_rows;
+use logical_log::observation::observe_prefixes;
 use record_walk::view::View;
 use records::head::{Head, read};
 use rules::whole::well_formed;
 use storage_bytes::layout::History;
+use units::PREFIX_LIMIT;
 
 // The record of that head, to a history that keeps the storage rules.
 fn dispatch(history: &mut History, s: &[u8], head: Head) -> Result<Accepted, Refusal>
     requires { (well_formed history.old ≡ true) × Told s.now (Ok head) }
-    ensures { Replied history.old s.now (Ok head) result history.new }
+    ensures { Gives (step_to history.old s.now (Ok head)) result history.new }
 {
     match head {
         Head::View { node, count } => {
@@ -24,20 +30,20 @@ fn dispatch(history: &mut History, s: &[u8], head: Head) -> Result<Accepted, Ref
                 entries: count,
                 node,
             };
-            take_view(history, view)
+            observe_prefixes(history, view, PREFIX_LIMIT)
         }
-        Head::Commit { node, index } => take_commit(history, node, index),
-        Head::Terms(t) => take_terms(history, t),
-        Head::Election(e) => take_election(history, e),
-        Head::Check => take_check(history),
-        Head::Rows { count } => take_rows(s, count),
+        Head::Commit { node, index } => observe_committed_prefixes(history, node, index),
+        Head::Terms(t) => record_commit_terms(history, t),
+        Head::Election(e) => record_election(history, e),
+        Head::Check => record_leader_completeness(history),
+        Head::Rows { count } => check_rows(s, count),
     }
 }
 
 // One record: a refused one leaves every byte. The length is tested to have the bytes as an array, and again in `well_formed`, which is
 // lent bytes of any length.
 pub fn submit(history: &mut [u8], s: &[u8]) -> Result<Accepted, Refusal>
-    ensures { Submitted history.old s.now result history.new }
+    ensures { Gives (submit_step history.old s.now) result history.new }
 {
     let Some(bytes) = history.as_mut_array() else {
         return Err(Refusal::StorageBroken);

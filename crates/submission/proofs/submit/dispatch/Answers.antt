@@ -12,5 +12,5 @@ invariant_of-view c =
     let e = ap Ok c.in-View.is in
     record { walk = ∣ view_walk _ _ _ _ t e ∣₁; is_node = view_node _ _ t _ _ e }
 
-pub take_rows-requires : goal.take_rows-requires
-take_rows-requires c = let s = c in rows_walk _ _ _ s.requires.1 (ap Ok c.in-Rows.is)
+pub check_rows-requires : goal.check_rows-requires
+check_rows-requires c = let s = c in rows_walk _ _ _ s.requires.1 (ap Ok c.in-Rows.is)
