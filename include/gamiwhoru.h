@@ -1,15 +1,22 @@
-/* The functions of target/staticlib/libhistory.a (made by harness/library).
+/* The functions of target/staticlib/libhistory.a (made by harness/library), for C and C++.
  *
- * The functions are proved, and tests/calls holds these declarations to
- * them. They follow crates/history_c/src/lib.rt and
- * crates/answers/src/numbers.rt, where each function's whole promise stands. Nothing is asked of the bytes: any history and any
- * record may be handed in. Each pointer must be that of `length` live bytes,
- * and a history must not overlap the record handed to it. */
+ * The functions are proved, and tests/calls holds these declarations to them. They follow crates/history_c/src/lib.rt and
+ * crates/answers/src/numbers.rt, where each function's whole promise stands; docs/SCOPE.md says what a record does. Nothing is
+ * asked of the bytes: any history and any record may be handed in. Each pointer must be that of `length` live bytes, and a
+ * history must not overlap the record handed to it.
+ *
+ * The library wants no heap and has no state of its own: all that is kept is in the caller's history, so calls on different
+ * histories may run at the same time. Of C's library it takes memcpy, memmove and memset, and nothing else. A call takes less
+ * than 4,096 bytes of stack of its own, as built for x86-64. */
 #ifndef GAMIWHORU_H
 #define GAMIWHORU_H
 
 #include <stddef.h>
 #include <stdint.h>
+
+#ifdef __cplusplus
+extern "C" {
+#endif
 
 /* What a record is answered: document 01's numbers. */
 struct gamiwhoru_reply {
@@ -73,5 +80,9 @@ struct gamiwhoru_unknown_reply gamiwhoru_unknown(const uint8_t *history, size_t 
 
 /* The committed prefix. */
 struct gamiwhoru_committed_reply gamiwhoru_committed(const uint8_t *history, size_t length);
+
+#ifdef __cplusplus
+}
+#endif
 
 #endif
