@@ -20,13 +20,12 @@ use Rattle.model.specs.Sizes.{Bytes, finding_limit}
 use Rattle.model.specs.Answer.{accepted, refusal}
 use Rattle.model.proofs.Tests.{cond_true, cond_false}
 use Rattle.storage_bytes.specs.Lists.{every}
-use Rattle.storage_bytes.specs.Layout.{findings_length}
 use Rattle.storage.specs.Tables.{CertificateRow, certificate_row, certificates_part, finding_row, finding_rows, findings_part}
 use Rattle.storage.specs.Decode.{prefix_at}
 use Rattle.storage.specs.Rules.{finding_right}
 use Rattle.storage_bytes.proofs.ListLaws.{tabulate_length}
 use Rattle.storage.proofs.DecodeLaws.{CertificateNamed}
-use Rattle.storage.proofs.Meanings.{Stands, with_certificates, with_findings, certificates_stored, findings_stored, committed_stored, findings_right, noted_right, end_is}
+use Rattle.storage.proofs.Meanings.{Stands, certificates_stored, findings_stored, committed_stored, findings_right, noted_right, end_is}
 use Rattle.answers.specs.declared.answer.Refusal.{Refusal}
 use Rattle.answers.specs.Step.{accepting}
 use Rattle.answers.proofs.Meaning.{Means, accepts, refuses}

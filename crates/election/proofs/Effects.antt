@@ -9,16 +9,15 @@ use mathlib.Core.List.{List, [], ◌∷◌, map}
 use mathlib.Core.Option.{none, some}
 use lib.Dec.{leb, ltb, eqb}
 use lib.ListN.{length, take, length-map}
-use Rattle.model.specs.Sizes.{Bytes, node_count, certificate_limit, term_end}
+use Rattle.model.specs.Sizes.{Bytes, node_count, term_end}
 use borrow.Author.Tests.{lt-ltb, le-ltb}
 use Rattle.model.specs.Sizes.{Bytes}
 use Rattle.model.specs.Entry.{Prefix}
 use Rattle.model.specs.Refusal.{lengthExceedsFront, certificatesFull, numberTaken}
-use Rattle.model.specs.History.{Certificate, History, front_of}
+use Rattle.model.specs.History.{Certificate, History, front_of, with_certificates}
 use Rattle.model.specs.Election as model
 use Rattle.model.specs.Election.{held, taken, in_order, election_refusal, certificate, election_effect}
 use Rattle.model.proofs.Tests.{cond_true, cond_false}
-use Rattle.storage_bytes.specs.Words.{word_at}
 use Rattle.storage.specs.Values.{certificates_of}
 use Rattle.storage.specs.Tables.{CertificateRow, certificate_row, certificates_part}
 use Rattle.storage.specs.Decode.{prefix_at, log_in, certificate_in}

@@ -12,7 +12,7 @@ use Rattle.model.specs.Sizes.{Bytes}
 use Rattle.model.specs.Refusal.{lengthExceedsFront, certificatesFull, numberTaken}
 use Rattle.model.specs.Record.{election}
 use Rattle.model.specs.History.{History, front_of}
-use Rattle.storage_bytes.specs.Words.{word_at}
+use Rattle.storage.specs.Head.{prefixes_held, certificates_held}
 use Rattle.storage.specs.Decode.{prefix_at}
 use Rattle.storage.proofs.Meanings.{Stands}
 use Rattle.prefix_lookup.specs.Prefix.{witness}

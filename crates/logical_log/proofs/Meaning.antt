@@ -17,7 +17,7 @@ use Rattle.model.specs.Sizes.{Bytes}
 use Rattle.model.specs.Entry.{Entry, Prefix, prefixes, with_all}
 use Rattle.model.specs.Refusal.{prefixesFull, findingsFull}
 use Rattle.model.specs.Record.{Shown, view, front, last_from, last_index}
-use Rattle.model.specs.History.{Finding, History, noted}
+use Rattle.model.specs.History.{Finding, History, noted, with_node, with_findings, with_prefixes, with_views, with_unseen}
 use Rattle.model.proofs.Tests.{cond_cases, cond_true, cond_false}
 use Rattle.model.specs.View.{begun_by, mismatches, stored, view_findings, view_refusal, view_effect}
 use Rattle.model.specs.Sizes.{Bytes, node_count, index_limit, prefix_limit, finding_limit, term_end}
@@ -33,7 +33,7 @@ use Rattle.storage_bytes.proofs.ListLaws.{tabulate_length, tabulate_at, every_at
 use Rattle.storage.proofs.DecodeLaws.{NodeNamed, node_named, FindingNamed}
 use Rattle.storage.proofs.RowFacts.{resolve_count}
 use Rattle.storage.proofs.WellFormed.{rows_count, formed}
-use Rattle.storage.proofs.Meanings.{Stands, with_prefixes, with_node, with_findings, prefixes_is, findings_stored, findings_right, noted_right, kept, unseen_read, node_written}
+use Rattle.storage.proofs.Meanings.{Stands, prefixes_is, findings_stored, findings_right, noted_right, kept, unseen_read, node_written}
 use Rattle.answers.proofs.Meaning.{MeansUnder, accepts, refuses}
 use Rattle.answers.specs.declared.answer.Refusal as own-refusal
 use Rattle.answers.specs.Step.{Step, accepting, refusing}

@@ -5,7 +5,6 @@ use Rattle.model.specs.Sizes.{Bytes}
 use Rattle.model.specs.Record.{front, last_index}
 use Rattle.model.specs.Sizes.{Bytes, finding_limit}
 use Rattle.record_scan.specs.Places.{first_entry, entries_at}
-use Rattle.storage_bytes.specs.Words.{word_at}
 use Rattle.answers.specs.declared.answer.Refusal.{Refusal}
 use Rattle.answers.specs.Step.{Step, accepting, refusing}
 use Rattle.log_prefix.specs.Extension.{written_bytes, written_number}

@@ -29,12 +29,12 @@ pub returns : goal.returns
 returns c =
     let read = (goal.at.returns c).After-min-end in
     elim c.if-lt.branch [
-    | then-lt w ↦
-        let longer : c.through-committed_end.result.0 < c.through-seen_end.result.0 = search rules in
-        insert_longer _ _ _ _ _ (shorter_end read) _ c.agree_through.ensures c.if-not-agree_through.false _ _ c.owner-former.ensures.is c.flags-sum.ensures _ c.set_unseen.ensures
-        _ c.with.ensures (is_longer read ∙ lt-ltb _ _ longer) _ (w.history-is ∙ w.set_committed.ensures)
-    | else-lt w ↦
-        let shorter : c.through-seen_end.result.0 ≤ c.through-committed_end.result.0 = search rules in
-        insert_shorter _ _ _ _ _ (shorter_end read) _ c.agree_through.ensures c.if-not-agree_through.false _ _ c.owner-former.ensures.is c.flags-sum.ensures _ c.set_unseen.ensures
-        _ c.with.ensures (is_longer read ∙ le-ltb _ _ shorter) _ w.history-is
+      | then-lt w ↦
+          let longer : c.through-committed_end.result.0 < c.through-seen_end.result.0 = search rules in
+          insert_longer _ _ _ _ _ (shorter_end read) _ c.agree_through.ensures c.if-not-agree_through.false _ _ c.owner-former.ensures.is c.flags-sum.ensures _ c.set_unseen.ensures
+          _ c.with.ensures (is_longer read ∙ lt-ltb _ _ longer) _ (w.history-is ∙ w.set_committed.ensures)
+      | else-lt w ↦
+          let shorter : c.through-seen_end.result.0 ≤ c.through-committed_end.result.0 = search rules in
+          insert_shorter _ _ _ _ _ (shorter_end read) _ c.agree_through.ensures c.if-not-agree_through.false _ _ c.owner-former.ensures.is c.flags-sum.ensures _ c.set_unseen.ensures
+          _ c.with.ensures (is_longer read ∙ le-ltb _ _ shorter) _ w.history-is
     ]

@@ -19,9 +19,9 @@ returns c =
     let s = c.args in
     let within : s.t.old.0 ≤ s.t.new.0 = search rules in
     told _ _ c.with.ensures (elim c.match-found.branch [
-    | in-Some w ↦
-        record_changed _ _ _ _ within _ c.lengthen.ensures _ c.array.ensures.is _ c.first_replaced-found.ensures
-        _ w.in-Some.is _ w.replace_terms.ensures _ (w.history-is ∙ w.lower_marks.ensures)
-    | in_default w ↦
-        record_unchanged _ _ _ _ within _ c.lengthen.ensures _ c.array.ensures.is _ c.first_replaced-found.ensures w.in_default.is _ w.history-is
+      | in-Some w ↦
+          record_changed _ _ _ _ within _ c.lengthen.ensures _ c.array.ensures.is _ c.first_replaced-found.ensures
+          _ w.in-Some.is _ w.replace_terms.ensures _ (w.history-is ∙ w.lower_marks.ensures)
+      | in_default w ↦
+          record_unchanged _ _ _ _ within _ c.lengthen.ensures _ c.array.ensures.is _ c.first_replaced-found.ensures w.in_default.is _ w.history-is
     ])

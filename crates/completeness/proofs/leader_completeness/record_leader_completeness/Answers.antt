@@ -41,7 +41,7 @@ returns-in_err-fits c =
     let p = err_from_is_err_and c.from_residual.result c.from_residual.ensures.1 in
     goes_on _ _ (checked_kept h _ c.committed_prefix.ensures _ c.in-Some.is) _ _
     (told _ _ (p.1 ∙ ap Err p.2)
-    (judged_refused h _ _ _ _ _ c.of-notes.ensures c.judge_all-relevant.ensures (too_many _ _ c.fits.ensures _ c.in_err-fits.was)))
+    (judged_refused h _ _ _ _ _ c.of-notes.ensures c.judge_all-relevant.ensures (over_limit _ _ c.fits.ensures _ c.in_err-fits.was)))
 
 pub returns : goal.returns
 returns c =

@@ -26,7 +26,7 @@ returns-in_err-fits c =
     let m : c.min-most.result ≡ min c.args.limit prefix_limit = search rules in
     let p = err_from_is_err_and c.from_residual.result c.from_residual.ensures.1 in
     observed_seven c.requires c.args.view.walk c.judge_view-judged.ensures c.prefix_count-count.ensures.is m c.if-most-total.false
-    (too_many _ _ c.fits.ensures _ c.in_err-fits.was) _ (p.1 ∙ ap Err p.2)
+    (over_limit _ _ c.fits.ensures _ c.in_err-fits.was) _ (p.1 ∙ ap Err p.2)
 
 pub write_view-requires : goal.write_view-requires
 write_view-requires c =
