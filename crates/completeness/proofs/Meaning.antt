@@ -11,7 +11,6 @@ use mathlib.Core.Option.{none, some}
 use lib.Dec.{ltb}
 use lib.ListN.{length}
 use borrow.Author.Tests.{lt-ltb, le-ltb}
-use Rattle.model.specs.Sizes.{Bytes}
 use Rattle.model.specs.Refusal.{findingsFull}
 use Rattle.model.specs.Record.{check}
 use Rattle.model.specs.History.{Finding, Certificate, History, noted, with_certificates, with_findings}
@@ -32,6 +31,8 @@ use Rattle.answers.proofs.Meaning.{Means, accepts, refuses}
 use Rattle.log_violation.proofs.Kept.{findings_kept_lem}
 use Rattle.log_violation.proofs.ViolationLaws.{Holds, all_hold, all_length, findings_long}
 use Rattle.storage.specs.Values.{certificates_of, committed_end}
+use Rattle.log_violation.specs.Violation.{too_many}
+use Rattle.storage_bytes.specs.Layout.{findings_length}
 use Rattle.storage.specs.Head.{prefixes_held, committed_number, certificates_held, findings_held}
 use Rattle.certificate_judgement.specs.Judgement.{lackings_in, flags_in}
 use Rattle.check_marks.specs.Marks.{marks_moved}
@@ -94,7 +95,7 @@ module _ (h : Bytes) (x : History) (s : Stands h x) where
     unfolding check_refusal
     model_accepts = cond_false (ltb finding_limit (length (check_findings x))) (some findingsFull) none (le-ltb finding_limit (length (check_findings x)) (let z = count in omega arith))
 
-    table_kept : length (check_table h) ≡ 1024
+    table_kept : length (check_table h) ≡ findings_length
     unfolding check_table
     table_kept = all_length (lackings_in h (certificates_of h)) (findings_part h) (findings_held h) ∙ findings_long h s.right
 
@@ -112,7 +113,7 @@ module _ (h : Bytes) (x : History) (s : Stands h x) where
         (accepts h x check _ _ model_accepts (ap (λ (v : ℕ). accepted v 0) flag) written)
 
   -- too many: refused
-  module _ (many : check_held h ≡ 129) (more : finding_limit < length (check_findings x)) where
+  module _ (many : check_held h ≡ too_many) (more : finding_limit < length (check_findings x)) where
     model_refuses : refusal x check ≡ some findingsFull
     unfolding check_refusal
     model_refuses = cond_true (ltb finding_limit (length (check_findings x))) (some findingsFull) none (lt-ltb finding_limit _ more)

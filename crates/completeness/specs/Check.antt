@@ -2,7 +2,6 @@
 -- Assumes nothing.
 use Rattle.model.specs.Sizes.{Bytes, finding_limit}
 use Rattle.std.specs.Prelude.{ℕ, cond, ltb, Option, Some, None}
-use Rattle.model.specs.Sizes.{Bytes}
 use Rattle.storage_bytes.specs.Words.{word_at}
 use Rattle.storage.specs.Tables.{findings_part}
 use Rattle.log_violation.specs.Violation.{held_all, bytes_all, findings_kept}

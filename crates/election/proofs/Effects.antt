@@ -11,7 +11,6 @@ use lib.Dec.{leb, ltb, eqb}
 use lib.ListN.{length, take, length-map}
 use Rattle.model.specs.Sizes.{Bytes, node_count, term_end}
 use borrow.Author.Tests.{lt-ltb, le-ltb}
-use Rattle.model.specs.Sizes.{Bytes}
 use Rattle.model.specs.Entry.{Prefix}
 use Rattle.model.specs.Refusal.{lengthExceedsFront, certificatesFull, numberTaken}
 use Rattle.model.specs.History.{Certificate, History, front_of, with_certificates}

@@ -8,7 +8,6 @@ use mathlib.Core.Bool.{Bool, true, false}
 use mathlib.Core.Logic.{⊎_elim}
 use lib.ListN.{length, take}
 use borrow.Author.Tests.{leb-false}
-use Rattle.model.specs.Sizes.{Bytes}
 use Rattle.model.specs.Refusal.{lengthExceedsFront, certificatesFull, numberTaken}
 use Rattle.model.specs.Record.{election}
 use Rattle.model.specs.History.{History, front_of}

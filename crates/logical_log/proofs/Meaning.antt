@@ -13,14 +13,13 @@ use lib.Dec.{ltb}
 use lib.ListN.{length, get_or, set}
 use lib.Seq.{set-get_or}
 use borrow.Author.Tests.{lt-ltb, ltb-false}
-use Rattle.model.specs.Sizes.{Bytes}
+use Rattle.model.specs.Sizes.{Bytes, node_count, index_limit, prefix_limit, finding_limit, term_end}
 use Rattle.model.specs.Entry.{Entry, Prefix, prefixes, with_all}
 use Rattle.model.specs.Refusal.{prefixesFull, findingsFull}
 use Rattle.model.specs.Record.{Shown, view, front, last_from, last_index}
 use Rattle.model.specs.History.{Finding, History, noted, with_node, with_findings, with_prefixes, with_views, with_unseen}
 use Rattle.model.proofs.Tests.{cond_cases, cond_true, cond_false}
 use Rattle.model.specs.View.{begun_by, mismatches, stored, view_findings, view_refusal, view_effect}
-use Rattle.model.specs.Sizes.{Bytes, node_count, index_limit, prefix_limit, finding_limit, term_end}
 use Rattle.record_scan.specs.Places.{Walk, first_entry, index_at, term_at, next_at, entries_at, items_at}
 use Rattle.bit_fields.proofs.Widths.{field_lt}
 use Rattle.record_walk.proofs.Walks.{walk_entered}

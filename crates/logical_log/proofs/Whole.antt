@@ -10,10 +10,9 @@ use lib.Dec.{ltb, eqb}
 use lib.ListN.{length}
 use borrow.Author.Tests.{lt-ltb, le-ltb, eq-eqb}
 use Rattle.std.specs.Prelude.{Result, Err}
-use Rattle.model.specs.Sizes.{Bytes}
+use Rattle.model.specs.Sizes.{Bytes, prefix_limit, finding_limit}
 use Rattle.model.specs.Entry.{Entry}
 use Rattle.model.specs.Record.{front}
-use Rattle.model.specs.Sizes.{Bytes, prefix_limit, finding_limit}
 use Rattle.model.proofs.Tests.{cond_true, cond_false}
 use Rattle.record_scan.specs.Places.{Walk, first_entry, entries_at}
 use Rattle.storage_bytes.specs.Layout.{findings_length}

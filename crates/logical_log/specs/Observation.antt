@@ -1,9 +1,8 @@
 -- Observation of a view: what a judged view is answered, and the bytes after it.
 -- Assumes nothing.
 use Rattle.std.specs.Prelude.{ℕ, ◌+◌, cond, ltb}
-use Rattle.model.specs.Sizes.{Bytes}
-use Rattle.model.specs.Record.{front, last_index}
 use Rattle.model.specs.Sizes.{Bytes, finding_limit}
+use Rattle.model.specs.Record.{front, last_index}
 use Rattle.record_scan.specs.Places.{first_entry, entries_at}
 use Rattle.answers.specs.declared.answer.Refusal.{Refusal}
 use Rattle.answers.specs.Step.{Step, accepting, refusing}

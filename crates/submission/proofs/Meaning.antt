@@ -12,7 +12,6 @@ use Rattle.model.specs.Reading.{Reading, readable, unreadable, read}
 use Rattle.model.specs.History.{History}
 use Rattle.model.specs.Answer as model
 use Rattle.model.specs.Answer.{answer, after, answer_read, after_read, is_accepted}
-use Rattle.model.specs.Sizes.{Bytes}
 use Rattle.model.proofs.Tests.{cond_true, cond_false}
 use Rattle.bit_fields.specs.declared.bits.Fault.{Fault}
 use Rattle.records.specs.declared.head.Head.{Head}
