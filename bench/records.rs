@@ -1,8 +1,8 @@
 //! How long the largest view takes to read, and to read and walk with every content byte used, beside a copy of it.
 //!
 //! Build and run from the repository's root:
-//!     (cd crates/records_bench_c && rt lib)
-//!     mkdir -p target/staticlib && cp crates/records_bench_c/out/librecords_bench_c.a target/staticlib/librecords_bench.a
+//!     (cd crates/bench_records_c && rt lib)
+//!     mkdir -p target/staticlib && cp crates/bench_records_c/out/libbench_records_c.a target/staticlib/librecords_bench.a
 //!     rustc -O -L target/staticlib -o target/bench_records bench/records.rs && target/bench_records
 use std::hint::black_box;
 use std::time::Instant;

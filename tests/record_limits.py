@@ -1,7 +1,7 @@
 #!/usr/bin/env python3
-"""record_limits.py: the cases of the program records_limits, written from document 01.
+"""record_limits.py: the cases of the program test_record_limits, written from document 01.
 
-Writes crates/records_limits/stdin (a line each: name, record in hexadecimal) and stdout (name, and `ok`
+Writes crates/test_record_limits/stdin (a line each: name, record in hexadecimal) and stdout (name, and `ok`
 or the number of the first fault). What each case must answer stands in the table below, by document 01;
 nothing here runs the reader.
 """
@@ -11,7 +11,7 @@ import sys
 sys.dont_write_bytecode = True
 from records import CHECK, MOST, bits, commit, configuration, election, entry, packed, row, rows, terms, view
 
-HERE = os.path.join(os.path.dirname(os.path.abspath(__file__)), '..', 'crates', 'records_limits')
+HERE = os.path.join(os.path.dirname(os.path.abspath(__file__)), '..', 'crates', 'test_record_limits')
 CASES = []
 
 

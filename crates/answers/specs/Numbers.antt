@@ -5,7 +5,7 @@ use Rattle.std.specs.Option.{unwrap_or}
 use Rattle.model.specs.Refusal.{number, prefixesFull, findingsFull, old_exceeds_new, lengthExceedsFront, certificatesFull, numberTaken}
 use Rattle.model.specs.Answer as model
 use Rattle.std.proofs.Math.Option as option
-use Rattle.bit_fields.specs.Answers.{refusal_of}
+use Rattle.record_bits.specs.Answers.{refusal_of}
 use Rattle.units.specs.declared.NodeId.{NodeId}
 use Rattle.answers.specs.declared.answer.Accepted.{Accepted}
 use Rattle.answers.specs.declared.answer.Refusal.{Refusal}

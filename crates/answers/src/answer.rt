@@ -3,7 +3,7 @@ ghost use Rattle.std.specs.Prelude.{◌≡◌, Ok};
 ghost use Rattle.answers.specs.Numbers.{accepted_with, number_of};
 ghost use Rattle.answers.specs.declared.answer.Refusal.{Refusal};
 
-use bit_fields::bits::Fault;
+use record_bits::bits::Fault;
 use units::NodeId;
 
 // A record that is accepted, with its value and the node of a failing row.

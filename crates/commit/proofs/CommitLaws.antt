@@ -20,17 +20,17 @@ use Rattle.model.proofs.Tests.{either, cond_true, cond_false, yes_same}
 use Rattle.storage.proofs.RuleLaws.{pass, stop}
 use Rattle.storage.proofs.Meanings.{Stands, findings_read}
 use Rattle.log_violation.specs.Violation.{room_for, noted_in}
-use Rattle.prefix_lookup.specs.Prefix.{witness, stored_of, front_through}
-use Rattle.committed_prefix.specs.Prefix.{agree_in, unseen_set, keep_bytes}
+use Rattle.log_prefix.specs.Prefix.{witness, stored_of, front_through}
+use Rattle.commit.specs.Committed.{agree_in, unseen_set, keep_bytes}
 use Rattle.commit.specs.Prefix.{longer_in, end_in, flags_of, difference, note_step, insert_step, kept_step, commit_step}
-use Rattle.prefix_lookup.proofs.StoredLaws.{stored_none, stored_read}
-use Rattle.prefix_lookup.proofs.Fronts.{Part, front_cut}
+use Rattle.log_prefix.proofs.StoredLaws.{stored_none, stored_read}
+use Rattle.log_prefix.proofs.Fronts.{Part, front_cut}
 use Rattle.answers.specs.declared.answer.Refusal.{Refusal}
 use Rattle.answers.specs.Step.{Step, accepting, refusing}
 use Rattle.answers.proofs.Meaning.{Means, accepts, refuses}
 use Rattle.storage.proofs.WellFormed.{formed}
 use Rattle.commit.proofs.PrefixTurns.{differs_step, longer_step, shorter_step, unseen_step, zero_step, some_step}
-use Rattle.committed_prefix.proofs.PrefixLaws.{changed, at, committed_is, owner_is, empty_is, unseen_written, keep_written}
+use Rattle.commit.proofs.PrefixLaws.{changed, at, committed_is, owner_is, empty_is, unseen_written, keep_written}
 use Rattle.commit.proofs.Ends.{longer_means, end_means, agree_means, end_limit}
 use Rattle.commit.proofs.Difference.{difference_noted}
 use Rattle.storage.specs.Head.{prefixes_held, committed_number, owner_of}

@@ -24,7 +24,7 @@ use Rattle.storage.proofs.Meanings.{Stands, findings_stored, findings_taken, fin
 use Rattle.storage.proofs.WellFormed.{formed}
 use Rattle.log_violation.specs.Violation.{note_held, note_bytes, findings_written, room_for, room_answer, noted_in}
 use Rattle.log_violation.proofs.ViolationLaws.{Holds, note_holds, note_length, findings_long}
-use Rattle.committed_prefix.specs.Prefix.{unseen_set}
+use Rattle.commit.specs.Committed.{unseen_set}
 use Rattle.commit.specs.Prefix.{difference, note_step}
 use Rattle.answers.specs.declared.answer.Accepted.{Accepted}
 use Rattle.answers.specs.declared.answer.Refusal.{Refusal}

@@ -13,8 +13,8 @@ use Rattle.storage.specs.Tables.{prefixes_part}
 use Rattle.storage.specs.Head.{prefixes_held}
 use Rattle.storage.proofs.Meanings.{Stands, number_length}
 use Rattle.storage.proofs.WellFormed.{formed, formed_index}
-use Rattle.committed_prefix.specs.Prefix.{agree_in}
-use Rattle.committed_prefix.proofs.PrefixLaws.{at, agree_at}
+use Rattle.commit.specs.Committed.{agree_in}
+use Rattle.commit.proofs.PrefixLaws.{at, agree_at}
 use Rattle.commit.specs.Prefix.{longer_in, end_in}
 
 -- ---- read

@@ -9,8 +9,8 @@ use Rattle.model.specs.Sizes.{Bytes}
 use Rattle.model.proofs.Tests.{cond_true, cond_false}
 use Rattle.storage.specs.Writes.{committed_set}
 use Rattle.storage.specs.Head.{committed_number, owner_of}
-use Rattle.prefix_lookup.specs.Prefix.{stored_of, front_through}
-use Rattle.committed_prefix.specs.Prefix.{agree_in, unseen_set, keep_bytes}
+use Rattle.log_prefix.specs.Prefix.{stored_of, front_through}
+use Rattle.commit.specs.Committed.{agree_in, unseen_set, keep_bytes}
 use Rattle.commit.specs.Prefix.{longer_in, end_in, flags_of, note_step, insert_step, kept_step, seen_step, commit_step}
 use Rattle.units.specs.declared.LogPrefixWitness.{LogPrefixWitness}
 use Rattle.answers.specs.declared.answer.Accepted.{Accepted}

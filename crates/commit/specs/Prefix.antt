@@ -6,10 +6,10 @@ use Rattle.model.specs.History.{Finding}
 use Rattle.storage_bytes.specs.Words.{word_at}
 use Rattle.storage.specs.Values.{index_of}
 use Rattle.storage.specs.Head.{committed_number, owner_of}
-use Rattle.prefix_lookup.specs.Prefix.{stored_of, front_through}
+use Rattle.log_prefix.specs.Prefix.{stored_of, front_through}
 use Rattle.answers.specs.declared.answer.Refusal.{Refusal}
 use Rattle.answers.specs.Step.{Step, accepting, refusing}
-use Rattle.committed_prefix.specs.Prefix.{rows_of, agree_in, unseen_set, keep_bytes}
+use Rattle.commit.specs.Committed.{rows_of, agree_in, unseen_set, keep_bytes}
 use Rattle.log_violation.specs.Violation.{room_for, noted_in}
 use Rattle.units.specs.declared.LogPrefixWitness.{LogPrefixWitness}
 

@@ -7,15 +7,15 @@ ghost use Rattle.model.specs.Sizes.{node_count};
 ghost use Rattle.commit.specs.Prefix.{flags_of, note_step, insert_step, commit_step};
 ghost use Rattle.answers.specs.Step.{Gives};
 
+use crate::committed::{agree_through, committed_prefix, keep, set_unseen};
 use answers::answer::{Accepted, Refusal};
-use committed_prefix::committed::{agree_through, committed_prefix, keep, set_unseen};
+use log_prefix::lookup::front_through;
 use log_violation::violation::note_in;
-use prefix_lookup::lookup::front_through;
-use prefix_rows::prefixes::through;
 use storage::head::{owner, set_committed};
 use storage::stored::Stored;
 use storage_bytes::layout::{History, PREFIXES};
-use table_rows::findings::{Found, LG_04};
+use storage_rows::findings::{Found, LG_04};
+use storage_rows::prefixes::through;
 use units::{LogIndex, LogPrefixWitness, NodeId, Term};
 
 // The flags are numbers and no enum: their sum is the record's value, which callers in C read.

@@ -21,9 +21,9 @@ use Rattle.storage.specs.Writes.{terms_lengthened}
 use Rattle.storage.specs.Head.{terms_held, certificates_held}
 use Rattle.storage.proofs.RuleLaws.{pass}
 use Rattle.storage.proofs.Meanings.{Stands, terms_read, certificates_read, term_read, term_written, terms_added}
-use Rattle.term_marks.specs.Marks.{lower_back}
+use Rattle.election_certificates.specs.Marks.{lower_back}
 use Rattle.commit_terms.specs.Terms.{lengthened_to, term_in, is_replaced, first_replaced, replace_bytes, replace_all, changed_from, record_bytes}
-use Rattle.term_marks.proofs.MarkLaws.{lower_means}
+use Rattle.election_certificates.proofs.MarkLaws.{lower_means}
 
 module _ (h : Bytes) (x : History) (s : Stands h x) where
   pub terms_counted : length x.terms ≡ terms_held h

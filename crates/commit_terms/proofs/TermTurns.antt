@@ -22,9 +22,9 @@ use Rattle.storage.proofs.WriteLaws.{region_back}
 use Rattle.storage.proofs.RuleLaws.{pass, stop}
 use Rattle.storage.proofs.HeadLaws.{head_other, head_before}
 use Rattle.units.specs.declared.LogIndex.{LogIndex}
-use Rattle.table_rows.specs.TermSearch.{found_index}
-use Rattle.table_rows.proofs.TermSearchLaws.{index_found, index_none, index_told, nothing_told}
-use Rattle.term_marks.specs.Marks.{lower_back}
+use Rattle.storage_rows.specs.TermSearch.{found_index}
+use Rattle.storage_rows.proofs.TermSearchLaws.{index_found, index_none, index_told, nothing_told}
+use Rattle.election_certificates.specs.Marks.{lower_back}
 use Rattle.commit_terms.specs.Terms.{lengthened_to, term_in, is_replaced, first_replaced, replace_bytes, replace_all, changed_from, record_bytes, terms_step}
 use Rattle.answers.specs.declared.answer.Refusal.{Refusal}
 use Rattle.answers.specs.Numbers.{accepted_with}

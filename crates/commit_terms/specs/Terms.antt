@@ -8,7 +8,7 @@ use Rattle.storage_bytes.specs.Layout.{terms_start, term_width}
 use Rattle.storage.specs.Tables.{term_row, terms_part}
 use Rattle.storage.specs.Writes.{terms_lengthened}
 use Rattle.storage.specs.Head.{terms_held, certificates_held}
-use Rattle.term_marks.specs.Marks.{lower_back}
+use Rattle.election_certificates.specs.Marks.{lower_back}
 use Rattle.answers.specs.declared.answer.Refusal.{Refusal}
 use Rattle.answers.specs.Step.{Step, accepting, refusing}
 

@@ -1,4 +1,4 @@
-// Kind 3, after commit/prefix.rs of the Rust: the terms in which indexes were committed. Stands on table_rows and term_marks.
+// Kind 3, after commit/prefix.rs of the Rust: the terms in which indexes were committed.
 #![tactic(auto)]
 
 pub mod terms;

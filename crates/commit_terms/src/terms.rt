@@ -3,19 +3,19 @@
 ghost use Rattle.std.specs.Prelude.{◌≡◌, true, ◌+◌, ◌-◌, ◌≤◌};
 ghost use Rattle.storage.specs.Rules.{well_formed};
 ghost use Rattle.storage.specs.Tables.{term_row};
-ghost use Rattle.table_rows.specs.TermSearch.{found_index};
+ghost use Rattle.storage_rows.specs.TermSearch.{found_index};
 ghost use Rattle.model.specs.Sizes.{index_limit};
 ghost use Rattle.commit_terms.specs.Terms.{lengthened_to, is_replaced, first_replaced, replace_bytes, replace_all, terms_step};
 ghost use Rattle.answers.specs.Step.{Gives};
 
 use answers::answer::{Accepted, Refusal};
-use records::head::CommitTerms;
+use election_certificates::marks::lower_marks;
+use record_reading::head::CommitTerms;
 use storage::fresh::clear;
 use storage::head::{last_recorded, set_last_recorded};
 use storage::rows::set;
 use storage_bytes::layout::{History, TERM_WIDTH, TERMS, Terms};
-use table_rows::terms::{CommitTerm, term_of};
-use term_marks::marks::lower_marks;
+use storage_rows::terms::{CommitTerm, term_of};
 use units::{LogIndex, Term};
 
 // The list is lengthened with zeros to `new`: the places first, then the count, once. The places are lent on the spot, as the table is in
@@ -80,7 +80,7 @@ fn replace_terms(history: &mut History, first: LogIndex, new: LogIndex, term: Te
 }
 
 // The indexes after old, through new, were committed in the term: 8 when old exceeds new. A repeated record writes nothing.
-#[tactic(auto, using(storage::proofs::WellFormed::certificates_fit, crate::proofs::TermTurns::lengthened_certificates, crate::proofs::TermTurns::replace_all_certificates, table_rows::proofs::TermSearchLaws::index_told))]
+#[tactic(auto, using(storage::proofs::WellFormed::certificates_fit, crate::proofs::TermTurns::lengthened_certificates, crate::proofs::TermTurns::replace_all_certificates, storage_rows::proofs::TermSearchLaws::index_told))]
 pub fn record_commit_terms(history: &mut History, t: CommitTerms) -> Result<Accepted, Refusal>
     requires { (well_formed history.old ≡ true) × (t.new.0 ≤ index_limit) }
     ensures { Gives (terms_step history.old t.old.0 t.new.0 t.term.0) result history.new }

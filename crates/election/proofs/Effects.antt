@@ -30,11 +30,11 @@ use Rattle.storage.proofs.WellFormed.{certificates_are, formed}
 use Rattle.storage.proofs.Meanings as meanings
 use Rattle.storage.proofs.Meanings.{Stands, certificates_stored}
 use Rattle.storage.proofs.OrderLaws.{held_is, election_written}
-use Rattle.certificate_order.specs.Order.{taken_of}
-use Rattle.election_judging.specs.declared.judging.Numbering.{Numbering}
-use Rattle.election_judging.specs.declared.judging.NumberTaken.{NumberTaken}
-use Rattle.election_judging.specs.Certify.{numbering_in}
-use Rattle.election_judging.proofs.Ordered.{numbering_is}
+use Rattle.election_certificates.specs.Order.{taken_of}
+use Rattle.election.specs.declared.judging.Numbering.{Numbering}
+use Rattle.election.specs.declared.judging.NumberTaken.{NumberTaken}
+use Rattle.election.specs.Numbering.{numbering_in}
+use Rattle.election.proofs.Ordered.{numbering_is}
 use Rattle.election.specs.Certify.{full_in, kept}
 use Rattle.std.specs.Prelude.{Result, Ok, Err}
 

@@ -1,3 +1,5 @@
 pub mod Turns
 pub mod Effects
 pub mod Meaning
+pub mod NumberingTurns
+pub mod Ordered

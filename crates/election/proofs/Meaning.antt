@@ -14,9 +14,9 @@ use Rattle.model.specs.History.{History, front_of}
 use Rattle.storage.specs.Head.{prefixes_held, certificates_held}
 use Rattle.storage.specs.Decode.{prefix_at}
 use Rattle.storage.proofs.Meanings.{Stands}
-use Rattle.prefix_lookup.specs.Prefix.{witness}
-use Rattle.prefix_lookup.proofs.Fronts.{front_cut}
-use Rattle.certificate_order.specs.Order.{taken_of}
+use Rattle.log_prefix.specs.Prefix.{witness}
+use Rattle.log_prefix.proofs.Fronts.{front_cut}
+use Rattle.election_certificates.specs.Order.{taken_of}
 use Rattle.answers.specs.declared.answer.Refusal.{Refusal}
 use Rattle.answers.specs.Step.{Step}
 use Rattle.answers.proofs.Meaning.{Means, accepts, refuses}

@@ -9,16 +9,16 @@ use Rattle.model.specs.Sizes.{Bytes}
 use Rattle.storage.specs.Tables.{CertificateRow, certificate_row, certificates_part}
 use Rattle.storage.specs.Writes.{certificate_added}
 use Rattle.storage.specs.Head.{certificates_held}
-use Rattle.prefix_lookup.specs.Prefix.{front_through}
+use Rattle.log_prefix.specs.Prefix.{front_through}
 use Rattle.units.specs.declared.LogPrefixWitness.{LogPrefixWitness}
 use Rattle.answers.specs.declared.answer.Refusal.{Refusal}
 use Rattle.answers.specs.Numbers.{accepted_with}
 use Rattle.answers.specs.Step.{Gives, accepting, refusing}
 use Rattle.answers.proofs.StepLaws.{ends}
-use Rattle.election_judging.specs.declared.judging.Numbering.{Numbering}
-use Rattle.election_judging.specs.declared.judging.NumberTaken.{NumberTaken}
-use Rattle.election_judging.specs.Certify.{numbering_in}
-use Rattle.election_judging.proofs.Turns as judged
+use Rattle.election.specs.declared.judging.Numbering.{Numbering}
+use Rattle.election.specs.declared.judging.NumberTaken.{NumberTaken}
+use Rattle.election.specs.Numbering.{numbering_in}
+use Rattle.election.proofs.NumberingTurns as judged
 use Rattle.election.specs.Certify.{full_in, kept, step_of, election_step}
 use Rattle.std.specs.Prelude.{Option, Some, None, Result, Ok, Err}
 

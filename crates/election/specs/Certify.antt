@@ -5,12 +5,12 @@ use Rattle.model.specs.Sizes.{Bytes, certificate_limit}
 use Rattle.storage.specs.Tables.{CertificateRow}
 use Rattle.storage.specs.Writes.{certificate_added}
 use Rattle.storage.specs.Head.{certificates_held}
-use Rattle.prefix_lookup.specs.Prefix.{front_through}
+use Rattle.log_prefix.specs.Prefix.{front_through}
 use Rattle.answers.specs.declared.answer.Refusal.{Refusal}
 use Rattle.answers.specs.Step.{Step, accepting, refusing}
-use Rattle.election_judging.specs.declared.judging.Numbering.{Numbering}
-use Rattle.election_judging.specs.declared.judging.NumberTaken.{NumberTaken}
-use Rattle.election_judging.specs.Certify.{numbering_of, numbering_in}
+use Rattle.election.specs.declared.judging.Numbering.{Numbering}
+use Rattle.election.specs.declared.judging.NumberTaken.{NumberTaken}
+use Rattle.election.specs.Numbering.{numbering_of, numbering_in}
 use Rattle.units.specs.declared.LogPrefixWitness.{LogPrefixWitness}
 
 -- as many certificates are held as a history holds

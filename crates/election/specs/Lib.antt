@@ -1,1 +1,2 @@
 pub mod Certify
+pub mod Numbering

@@ -2,19 +2,19 @@
 // `length` entries of the leader's front, or no log.
 ghost use Rattle.std.specs.Prelude.{◌≡◌, ◌<◌, true, is_some, unwrap_or};
 ghost use Rattle.storage.specs.Rules.{well_formed};
-ghost use Rattle.certificate_rows.specs.Values.{certificate_value};
+ghost use Rattle.storage_rows.specs.Certificates.{certificate_value};
 ghost use Rattle.model.specs.Sizes.{node_count};
 ghost use Rattle.election.specs.Certify.{kept, election_step};
 ghost use Rattle.answers.specs.Step.{Gives};
 
+use crate::judging::number_in_term;
 use answers::answer::{Accepted, Refusal};
-use certificate_rows::certificates::{Certificate, add_certificate};
-use election_judging::judging::number_in_term;
-use prefix_lookup::lookup::front_through;
-use records::head::Election;
+use log_prefix::lookup::front_through;
+use record_reading::head::Election;
 use storage::head::certificate_count;
 use storage::stored::Stored;
 use storage_bytes::layout::History;
+use storage_rows::certificates::{Certificate, add_certificate};
 use units::{CERTIFICATE_LIMIT, LogIndex, LogPrefixWitness};
 
 // A new certificate: nothing of its log is checked yet.

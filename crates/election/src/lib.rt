@@ -1,5 +1,5 @@
-// Kind 4, elections: each keeps a certificate of the log its leader was elected with. Document 01, "Election and check", decides.
-// Stands on certificate_rows, prefix_lookup and election_judging.
+// Kind 4, after election.rs of the Rust: an election leaves a certificate, the first entries of its leader's front or no log.
 #![tactic(auto)]
 
 pub mod certificate;
+pub mod judging;

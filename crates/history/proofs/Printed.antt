@@ -16,17 +16,17 @@ use Rattle.storage.specs.Decode.{decode}
 use Rattle.storage.specs.Fresh.{FreshMade, made_number}
 use Rattle.storage.specs.declared.fresh.WrongLength.{WrongLength}
 use Rattle.storage.proofs.Meanings.{stand, end_is}
-use Rattle.index_lists.specs.Picked.{nth}
+use Rattle.lists.specs.Picked.{nth}
 use Rattle.storage.specs.Values.{committed_end}
-use Rattle.index_lists.specs.Committed.{owner_in}
-use Rattle.table_rows.specs.declared.findings.Found.{Found}
-use Rattle.finding_lists.specs.Findings.{finding_of, finding_answer}
+use Rattle.lists.specs.Committed.{owner_in}
+use Rattle.storage_rows.specs.declared.findings.Found.{Found}
+use Rattle.lists.specs.Findings.{finding_of, finding_answer}
 use Rattle.lists.specs.declared.leaders.Leader.{Leader as Printed}
 use Rattle.lists.specs.Leaders.{leader_as, leader_answer}
-use Rattle.index_lists.specs.declared.unseen.Unseen.{Unseen as Mark}
-use Rattle.index_lists.specs.Unseen.{mark_of, unseen_answer}
+use Rattle.lists.specs.declared.unseen.Unseen.{Unseen as Mark}
+use Rattle.lists.specs.Unseen.{mark_of, unseen_answer}
 use Rattle.units.specs.declared.LogIndex.{LogIndex}
-use Rattle.index_lists.specs.Unknown.{index_of, unknown_answer}
+use Rattle.lists.specs.Unknown.{index_of, unknown_answer}
 use Rattle.lists.proofs.Meaning.{owner_told, findings_told, leaders_told, unseen_told, unknown_told}
 use Rattle.history.specs.declared.exports.FindingReply.{FindingReply}
 use Rattle.history.specs.declared.exports.LeaderReply.{LeaderReply}

@@ -12,10 +12,10 @@ use Rattle.storage.specs.Decode.{decode}
 use Rattle.storage.specs.Fresh.{fresh_history, made_number}
 use Rattle.storage.specs.declared.fresh.WrongLength.{WrongLength}
 use Rattle.answers.specs.declared.answer.Refusal.{Refusal}
-use Rattle.index_lists.specs.Picked.{nth}
-use Rattle.table_rows.specs.declared.findings.Found.{Found}
+use Rattle.lists.specs.Picked.{nth}
+use Rattle.storage_rows.specs.declared.findings.Found.{Found}
 use Rattle.lists.specs.declared.leaders.Leader.{Leader as Printed}
-use Rattle.index_lists.specs.declared.unseen.Unseen.{Unseen as Mark}
+use Rattle.lists.specs.declared.unseen.Unseen.{Unseen as Mark}
 use Rattle.units.specs.declared.LogIndex.{LogIndex}
 use Rattle.answers.specs.declared.numbers.Reply.{Reply}
 use Rattle.history.specs.declared.exports.FindingReply.{FindingReply}

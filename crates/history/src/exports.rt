@@ -7,17 +7,17 @@ ghost use Rattle.storage_bytes.specs.Layout.{history_length};
 ghost use Rattle.history.specs.Exports.{Handed, MadeFresh, no_finding, found_as, no_leader, leader_is, no_mark, mark_is, no_index, index_is, finding_out, leader_out, unseen_out, unknown_out, committed_out};
 
 use answers::numbers::Reply;
-use finding_lists::findings::finding_at;
-use index_lists::committed::printed_committed;
-use index_lists::unknown::unknown_at;
-use index_lists::unseen::{Unseen, unseen_at};
+use lists::committed::printed_committed;
+use lists::findings::finding_at;
 use lists::leaders::{Leader, leader_at};
-use rules::whole::stored;
+use lists::unknown::unknown_at;
+use lists::unseen::{Unseen, unseen_at};
 use storage::fresh::{WrongLength, fresh};
 use storage::stored::Stored;
 use storage_bytes::layout::HISTORY_LENGTH;
+use storage_rows::findings::Found;
+use storage_rules::whole::stored;
 use submission::submit::submit;
-use table_rows::findings::Found;
 use units::LogIndex;
 
 // The states of a reply are numbers: only numbers and structs of numbers go to callers in C.

@@ -1,5 +1,4 @@
-// What callers are given: a fresh history, a record handed to it, and the readers of its lists. Stands on submission and lists;
-// `history_c` exports it for other languages.
+// What callers are given: a fresh history, a record handed to it, and the readers of its lists.
 #![tactic(auto)]
 
 pub mod exports;

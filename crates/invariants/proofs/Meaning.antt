@@ -2,7 +2,7 @@
 -- Assumes nothing.
 use Prim.Native.Nat.{ℕ}
 use Rattle.std.specs.Prelude.{Option, Result, Ok}
-use Rattle.bit_fields.specs.declared.bits.Fault.{Fault}
+use Rattle.record_bits.specs.declared.bits.Fault.{Fault}
 use mathlib.Core.Path.{◌≡◌, ap, ◌∙◌}
 use Rattle.model.specs.Sizes.{Bytes}
 use Rattle.model.specs.Record.{rows}
@@ -10,10 +10,10 @@ use Rattle.model.specs.Reading.{readable, read}
 use Rattle.model.specs.History.{History}
 use Rattle.model.specs.Answer.{accepted, answer, after}
 use Rattle.model.specs.Rows.{verdict}
-use Rattle.records.specs.declared.head.Head.{Head}
-use Rattle.records.specs.Heads.{Told, reading_of}
-use Rattle.record_scan.specs.Places.{RowWalk, rows_at, first_row}
-use Rattle.records.proofs.Readable.{rows_walk}
+use Rattle.record_reading.specs.declared.head.Head.{Head}
+use Rattle.record_reading.specs.Heads.{Told, reading_of}
+use Rattle.record_entries.specs.Places.{RowWalk, rows_at, first_row}
+use Rattle.record_reading.proofs.Readable.{rows_walk}
 use Rattle.invariants.specs.declared.commit_safety.Failure.{Failure}
 use Rattle.invariants.specs.Rules.{verdict_for, verdict_of}
 use Rattle.invariants.proofs.Pass.{verdict_back}

@@ -17,10 +17,10 @@ use Rattle.model.specs.Rows.{failing, verdict, or, rule1, rule2, rule3, rule4}
 use Rattle.model.proofs.Tests.{either}
 use Rattle.std.specs.Bool.{then_some}
 use Rattle.model.specs.Reading.{field_at}
-use Rattle.record_scan.specs.Places.{configuration_at, row_at, after_row, rows_at, RowWalk}
-use Rattle.record_scan.proofs.Given.{Bare}
-use Rattle.record_walk.specs.Values.{configuration_value, row_value}
-use Rattle.record_walk.proofs.Walks.{rows_next, rows_none, walk_rowed}
+use Rattle.record_entries.specs.Places.{configuration_at, row_at, after_row, rows_at, RowWalk}
+use Rattle.record_entries.proofs.Given.{Bare}
+use Rattle.record_entries.specs.Values.{configuration_value, row_value}
+use Rattle.record_entries.proofs.Walks.{rows_next, rows_none, walk_rowed}
 use Rattle.invariants.specs.declared.commit_safety.Rule.{Rule}
 use Rattle.invariants.specs.declared.commit_safety.Failure.{Failure}
 use Rattle.std.specs.Prelude.{Some, None}

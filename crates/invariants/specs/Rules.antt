@@ -3,8 +3,8 @@
 use Rattle.std.specs.Prelude.{ℕ, true, false, cond, List, [], ◌∷◌, ltb, eqb, Option, Some, None, Result, Ok}
 use Rattle.model.specs.Record as model
 use Rattle.model.specs.Rows as rows
-use Rattle.record_walk.specs.declared.walk.Row.{Row}
-use Rattle.record_walk.specs.declared.walk.Configuration.{Configuration}
+use Rattle.record_entries.specs.declared.walk.Row.{Row}
+use Rattle.record_entries.specs.declared.walk.Configuration.{Configuration}
 use Rattle.invariants.specs.declared.commit_safety.Rule.{Rule}
 use Rattle.invariants.specs.declared.commit_safety.Failure.{Failure}
 use Rattle.answers.specs.declared.answer.Accepted.{Accepted}

@@ -2,11 +2,11 @@
 // An earlier rule counts before an earlier row, so the walk goes on past a failing row, to rows that fail an earlier rule.
 ghost use Rattle.std.specs.Prelude.{◌≡◌, ◌∷◌, ltb};
 ghost use Rattle.model.specs.Rows as model;
-ghost use Rattle.record_scan.specs.Places as places;
+ghost use Rattle.record_entries.specs.Places as places;
 ghost use Rattle.invariants.specs.Rules.{row_of, configured, number, rank, least, node_in, first_rule, least_from, verdict_for, accepted_for, rows_answer};
 
 use answers::answer::{Accepted, Refusal};
-use record_walk::walk::{Configuration, FIRST_ROW, Row, row_at};
+use record_entries::walk::{Configuration, FIRST_ROW, Row, row_at};
 use units::NodeId;
 
 // The rules, in order.

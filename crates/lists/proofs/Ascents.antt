@@ -19,7 +19,7 @@ use Rattle.model.proofs.Leaders.{ascending_ascends}
 use Rattle.lists.specs.declared.leaders.Leader.{Leader as Printed}
 use Rattle.std.specs.Prelude.{Option, None}
 use Rattle.lists.specs.Leaders.{pair, leader_as, is_below, lesser, better_of, least_in, next_of, rounds_of, leader_in}
-use Rattle.finding_lists.proofs.OrderLaws.{key_differs, key_same}
+use Rattle.lists.proofs.OrderLaws.{key_differs, key_same}
 use Rattle.lists.proofs.Ordered.{Order, by_number, by_key}
 use Rattle.lists.proofs.LeaderLaws.{better_other, better_low, better_taken, lesser_first}
 

@@ -1,3 +1,7 @@
+pub mod FindingWhole
+pub mod OrderLaws
+pub mod PickLaws
+pub mod IndexWhole
 pub mod Ordered
 pub mod LeaderLaws
 pub mod Ascents

@@ -13,13 +13,13 @@ use Rattle.storage.specs.Decode.{decode}
 use Rattle.storage.specs.Values.{committed_end}
 use Rattle.storage.specs.Head.{terms_held, findings_held, owner_of}
 use Rattle.storage.proofs.Meanings.{Stands, owner_read, end_is, findings_stored}
-use Rattle.index_lists.specs.Picked.{nth}
-use Rattle.index_lists.specs.Committed.{owner_in}
-use Rattle.finding_lists.specs.Findings.{finding_of, finding_answer}
+use Rattle.lists.specs.Picked.{nth}
+use Rattle.lists.specs.Committed.{owner_in}
+use Rattle.lists.specs.Findings.{finding_of, finding_answer}
 use Rattle.std.specs.Prelude.{None}
 use Rattle.lists.specs.Leaders.{leader_as, leader_answer}
-use Rattle.index_lists.specs.Unseen.{mark_of, mark_in, unseen_answer}
-use Rattle.index_lists.specs.Unknown.{is_known, index_of, index_in, unknown_answer}
+use Rattle.lists.specs.Unseen.{mark_of, mark_in, unseen_answer}
+use Rattle.lists.specs.Unknown.{is_known, index_of, index_in, unknown_answer}
 use Rattle.lists.proofs.Ordered.{ordered_picked}
 use Rattle.storage_bytes.proofs.ListLaws.{tabulate_length}
 use Rattle.model.specs.Leaders.{ascending}

@@ -17,10 +17,10 @@ use Rattle.model.specs.Lists.{insert, ordered}
 use Rattle.model.proofs.Tests.{cond_true, cond_false, either, or_cases, and_left, and_right, or_false_left, and_both}
 use Rattle.storage_bytes.specs.Lists.{every}
 use Rattle.storage_bytes.proofs.ListLaws.{both, every_weaker, every_insert, map_insert}
-use Rattle.table_rows.specs.declared.findings.Found.{Found}
+use Rattle.storage_rows.specs.declared.findings.Found.{Found}
 use Rattle.std.specs.Prelude.{Option, None}
-use Rattle.finding_lists.specs.Findings.{comes_before, count_first, finding_of, pick_ordered}
-use Rattle.finding_lists.proofs.OrderLaws.{key_differs, key_same}
+use Rattle.lists.specs.Findings.{comes_before, count_first, finding_of, pick_ordered}
+use Rattle.lists.proofs.OrderLaws.{key_differs, key_same}
 
 -- ---- an order by keys, one after the other
 

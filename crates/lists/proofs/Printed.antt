@@ -19,11 +19,11 @@ use Rattle.storage.specs.Decode.{decode}
 use Rattle.storage.specs.Head.{terms_held}
 use Rattle.storage.proofs.Meanings.{terms_read, term_read}
 use Rattle.units.specs.declared.LogIndex.{LogIndex}
-use Rattle.index_lists.specs.Picked.{nth, pick_from}
+use Rattle.lists.specs.Picked.{nth, pick_from}
 use Rattle.std.specs.Prelude.{Option, None}
 use Rattle.lists.specs.Leaders.{leader_as, leader_in}
-use Rattle.index_lists.specs.Unseen.{mark_of, unmarked, mark_at}
-use Rattle.index_lists.specs.Unknown.{is_known, index_of}
+use Rattle.lists.specs.Unseen.{mark_of, unmarked, mark_at}
+use Rattle.lists.specs.Unknown.{is_known, index_of}
 use Rattle.lists.proofs.Ascents.{leaders_picked, leaders_few}
 use Rattle.model.specs.Leaders.{ascending}
 

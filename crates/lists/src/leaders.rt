@@ -2,7 +2,7 @@
 // the least above it.
 ghost use Rattle.std.specs.Prelude.{◌≡◌, ◌≤◌};
 ghost use Rattle.storage.specs.Tables.{finding_rows};
-ghost use Rattle.table_rows.specs.Values.{finding_value};
+ghost use Rattle.storage_rows.specs.Rows.{finding_value};
 ghost use Rattle.lists.specs.Leaders.{after, lesser_of, better_of, least_in, next_of, leader_in, leader_answer};
 ghost use Rattle.model.specs.Sizes.{finding_limit};
 
@@ -10,7 +10,7 @@ use storage::head::finding_count;
 use storage::rows::StoredRow;
 use storage::stored::Stored;
 use storage_bytes::layout::{FINDINGS, Findings};
-use table_rows::findings::{Found, LG_05};
+use storage_rows::findings::{Found, LG_05};
 use units::{NodeId, Term};
 
 // An elected leader without a committed entry. The order is the printed one: by term, then node.

@@ -1,5 +1,10 @@
-// The printed lists of a history, one element at a time: the leaders; and what all lists mean. Nothing is written. Stands on
-// table_rows, and on finding_lists and index_lists in its laws.
+// The printed lists of a history, one element at a time: findings, leaders, unseen marks, unknown indexes, the committed prefix. Nothing is
+// written.
 #![tactic(auto)]
 
+pub mod committed;
+pub mod findings;
 pub mod leaders;
+pub mod pick;
+pub mod unknown;
+pub mod unseen;

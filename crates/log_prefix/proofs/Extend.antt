@@ -20,9 +20,9 @@ use Rattle.storage.specs.Decode.{prefix_at, extended, resolve}
 use Rattle.storage.specs.Rules.{prefix_right, prefixes_right_after}
 use Rattle.storage.proofs.RowFacts.{Facts, row_at, Sized, resolve_snoc, resolve_count, row_right, facts_snoc, right_snoc, stored_at, number_of, number_kept, number_new}
 use Rattle.storage.proofs.PrefixLaws.{new_right}
-use Rattle.prefix_lookup.specs.Prefix.{row_of, find}
+use Rattle.log_prefix.specs.Prefix.{row_of, find}
 use Rattle.log_prefix.specs.Extension.{or_next}
-use Rattle.prefix_lookup.proofs.PrefixLaws.{Rows, found, missing}
+use Rattle.log_prefix.proofs.PrefixLaws.{Rows, found, missing}
 
 -- the rows with the prefix of number p extended by e to index i, found or made, and its number
 unfoldable pub extend_rows : List PrefixRow → ℕ → ℕ → Entry → List PrefixRow

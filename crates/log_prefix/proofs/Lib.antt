@@ -1,2 +1,11 @@
+pub mod ComparisonLaws
+pub mod Turns
 pub mod Extend
 pub mod Written
+pub mod PrefixLaws
+pub mod SliceLaws
+pub mod TableLaws
+pub mod FrontLaws
+pub mod Fronts
+pub mod Loops
+pub mod StoredLaws

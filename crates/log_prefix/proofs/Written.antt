@@ -12,15 +12,15 @@ use borrow.Author.Tests.{eq-eqb, ne_eqb, eqb-true, eqb-false}
 use Rattle.model.specs.Sizes.{Bytes}
 use Rattle.model.specs.Entry.{Entry}
 use Rattle.model.proofs.Tests.{tf, either, cond_cases, cond_true, cond_false}
-use Rattle.record_walk.specs.declared.walk.ShownEntry.{ShownEntry}
+use Rattle.record_entries.specs.declared.walk.ShownEntry.{ShownEntry}
 use Rattle.storage_bytes.specs.Words.{bytes_at}
 use Rattle.storage.specs.Tables.{prefix_row, prefixes_part}
 use Rattle.storage.specs.Values.{number_index}
 use Rattle.storage.specs.Writes.{prefix_appended}
 use Rattle.storage_bytes.proofs.ListLaws.{tabulate_length}
-use Rattle.prefix_lookup.specs.Table.{entry_value}
-use Rattle.prefix_lookup.specs.Prefix.{witness, stored_of, row_of, find}
-use Rattle.prefix_lookup.proofs.StoredLaws.{stored_number, stored_nothing}
+use Rattle.log_prefix.specs.Table.{entry_value}
+use Rattle.log_prefix.specs.Prefix.{witness, stored_of, row_of, find}
+use Rattle.log_prefix.proofs.StoredLaws.{stored_number, stored_nothing}
 use Rattle.units.specs.declared.LogPrefixWitness.{LogPrefixWitness}
 use Rattle.log_prefix.specs.Extension.{extension_in, appended, made, extended_bytes, extended_count, extended_number, extended, next_index, extension, extension_bytes, Making, Extending, written_bytes, written_count, written_number}
 use Rattle.log_prefix.specs.declared.prefix.Extended.{Extended}

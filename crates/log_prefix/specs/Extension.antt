@@ -9,9 +9,9 @@ use Rattle.storage.specs.Writes.{prefix_appended}
 use Rattle.storage.specs.Values.{number_index}
 use Rattle.storage.specs.Head.{prefixes_held}
 use Rattle.log_prefix.specs.declared.prefix.Extended.{Extended}
-use Rattle.record_walk.specs.declared.walk.ShownEntry.{ShownEntry}
-use Rattle.prefix_lookup.specs.Table.{entry_value}
-use Rattle.prefix_lookup.specs.Prefix.{witness, row_of, find}
+use Rattle.record_entries.specs.declared.walk.ShownEntry.{ShownEntry}
+use Rattle.log_prefix.specs.Table.{entry_value}
+use Rattle.log_prefix.specs.Prefix.{witness, row_of, find}
 
 -- an extension that is stored has its number, one that is not gets the next
 abbrev pub or_next : ℕ → ℕ → ℕ

@@ -1,1 +1,4 @@
+pub mod Comparison
 pub mod Extension
+pub mod Table
+pub mod Prefix

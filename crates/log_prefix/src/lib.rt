@@ -1,5 +1,8 @@
-// Logs as prefixes, after logical_log of the Rust: a prefix is stored once, told by number, and extended (types/prefix.rs). Stands
-// on prefix_lookup.
+// Prefixes of logs as they are stored, one row an entry: looked up, lengthened by the one step that every longer prefix goes through, and
+// compared entry by entry, never by number alone (types/prefix.rs and logical_log/comparison.rs of the Rust).
 #![tactic(auto)]
 
+pub mod comparison;
+pub mod lookup;
 pub mod prefix;
+pub mod table;

@@ -1,12 +1,12 @@
 // Prefixes extended (types/prefix.rs): a prefix is a stored row, which extends the prefix of a smaller number by one entry.
 ghost use Rattle.std.specs.Prelude.{◌≡◌};
-ghost use Rattle.prefix_lookup.specs.Table.{entry_value};
+ghost use Rattle.log_prefix.specs.Table.{entry_value};
 ghost use Rattle.log_prefix.specs.Extension.{Making, made, appended, Extending, extension, extension_bytes};
 
-use prefix_lookup::table::Prefixes;
-use prefix_rows::prefixes::{PrefixRow, append, through};
-use record_walk::walk::ShownEntry;
+use crate::table::Prefixes;
+use record_entries::walk::ShownEntry;
 use storage_bytes::layout::{History, PREFIXES};
+use storage_rows::prefixes::{PrefixRow, append, through};
 use units::LogPrefixWitness;
 
 // An extension, and how many prefixes are stored with it: the search and the new number take the count as it goes along. `append`

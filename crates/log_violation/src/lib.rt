@@ -1,4 +1,4 @@
-// Findings noted once (types/violation.rs). Stands on table_rows.
+// Findings noted once (types/violation.rs).
 #![tactic(auto)]
 
 pub mod violation;

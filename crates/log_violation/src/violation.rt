@@ -4,7 +4,7 @@ ghost use Rattle.std.specs.Prelude.{◌≡◌, ◌≤◌, ◌<◌, [], ◌∷◌
 ghost use Rattle.storage_bytes.specs.Layout.{findings_length};
 ghost use Rattle.storage.specs.Tables.{findings_part};
 ghost use Rattle.storage.specs.Head.{findings_held};
-ghost use Rattle.table_rows.specs.Values.{finding_value};
+ghost use Rattle.storage_rows.specs.Rows.{finding_value};
 ghost use Rattle.log_violation.specs.Violation.{same_numbers, is_noted, note_held, note_bytes, NotedAll, findings_kept, fits_answer, room_answer, noted_in};
 ghost use Rattle.answers.specs.declared.answer.Refusal.{Refusal};
 ghost use Rattle.model.specs.Sizes.{finding_limit};
@@ -14,7 +14,7 @@ use storage::head::{finding_count, set_finding_count};
 use storage::rows::{Row, StoredRow};
 use storage_bytes::layout::{FINDINGS, Findings, History};
 use storage_bytes::words::put_bytes;
-use table_rows::findings::Found;
+use storage_rows::findings::Found;
 use units::FINDING_LIMIT;
 
 // The findings would exceed their limit: refusal 7.

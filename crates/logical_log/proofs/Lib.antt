@@ -1,3 +1,11 @@
 pub mod Whole
 pub mod Stored
 pub mod Meaning
+pub mod Judge
+pub mod Places
+pub mod Turns
+pub mod Rest
+pub mod Judged
+pub mod WritingWhole
+pub mod StoredRows
+pub mod WritingTurns

@@ -20,9 +20,9 @@ use Rattle.model.specs.Record.{Shown, view, front, last_from, last_index}
 use Rattle.model.specs.History.{Finding, History, noted, with_node, with_findings, with_prefixes, with_views, with_unseen}
 use Rattle.model.proofs.Tests.{cond_cases, cond_true, cond_false}
 use Rattle.model.specs.View.{begun_by, mismatches, stored, view_findings, view_refusal, view_effect}
-use Rattle.record_scan.specs.Places.{Walk, first_entry, index_at, term_at, next_at, entries_at, items_at}
-use Rattle.bit_fields.proofs.Widths.{field_lt}
-use Rattle.record_walk.proofs.Walks.{walk_entered}
+use Rattle.record_entries.specs.Places.{Walk, first_entry, index_at, term_at, next_at, entries_at, items_at}
+use Rattle.record_bits.proofs.Widths.{field_lt}
+use Rattle.record_entries.proofs.Walks.{walk_entered}
 use Rattle.storage_bytes.specs.Lists.{every}
 use Rattle.storage.specs.Tables.{PrefixRow, NodeRow, prefix_row, prefixes_part, row_of_node, nodes_part, finding_row, finding_rows, findings_part, tables_in, tables_of}
 use Rattle.storage.specs.Decode.{prefix_at}
@@ -36,19 +36,19 @@ use Rattle.storage.proofs.Meanings.{Stands, prefixes_is, findings_stored, findin
 use Rattle.answers.proofs.Meaning.{MeansUnder, accepts, refuses}
 use Rattle.answers.specs.declared.answer.Refusal as own-refusal
 use Rattle.answers.specs.Step.{Step, accepting, refusing}
-use Rattle.view_writing.specs.Observation.{view_replaced}
+use Rattle.logical_log.specs.Writing.{view_replaced}
 use Rattle.logical_log.specs.Observation.{view_written, view_step}
-use Rattle.view_judging.specs.Judging.{other, is_remembered, note_of, lack_notes, front_at, ends_at, place_from, stored_notes, notes_from, place_in, missing_in, notes_in, held_in, table_in}
+use Rattle.logical_log.specs.Judging.{other, is_remembered, note_of, lack_notes, front_at, ends_at, place_from, stored_notes, notes_from, place_in, missing_in, notes_in, held_in, table_in}
 use Rattle.log_prefix.specs.Extension.{written_bytes, written_count, written_number}
 use Rattle.log_violation.specs.Violation.{held_all, bytes_all}
 use Rattle.log_prefix.proofs.Extend.{Fits, extend_all, extends_all}
-use Rattle.view_judging.proofs.Places.{Turn, gap, lost, more, turn, next, ends_gap, ends_lost, goes_on, stored_stays, stored_goes, walk_more}
-use Rattle.view_judging.proofs.Judge.{missing_made, notes_are}
-use Rattle.view_judging.proofs.Judged.{place_in_stands}
+use Rattle.logical_log.proofs.Places.{Turn, gap, lost, more, turn, next, ends_gap, ends_lost, goes_on, stored_stays, stored_goes, walk_more}
+use Rattle.logical_log.proofs.Judge.{missing_made, notes_are}
+use Rattle.logical_log.proofs.Judged.{place_in_stands}
 use Rattle.log_violation.proofs.ViolationLaws.{Holds, all_hold, findings_long}
 use Rattle.log_violation.proofs.Kept.{findings_kept_lem}
 use Rattle.logical_log.proofs.Whole.{front_count, table_length}
-use Rattle.view_writing.proofs.Stored.{rows_good, rows_by_place}
+use Rattle.logical_log.proofs.StoredRows.{rows_good, rows_by_place}
 use Rattle.logical_log.proofs.Stored.{Sound, front_sound, Whole, front_stands}
 
 -- ---- lists

@@ -14,16 +14,16 @@ use Rattle.model.specs.History.{History, with_prefixes}
 use Rattle.model.specs.View.{begun}
 use Rattle.model.specs.Sizes.{Bytes, index_limit, content_limit, prefix_limit, term_end}
 use Rattle.model.proofs.Tests.{either}
-use Rattle.record_scan.specs.Places.{Walk, index_at, next_at, entries_at}
-use Rattle.bit_fields.proofs.Widths.{field_lt}
-use Rattle.record_walk.proofs.Walks.{walk_entered}
+use Rattle.record_entries.specs.Places.{Walk, index_at, next_at, entries_at}
+use Rattle.record_bits.proofs.Widths.{field_lt}
+use Rattle.record_entries.proofs.Walks.{walk_entered}
 use Rattle.storage.specs.Decode.{prefix_at}
 use Rattle.storage.specs.Head.{prefixes_held}
 use Rattle.storage.proofs.Meanings.{Stands}
 use Rattle.log_prefix.specs.Extension.{extended_bytes, extended_count, extended_number, written_bytes, written_count, written_number}
-use Rattle.view_judging.proofs.Places.{front_suc, front_cut, front_zero, walk_more, content_short}
+use Rattle.logical_log.proofs.Places.{front_suc, front_cut, front_zero, walk_more, content_short}
 use Rattle.log_prefix.proofs.Written.{count_grows, written_cons}
-use Rattle.view_writing.proofs.Stored.{Step, extension_step}
+use Rattle.logical_log.proofs.StoredRows.{Step, extension_step}
 
 -- ---- entries within the limits
 

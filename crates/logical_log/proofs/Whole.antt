@@ -14,22 +14,22 @@ use Rattle.model.specs.Sizes.{Bytes, prefix_limit, finding_limit}
 use Rattle.model.specs.Entry.{Entry}
 use Rattle.model.specs.Record.{front}
 use Rattle.model.proofs.Tests.{cond_true, cond_false}
-use Rattle.record_scan.specs.Places.{Walk, first_entry, entries_at}
+use Rattle.record_entries.specs.Places.{Walk, first_entry, entries_at}
 use Rattle.storage_bytes.specs.Layout.{findings_length}
 use Rattle.storage.specs.Tables.{prefix_row, prefixes_part, findings_part}
 use Rattle.storage.specs.Rules.{well_formed}
 use Rattle.storage.specs.Head.{prefixes_held, findings_held}
 use Rattle.storage.proofs.WellFormed.{formed}
-use Rattle.prefix_lookup.specs.Prefix.{search_from, find}
+use Rattle.log_prefix.specs.Prefix.{search_from, find}
 use Rattle.log_violation.specs.Violation.{findings_kept}
-use Rattle.view_writing.specs.Observation.{Storing, view_replaced, rest_written}
+use Rattle.logical_log.specs.Writing.{Storing, view_replaced, rest_written}
 use Rattle.logical_log.specs.Observation.{view_written, view_step}
-use Rattle.view_judging.specs.Judging.{next_number, front_at, Stand, place_in, missing_in, notes_in, held_in, table_in, ViewJudged}
+use Rattle.logical_log.specs.Judging.{next_number, front_at, Stand, place_in, missing_in, notes_in, held_in, table_in, ViewJudged}
 use Rattle.log_prefix.specs.Extension.{next_index, extension_in, extended_bytes, extended_count, extended_number, written_count}
-use Rattle.record_walk.proofs.Views.{walked}
-use Rattle.view_judging.proofs.Places.{Ended}
-use Rattle.view_judging.proofs.Rest.{Rest, rest_of}
-use Rattle.view_judging.proofs.Judged.{place_in_ended, place_in_stands, missing_most}
+use Rattle.record_entries.proofs.Views.{walked}
+use Rattle.logical_log.proofs.Places.{Ended}
+use Rattle.logical_log.proofs.Rest.{Rest, rest_of}
+use Rattle.logical_log.proofs.Judged.{place_in_ended, place_in_stands, missing_most}
 use Rattle.log_prefix.proofs.Written.{number_made, count_made}
 use Rattle.log_violation.proofs.ViolationLaws.{all_length, findings_long}
 use Rattle.answers.specs.declared.answer.Accepted.{Accepted}
@@ -37,7 +37,7 @@ use Rattle.answers.specs.declared.answer.Refusal.{Refusal}
 use Rattle.answers.specs.Numbers.{accepted_with}
 use Rattle.answers.specs.Step.{accepting, refusing, Gives}
 use Rattle.answers.proofs.StepLaws.{ends, accepts_with, refuses_with}
-use Rattle.view_judging.specs.declared.judging.Place.{Place}
+use Rattle.logical_log.specs.declared.judging.Place.{Place}
 
 -- ---- room: as many are made as are missing
 

@@ -1,1 +1,3 @@
 pub mod Observation
+pub mod Judging
+pub mod Writing

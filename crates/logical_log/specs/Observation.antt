@@ -3,13 +3,13 @@
 use Rattle.std.specs.Prelude.{ℕ, ◌+◌, cond, ltb}
 use Rattle.model.specs.Sizes.{Bytes, finding_limit}
 use Rattle.model.specs.Record.{front, last_index}
-use Rattle.record_scan.specs.Places.{first_entry, entries_at}
+use Rattle.record_entries.specs.Places.{first_entry, entries_at}
 use Rattle.answers.specs.declared.answer.Refusal.{Refusal}
 use Rattle.answers.specs.Step.{Step, accepting, refusing}
 use Rattle.log_prefix.specs.Extension.{written_bytes, written_number}
-use Rattle.view_judging.specs.Judging.{missing_in, held_in, table_in}
+use Rattle.logical_log.specs.Judging.{missing_in, held_in, table_in}
 use Rattle.log_violation.specs.Violation.{findings_kept}
-use Rattle.view_writing.specs.Observation.{view_replaced}
+use Rattle.logical_log.specs.Writing.{view_replaced}
 use Rattle.storage.specs.Head.{prefixes_held}
 
 -- ---- a view as a whole

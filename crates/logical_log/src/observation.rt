@@ -5,14 +5,14 @@ ghost use Rattle.model.specs.Sizes.{prefix_limit};
 ghost use Rattle.logical_log.specs.Observation.{view_step};
 ghost use Rattle.answers.specs.Step.{Gives};
 
+use crate::judging::judge_view;
+use crate::writing::write_view;
 use answers::answer::{Accepted, Refusal};
-use record_walk::view::View;
+use record_entries::view::View;
 use storage::head::prefix_count;
 use storage::stored::Stored;
 use storage_bytes::layout::History;
 use units::PREFIX_LIMIT;
-use view_judging::judging::judge_view;
-use view_writing::writing::write_view;
 
 // A view (kind 1): 6 when the stored prefixes would exceed `limit`, 7 when the findings would exceed 128; else each prefix of its front
 // is stored, its LG-03 noted, and the node's front and last index replaced. A refused one leaves every byte.

@@ -19,7 +19,7 @@ use Rattle.storage.specs.Rules.{well_formed}
 use Rattle.storage.specs.Decode.{decode}
 use Rattle.storage.specs.Fresh.{fresh_history}
 use Rattle.storage.proofs.Meanings.{Stands}
-use Rattle.index_lists.specs.Picked.{nth}
+use Rattle.lists.specs.Picked.{nth}
 use Rattle.answers.specs.declared.numbers.Reply.{Reply}
 use Rattle.history.specs.declared.exports.FindingReply.{FindingReply}
 use Rattle.submission.specs.Replies.{submit_answer}

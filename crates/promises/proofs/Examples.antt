@@ -17,7 +17,7 @@ use Rattle.model.proofs.Completeness as completeness
 use Rattle.model.proofs.Completeness.{leader, checked, LeadersAfter, late, late_leaders, zero_term, told_later}
 use Rattle.storage.specs.Rules.{well_formed}
 use Rattle.storage.specs.Fresh.{fresh_history}
-use Rattle.index_lists.specs.Picked.{nth}
+use Rattle.lists.specs.Picked.{nth}
 use Rattle.history.specs.Exports.{a_leader, no_leader, leader_out}
 use Rattle.promises.specs.Run.{bytes_of, ledger_of}
 use Rattle.promises.proofs.Machine.{submitting, ledgers_are}

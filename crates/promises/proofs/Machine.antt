@@ -13,7 +13,7 @@ use Rattle.model.specs.Answer.{is_accepted}
 use Rattle.model.specs.Ledger.{Ledger, fed}
 use Rattle.model.specs.Lists.{finding_list, leader_list}
 use Rattle.model.proofs.Bridge.{Machine, state_from, told_from}
-use Rattle.bit_fields.specs.declared.bits.Fault.{Fault}
+use Rattle.record_bits.specs.declared.bits.Fault.{Fault}
 use Rattle.storage.specs.Decode.{decode}
 use Rattle.storage.specs.Fresh.{fresh_history}
 use Rattle.storage.proofs.Meanings.{Stands, fresh_stands}

@@ -12,7 +12,7 @@ use Rattle.model.specs.Ledger.{ledger_leaders}
 use Rattle.model.specs.Statements.{accepted_fronts, Matching, Agreeing, committed_seen}
 use Rattle.storage.specs.Rules.{well_formed}
 use Rattle.storage.specs.Decode.{decode}
-use Rattle.index_lists.specs.Picked.{nth}
+use Rattle.lists.specs.Picked.{nth}
 use Rattle.answers.specs.Numbers.{model_reply}
 use Rattle.submission.specs.Replies.{submit_bytes}
 use Rattle.history.specs.Exports.{finding_out, a_leader, no_leader, leader_out}

@@ -13,9 +13,9 @@ use Rattle.std.proofs.lemmas.List.{drop-drop}
 use Rattle.model.specs.Sizes.{Bytes}
 use Rattle.storage_bytes.specs.Words.{put_bytes}
 use Rattle.storage_bytes.proofs.PartLaws.{part_back}
-use Rattle.sheet_numbers.specs.declared.decimal.Sheet.{Sheet}
-use Rattle.sheet_numbers.specs.Filled.{Filled}
-use Rattle.sheet_pieces.specs.Pieces.{Piece, pieces}
+use Rattle.sheet_lines.specs.declared.decimal.Sheet.{Sheet}
+use Rattle.sheet_lines.specs.Filled.{Filled}
+use Rattle.sheet_text.specs.Pieces.{Piece, pieces}
 use Rattle.sheet_text.specs.declared.taking.Progress.{Progress}
 use Rattle.sheet_text.specs.Sheet.{record_lines, bytes_through, Taken}
 use Rattle.sheet_text.proofs.TakingLaws.{lines_join, bytes_join}

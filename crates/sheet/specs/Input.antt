@@ -3,7 +3,7 @@
 use Rattle.std.specs.Prelude.{ℕ, ◌-◌, ◌≤◌, ◌≡◌, List, ◌++◌, length, take, drop, Option}
 use Rattle.std.specs.Io.KnownBytes.{Appends}
 use Rattle.model.specs.Sizes.{Bytes}
-use Rattle.sheet_pieces.specs.Pieces.{pieces}
+use Rattle.sheet_text.specs.Pieces.{pieces}
 use Rattle.sheet_text.specs.Sheet.{record_lines, bytes_through}
 
 -- Of the pieces of a block, those before place `from` were handed to the bytes h as the records `first` to `number` - 1, and their

@@ -1,18 +1,18 @@
 // The sheet of a recording: records from standard input, each behind a 16-bit byte length, high byte first; then the lists of
-// the history. What it prints is put together by `sheet_text` and `sheet_lists`, whose functions are proved to give it. What a block
+// the history. What it prints is put together by `sheet_text`, whose functions are proved to give it. What a block
 // brings about is proved here; that the blocks are those of the input is left to its reads. A read or a write that fails ends the program.
 #![tactic(auto)]
 
 ghost use Rattle.std.specs.Prelude.{ℕ, ◌≡◌, ◌≤◌, ◌<◌, IfOk, OnOk, length, take};
 ghost use Rattle.std.specs.Io.KnownBytes.{Appends};
-ghost use Rattle.sheet_pieces.specs.Pieces.{piece_at};
-ghost use Rattle.sheet_pieces.specs.declared.split.Piece as code;
+ghost use Rattle.sheet_text.specs.Pieces.{piece_at};
+ghost use Rattle.sheet_text.specs.declared.split.Piece as code;
 ghost use Rattle.sheet.specs.Input.{BlockTaken};
 
 use input_blocks::fill;
-use sheet_lists::closing::put_lists;
-use sheet_numbers::decimal::Sheet;
-use sheet_pieces::split::move_down;
+use sheet_lines::decimal::Sheet;
+use sheet_text::closing::put_lists;
+use sheet_text::split::move_down;
 use sheet_text::taking::{SOME, put_cut, take_some};
 use std::io;
 use std::io::{Read, Write};

@@ -5,9 +5,9 @@ use native.Mathlib.Omega.{arith}
 use mathlib.Core.Path.{sym}
 use mathlib.Core.List.{◌++◌, append_assoc}
 use Rattle.model.specs.Sizes.{Bytes}
-use Rattle.sheet_numbers.specs.Filled.{Filled}
-use Rattle.sheet_numbers.specs.declared.decimal.Sheet.{Sheet}
-use Rattle.sheet_numbers.proofs.PutLaws.{filled_then, filled_as, line_join}
+use Rattle.sheet_lines.specs.Filled.{Filled}
+use Rattle.sheet_lines.specs.declared.decimal.Sheet.{Sheet}
+use Rattle.sheet_lines.proofs.PutLaws.{filled_then, filled_as, line_join}
 use Rattle.sheet_lines.specs.Lines.{field, line_end}
 
 module _ {m n : ℕ} {s s' s'' : Sheet} {vs : Bytes} where

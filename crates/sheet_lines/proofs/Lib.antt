@@ -1,1 +1,3 @@
 pub mod Joins
+pub mod DecimalLaws
+pub mod PutLaws

@@ -3,7 +3,7 @@
 use Rattle.std.specs.Prelude.{ℕ, ◌+◌, cond, [], ◌∷◌, ◌++◌, eqb}
 use Rattle.model.specs.Sizes.{Bytes}
 use Rattle.answers.specs.declared.numbers.Reply.{Reply}
-use Rattle.sheet_numbers.specs.Decimal.{decimal, digits_room}
+use Rattle.sheet_lines.specs.Decimal.{decimal, digits_room}
 
 -- a number behind a space
 abbrev pub field : ℕ → Bytes

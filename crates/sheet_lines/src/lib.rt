@@ -1,4 +1,5 @@
-// The lines of a sheet, put into lent bytes. Stands on sheet_numbers and answers.
+// The lines of a printed sheet, and the decimal digits in them.
 #![tactic(auto)]
 
+pub mod decimal;
 pub mod lines;

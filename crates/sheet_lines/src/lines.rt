@@ -1,12 +1,12 @@
 // The lines of the sheet, each put behind the one before it. They are put by hand and not by `write!`, which answers a Result: a line
 // that has its room cannot fail.
 ghost use Rattle.std.specs.Prelude.{◌+◌, ◌≤◌, ◌++◌, length};
-ghost use Rattle.sheet_numbers.specs.Filled.{Filled};
+ghost use Rattle.sheet_lines.specs.Filled.{Filled};
 ghost use Rattle.sheet_lines.specs.Lines.{field, line_end, outcome, record_line, finding_line, leader_line, unseen_line, unknown_line, committed_line, field_room, last_room, pair_room, record_room, finding_room, leader_room, unseen_room, unknown_room, committed_room};
 
+use crate::decimal::Sheet;
 use answers::numbers::Reply;
-use sheet_numbers::decimal::Sheet;
-use table_rows::findings::Found;
+use storage_rows::findings::Found;
 use units::{LogIndex, NodeId, Term};
 
 // A number behind a space.

@@ -1,2 +1,5 @@
+pub mod ListBounds
+pub mod ClosingLaws
+pub mod SplitLaws
 pub mod SheetLaws
 pub mod TakingLaws

@@ -8,8 +8,8 @@ use Rattle.model.specs.Sizes.{Bytes}
 use Rattle.answers.specs.declared.numbers.Reply.{Reply}
 use Rattle.answers.specs.Numbers.{reply_of}
 use Rattle.submission.specs.Replies.{submit_answer, submit_bytes}
-use Rattle.sheet_numbers.specs.Filled.{Filled}
-use Rattle.sheet_numbers.specs.declared.decimal.Sheet.{Sheet}
+use Rattle.sheet_lines.specs.Filled.{Filled}
+use Rattle.sheet_lines.specs.declared.decimal.Sheet.{Sheet}
 use Rattle.sheet_lines.specs.Lines.{record_line, record_room}
 use Rattle.sheet_text.specs.Sheet.{kind_of, cut_line, line_for, bytes_after, HandedOver}
 

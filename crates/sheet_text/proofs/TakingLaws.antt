@@ -8,13 +8,13 @@ use mathlib.Core.List.{List, [], ◌∷◌, ◌++◌, append_assoc, append-nil}
 use lib.ListN.{length, take, drop, length-append}
 use Rattle.model.specs.Sizes.{Bytes}
 use Rattle.storage_bytes.specs.Layout.{part}
-use Rattle.sheet_pieces.specs.declared.split.Piece as code
-use Rattle.sheet_numbers.specs.declared.decimal.Sheet.{Sheet}
-use Rattle.sheet_numbers.specs.Filled.{Filled}
-use Rattle.sheet_pieces.specs.Pieces.{Piece, whole, cut, pieces, piece_at, pieces_by, Split}
+use Rattle.sheet_text.specs.declared.split.Piece as code
+use Rattle.sheet_lines.specs.declared.decimal.Sheet.{Sheet}
+use Rattle.sheet_lines.specs.Filled.{Filled}
+use Rattle.sheet_text.specs.Pieces.{Piece, whole, cut, pieces, piece_at, pieces_by, Split}
 use Rattle.sheet_text.specs.Sheet.{cut_line, line_for, bytes_after, record_lines, bytes_through, HandedOver, Taken, taken_most}
-use Rattle.sheet_numbers.proofs.PutLaws.{filled_none, filled_then, filled_as}
-use Rattle.sheet_pieces.proofs.SplitLaws.{whole_within, piece_joined}
+use Rattle.sheet_lines.proofs.PutLaws.{filled_none, filled_then, filled_as}
+use Rattle.sheet_text.proofs.SplitLaws.{whole_within, piece_joined}
 use Rattle.sheet_lines.specs.Lines.{record_room}
 
 -- ---- more pieces behind others

@@ -5,10 +5,10 @@ use Rattle.model.specs.Sizes.{Bytes}
 use Rattle.answers.specs.Numbers.{refusal_in, reply_of}
 use Rattle.submission.specs.Replies.{submit_answer, submit_bytes}
 use Rattle.sheet_text.specs.declared.taking.Progress.{Progress}
-use Rattle.sheet_pieces.specs.declared.split.Piece as code
-use Rattle.sheet_pieces.specs.Pieces.{Piece, whole, cut, pieces, piece_at}
-use Rattle.sheet_numbers.specs.Filled.{Filled}
-use Rattle.sheet_numbers.specs.declared.decimal.Sheet.{Sheet}
+use Rattle.sheet_text.specs.declared.split.Piece as code
+use Rattle.sheet_text.specs.Pieces.{Piece, whole, cut, pieces, piece_at}
+use Rattle.sheet_lines.specs.Filled.{Filled}
+use Rattle.sheet_lines.specs.declared.decimal.Sheet.{Sheet}
 use Rattle.sheet_lines.specs.Lines.{record_line, record_room}
 
 -- "kind (its first four bits)", 0 where there is none

@@ -1,5 +1,6 @@
-// The records of a block handed to a history in turn, and the line of each, put into lent bytes. `sheet` reads and writes around it.
-// Stands on sheet_pieces, sheet_lines and submission.
+// The text of a sheet: its input split into pieces, the records taken in turn with a line for each, and the lists behind them.
 #![tactic(auto)]
 
+pub mod closing;
+pub mod split;
 pub mod taking;

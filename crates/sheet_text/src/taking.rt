@@ -1,15 +1,15 @@
 // Pieces taken in turn: each record is handed to the history and its line put into the sheet.
 ghost use Rattle.std.specs.Prelude.{◌+◌, ◌≤◌, length};
-ghost use Rattle.sheet_numbers.specs.Filled.{Filled};
+ghost use Rattle.sheet_lines.specs.Filled.{Filled};
 ghost use Rattle.sheet_text.specs.Sheet.{cut_line, HandedOver, Taken, taken_most, taken_room};
 ghost use Rattle.sheet_lines.specs.Lines.{record_room};
 
+use crate::split::{Piece, piece_at};
 use answers::answer::Refusal;
 use answers::numbers::Reply;
-use bit_fields::bits::Fault;
+use record_bits::bits::Fault;
+use sheet_lines::decimal::Sheet;
 use sheet_lines::lines::put_record;
-use sheet_numbers::decimal::Sheet;
-use sheet_pieces::split::{Piece, piece_at};
 use storage_bytes::layout::part;
 use submission::submit::submit;
 

@@ -1,5 +1,5 @@
-// The history in lent bytes: which bytes stand for which history, its head, and the fresh history. The storage rules are defined
-// here (specs/Rules.antt) and tested by `rules`. docs/LAYOUT.md has the layout. Stands on storage_bytes.
+// The history in lent bytes: which bytes stand for which history, its head, and the fresh history. The storage rules are defined here
+// (specs/Rules.antt) and tested by `storage_rules`. docs/LAYOUT.md has the layout.
 #![tactic(auto)]
 
 pub mod fresh;

@@ -1,4 +1,4 @@
-// A history that keeps the storage rules, lent to be read. `rules::whole::stored` tests lent bytes once and gives it, and no reader
+// A history that keeps the storage rules, lent to be read. `storage_rules::whole::stored` tests lent bytes once and gives it, and no reader
 // tests or asks again. A writer is lent the bytes and asks: between its first write and its last the rules may be broken, so no struct
 // could hold the bytes over it.
 ghost use Rattle.std.specs.Prelude.{◌≡◌, true};

@@ -1,4 +1,4 @@
-// The lent bytes of a history: numbers in them, runs of them, and its regions (docs/LAYOUT.md). Stands on the model.
+// The lent bytes of a history: numbers in them, runs of them, and its regions (docs/LAYOUT.md).
 #![tactic(auto)]
 
 pub mod layout;

@@ -6,9 +6,9 @@ use mathlib.Core.Bool.{true, false}
 use Rattle.model.specs.Sizes.{Bytes, node_count}
 use Rattle.model.proofs.Tests.{cond_true, cond_false}
 use Rattle.units.specs.declared.NodeId.{NodeId}
-use Rattle.bit_fields.specs.declared.bits.Fault.{Fault}
-use Rattle.records.specs.declared.head.Head.{Head}
-use Rattle.records.specs.Heads.{Told, Within}
+use Rattle.record_bits.specs.declared.bits.Fault.{Fault}
+use Rattle.record_reading.specs.declared.head.Head.{Head}
+use Rattle.record_reading.specs.Heads.{Told, Within}
 use Rattle.storage.specs.Rules.{well_formed}
 use Rattle.std.specs.Prelude.{Result, Ok, Err}
 use Rattle.answers.specs.declared.answer.Accepted.{Accepted}

@@ -13,13 +13,13 @@ use Rattle.model.specs.History.{History}
 use Rattle.model.specs.Answer as model
 use Rattle.model.specs.Answer.{answer, after, answer_read, after_read, is_accepted}
 use Rattle.model.proofs.Tests.{cond_true, cond_false}
-use Rattle.bit_fields.specs.declared.bits.Fault.{Fault}
-use Rattle.records.specs.declared.head.Head.{Head}
-use Rattle.bit_fields.specs.Answers.{refusal_of}
-use Rattle.records.specs.Heads.{Told, head_of}
-use Rattle.record_scan.specs.Places.{rows_at, first_row}
-use Rattle.records.proofs.Readable.{view_walk}
-use Rattle.records.proofs.Faults.{told_always}
+use Rattle.record_bits.specs.declared.bits.Fault.{Fault}
+use Rattle.record_reading.specs.declared.head.Head.{Head}
+use Rattle.record_bits.specs.Answers.{refusal_of}
+use Rattle.record_reading.specs.Heads.{Told, head_of}
+use Rattle.record_entries.specs.Places.{rows_at, first_row}
+use Rattle.record_reading.proofs.Readable.{view_walk}
+use Rattle.record_reading.proofs.Faults.{told_always}
 use Rattle.storage.specs.Rules.{well_formed}
 use Rattle.storage.proofs.Meanings.{Stands}
 use Rattle.std.specs.Prelude.{Option as Answered, Some, None, is_some, unwrap_or, Result, Ok, Err}
@@ -34,7 +34,7 @@ use Rattle.logical_log.proofs.Meaning.{view_means}
 use Rattle.commit.proofs.CommitLaws.{commit_means}
 use Rattle.commit_terms.proofs.Meaning.{terms_mean}
 use Rattle.election.proofs.Meaning.{election_means}
-use Rattle.completeness.proofs.Meaning.{check_means}
+use Rattle.leader_completeness.proofs.Meaning.{check_means}
 use Rattle.submission.specs.Replies.{step_to, submit_step}
 
 -- ---- statement

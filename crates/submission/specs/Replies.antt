@@ -4,17 +4,17 @@
 use Rattle.std.specs.Prelude.{cond, is_some, unwrap_or, Result, Ok, Err}
 use Rattle.model.specs.Sizes.{Bytes, prefix_limit}
 use Rattle.model.specs.Reading.{read}
-use Rattle.records.specs.Heads.{head_of}
-use Rattle.record_scan.specs.Places.{rows_at, first_row}
+use Rattle.record_reading.specs.Heads.{head_of}
+use Rattle.record_entries.specs.Places.{rows_at, first_row}
 use Rattle.storage.specs.Rules.{well_formed}
 use Rattle.logical_log.specs.Observation.{view_step}
 use Rattle.commit.specs.Prefix.{commit_step}
 use Rattle.commit_terms.specs.Terms.{terms_step}
 use Rattle.election.specs.Certify.{election_step}
-use Rattle.completeness.specs.Check.{check_step}
+use Rattle.leader_completeness.specs.Check.{check_step}
 use Rattle.invariants.specs.Rules.{rows_answer}
-use Rattle.records.specs.declared.head.Head.{Head}
-use Rattle.bit_fields.specs.declared.bits.Fault.{Fault}
+use Rattle.record_reading.specs.declared.head.Head.{Head}
+use Rattle.record_bits.specs.declared.bits.Fault.{Fault}
 use Rattle.answers.specs.declared.answer.Accepted.{Accepted}
 use Rattle.answers.specs.declared.answer.Refusal.{Refusal}
 use Rattle.answers.specs.Step.{Step, refusing}

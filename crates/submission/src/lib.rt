@@ -1,5 +1,5 @@
 // One record handed to a history in lent bytes: 12 where the bytes break the storage rules, else the record is read, and its kind
-// answers. Stands on log_kinds, leader_kinds and rules.
+// answers.
 #![tactic(auto)]
 
 pub mod submit;

@@ -1,6 +1,6 @@
 // Any bytes, to any history: 12 first, then reading, then the kind's own refusals, then acceptance with value and node.
 ghost use Rattle.std.specs.Prelude.{◌≡◌, true, Ok};
-ghost use Rattle.records.specs.Heads.{Told};
+ghost use Rattle.record_reading.specs.Heads.{Told};
 ghost use Rattle.storage.specs.Rules.{well_formed};
 ghost use Rattle.submission.specs.Replies.{step_to, submit_step};
 ghost use Rattle.answers.specs.Step.{Gives};
@@ -8,14 +8,14 @@ ghost use Rattle.answers.specs.Step.{Gives};
 use answers::answer::{Accepted, Refusal};
 use commit::prefix::observe_committed_prefixes;
 use commit_terms::terms::record_commit_terms;
-use completeness::leader_completeness::record_leader_completeness;
 use election::certificate::record_election;
 use invariants::commit_safety::check_rows;
+use leader_completeness::leader_completeness::record_leader_completeness;
 use logical_log::observation::observe_prefixes;
-use record_walk::view::View;
-use records::head::{Head, read};
-use rules::whole::well_formed;
+use record_entries::view::View;
+use record_reading::head::{Head, read};
 use storage_bytes::layout::History;
+use storage_rules::whole::well_formed;
 use units::PREFIX_LIMIT;
 
 // The record of that head, to a history that keeps the storage rules.

@@ -1,7 +1,7 @@
 -- `commit::prefix::observe_committed_prefixes` meets its contract.
 -- Assumes nothing.
-use Rattle.committed_prefix.proofs.PrefixTurns.{kept_within}
-use Rattle.prefix_lookup.proofs.FrontLaws.{through_stored}
+use Rattle.commit.proofs.CommittedTurns.{kept_within}
+use Rattle.log_prefix.proofs.FrontLaws.{through_stored}
 use Rattle.commit.proofs.PrefixTurns.{observe_unseen, observe_zero, observe_first, observe_later}
 use Rattle.storage.proofs.WellFormed.{formed}
 use borrow.Author.Tests.{eqb-true, eqb-false}

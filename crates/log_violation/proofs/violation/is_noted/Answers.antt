@@ -6,7 +6,7 @@ use Rattle.std.proofs.Common.{rules, tests}
 use Rattle.std.proofs.lemmas.Iterator.{YieldsList-from_range}
 use Rattle.std.proofs.lemmas.Iterator.Search.{any_from_yields_List}
 use Rattle.storage.specs.Tables.{finding_row}
-use Rattle.table_rows.specs.Values.{finding_value}
+use Rattle.storage_rows.specs.Rows.{finding_value}
 use Rattle.storage_bytes.proofs.RangeLaws.{any_some}
 use Rattle.log_violation.specs.Violation.{same_numbers}
 use Rattle.log_violation.proofs.violation.is_noted.Goals as goal

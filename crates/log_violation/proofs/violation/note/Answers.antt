@@ -2,7 +2,7 @@
 -- Assumes nothing.
 use Prim.Native.Nat.{◌+◌}
 use mathlib.Core.Path.{sym, subst, ◌∙◌}
-use Rattle.table_rows.specs.Values.{finding_value}
+use Rattle.storage_rows.specs.Rows.{finding_value}
 use Rattle.log_violation.proofs.ViolationLaws.{Noted, note_over, note_again, note_full, note_new}
 use Rattle.log_violation.proofs.violation.note.Goals as goal
 use Rattle.log_violation.proofs.violation.note.Goals.{then-n-lt-FINDING_LIMIT, else-n-lt-FINDING_LIMIT, then-n-gt-FINDING_LIMIT-via-then-n-gt-FINDING_LIMIT, then-n-gt-FINDING_LIMIT-via-else-n-gt-FINDING_LIMIT+then-is_noted}

@@ -1,6 +1,6 @@
 -- `log_violation::violation::note_in` meets its contract.
 -- Assumes nothing.
-use Rattle.table_rows.specs.Values.{finding_value}
+use Rattle.storage_rows.specs.Rows.{finding_value}
 use Rattle.log_violation.proofs.ViolationLaws.{in_room, in_full}
 use Rattle.log_violation.proofs.violation.note_in.Goals as goal
 

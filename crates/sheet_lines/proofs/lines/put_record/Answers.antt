@@ -1,6 +1,6 @@
 -- `sheet_lines::lines::put_record` meets its contract.
 -- Assumes nothing.
-use Rattle.sheet_numbers.proofs.PutLaws.{filled_then}
+use Rattle.sheet_lines.proofs.PutLaws.{filled_then}
 use Rattle.sheet_lines.specs.Lines.{record_line}
 use Rattle.sheet_lines.proofs.Joins.{pair_then}
 use Rattle.sheet_lines.proofs.lines.put_record.Goals as goal

@@ -4,9 +4,9 @@ use borrow.Enum.Refused.{opened}
 use mathlib.Core.Path.{◌≡◌, refl, ap, ◌∙◌}
 use mathlib.Core.Logic.{⊎_elim}
 use native.Mathlib.Omega.{arith}
-use Rattle.sheet_pieces.specs.contracts.split.Piece.{the_type}
+use Rattle.sheet_text.specs.contracts.split.Piece.{the_type}
 use denote.Enum.Declared.{tag_of}
-use Rattle.sheet_pieces.proofs.SplitLaws.{whole_within}
+use Rattle.sheet_text.proofs.SplitLaws.{whole_within}
 use Rattle.sheet_text.proofs.TakingLaws.{taking_none, taking_next, taking_ends}
 use Rattle.sheet_text.specs.Sheet.{taken_most}
 use Rattle.sheet_text.proofs.taking.take_some.Goals as goal

@@ -2,7 +2,7 @@
 -- Assumes nothing.
 use mathlib.Core.Path.{ap}
 use Rattle.std.specs.Prelude.{Ok}
-use Rattle.records.proofs.Readable.{view_walk, rows_walk}
+use Rattle.record_reading.proofs.Readable.{view_walk, rows_walk}
 use Rattle.submission.proofs.Dispatch.{view_node}
 use Rattle.submission.proofs.submit.dispatch.Goals as goal
 

@@ -5,8 +5,8 @@ use Rattle.std.specs.Prelude.{Err}
 use Rattle.std.proofs.lemmas.Result.{err_from_is_err_and}
 use Rattle.model.specs.Sizes.{Bytes}
 use Rattle.answers.specs.declared.answer.Refusal.{Refusal}
-use Rattle.records.specs.Heads.{Told}
-use Rattle.rules.proofs.Turns.{wrong_length}
+use Rattle.record_reading.specs.Heads.{Told}
+use Rattle.storage_rules.proofs.AllRules.{wrong_length}
 use Rattle.answers.specs.Step.{Gives}
 use Rattle.submission.specs.Replies.{submit_step}
 use Rattle.submission.proofs.Dispatch.{broken, taken, unreadable}

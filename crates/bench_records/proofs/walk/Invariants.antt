@@ -1,0 +1,12 @@
+-- `bench_records::walk` meets its contract: the sum is what was added, and the sum of what is left.
+-- Assumes nothing.
+use Prim.Native.Nat.{◌+◌, ◌-◌, ◌*◌, ◌≤◌}
+use mathlib.Core.Path.{◌≡◌}
+use Rattle.record_entries.specs.Places.{entries_at, first_entry}
+use Rattle.bench_records.specs.Used.{contents_of}
+use Rattle.bench_records.proofs.walk.Given as goal
+
+abbrev pub invariant-loop-e : goal.invariant-loop-e
+invariant-loop-e l =
+    let w = l.e-iterator in
+    (w.bytes.now ≡ l.s) × (w.left ≤ l.count) × (l.sum ≤ 8160 * (l.count - w.left)) × (contents_of (entries_at l.s first_entry l.count) ≡ l.sum + contents_of (entries_at l.s w.next w.left))

@@ -1,2 +1,0 @@
-pub mod MarkLaws
-pub mod MarkMeaning

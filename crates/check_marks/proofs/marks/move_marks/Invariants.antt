@@ -1,7 +1,0 @@
--- `check_marks::marks::move_marks` meets its contract. The invariant: moving the marks that are left gives the rest.
--- Assumes nothing.
-use Rattle.check_marks.proofs.MarkLaws.{Moving}
-use Rattle.check_marks.proofs.marks.move_marks.Given as goal
-
-abbrev pub invariant-loop-k : goal.invariant-loop-k
-invariant-loop-k l = Moving l.initial.history l.end.0 l.m l.history l.k

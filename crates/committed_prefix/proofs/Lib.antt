@@ -1,2 +1,0 @@
-pub mod PrefixTurns
-pub mod PrefixLaws

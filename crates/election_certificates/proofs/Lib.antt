@@ -1,0 +1,4 @@
+pub mod Loops
+pub mod Ordered
+pub mod MarkTurns
+pub mod MarkLaws

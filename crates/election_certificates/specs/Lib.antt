@@ -1,0 +1,3 @@
+pub mod WithMark
+pub mod Order
+pub mod Marks

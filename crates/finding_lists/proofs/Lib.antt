@@ -1,2 +1,0 @@
-pub mod Whole
-pub mod OrderLaws

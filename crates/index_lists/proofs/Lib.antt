@@ -1,2 +1,0 @@
-pub mod PickLaws
-pub mod Whole

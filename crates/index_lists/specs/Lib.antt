@@ -1,4 +1,0 @@
-pub mod Picked
-pub mod Committed
-pub mod Unseen
-pub mod Unknown

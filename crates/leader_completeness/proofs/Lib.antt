@@ -1,0 +1,11 @@
+pub mod JudgementLaws
+pub mod Fits
+pub mod CertificateMeaning
+pub mod FindingMeaning
+pub mod StepMeaning
+pub mod MarkLaws
+pub mod MarkMeaning
+pub mod RelevanceLaws
+pub mod CheckLaws
+pub mod NothingCommitted
+pub mod Meaning

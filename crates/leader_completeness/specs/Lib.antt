@@ -1,0 +1,4 @@
+pub mod Judgement
+pub mod Marks
+pub mod Relevance
+pub mod Check

@@ -1,2 +1,0 @@
-pub mod ComparisonLaws
-pub mod Turns

@@ -1,0 +1,197 @@
+// The entries and rows of a readable record, by value, each with the bit after it, and the last index of a view. A walk
+// starts at FIRST_ENTRY or FIRST_ROW with the count that `record_reading::head::read` gave.
+ghost use Rattle.std.specs.Prelude.{◌≡◌, ◌+◌, ◌*◌, ◌^◌, ◌≤◌, length, take};
+ghost use Rattle.model.specs.Reading as reading;
+ghost use Rattle.model.specs.Record as model;
+ghost use Rattle.record_entries.specs.Places as places;
+ghost use Rattle.record_entries.specs.Values.{padded, shown_entry, configuration_value, row_value, Here, RowHere, EntryTaken};
+ghost use Rattle.std.specs.Iterator.{at_most};
+ghost use Rattle.model.specs.Sizes.{content_limit};
+
+use record_bits::bits::bits_at;
+use units::{CONTENT_LIMIT, LogIndex, NodeId, Term};
+
+// Where a view's entries begin, in bits.
+pub const FIRST_ENTRY: usize = 20;
+
+// Where the rows begin, in bits.
+pub const FIRST_ROW: usize = 14;
+
+// An entry of a view, with the index it was shown under and the bit after it; it extends no prefix yet, as a stored row does. Of
+// the content's 32 bytes the first `length` count; the others are zero: memory is fixed, and an entry is copied whole, which the
+// kit's ArrayVec cannot be. That they are at most 32 is asked and no fact of the type: the definitions make an entry of any bits.
+#[derive(Clone, Copy)]
+pub struct ShownEntry {
+    pub index: LogIndex,
+    pub term: Term,
+    pub length: usize,
+    pub content: [u8; CONTENT_LIMIT],
+    pub next: usize,
+}
+
+impl ShownEntry {
+    // The bytes that count.
+    pub fn content(&self) -> &[u8]
+        requires { self.now.length ≤ content_limit }
+        ensures { result.now ≡ take self.now.length self.now.content }
+    {
+        &self.content[..self.length]
+    }
+}
+
+// A configuration that a row has.
+#[derive(Clone, Copy)]
+pub struct Configuration {
+    pub index: LogIndex,
+    pub identity: u32,
+}
+
+// A row, with the bit after it.
+#[derive(Clone, Copy)]
+pub struct Row {
+    pub node: NodeId,
+    pub floor: LogIndex,
+    pub commit: LogIndex,
+    pub last: LogIndex,
+    pub floor_configuration: Option<Configuration>,
+    pub actual_configuration: Option<Configuration>,
+    pub next: usize,
+}
+
+// The n bytes from bit `at` on, each through a window of two bytes, and zeros after them. Where `at` begins a byte, both
+// bytes of the window are that one.
+#[tactic(auto, unfolding(model::specs::Reading::bytes_at))]
+fn content_at(s: &[u8], at: usize, n: usize) -> [u8; CONTENT_LIMIT]
+    requires { (n ≤ content_limit) × (at ≤ 2 ^ 33) × (at + 8 * n ≤ 8 * length s.now) }
+    ensures { result ≡ padded (reading.bytes_at s.now at n) n }
+{
+    let first = at / 8;
+    let second = (at + 7) / 8;
+    let shift = 8 - at % 8;
+    let mut out = [0u8; CONTENT_LIMIT];
+    for i in 0..n {
+        let window = u16::from(s[first + i]) * 256 + u16::from(s[second + i]);
+        out[i] = ((window >> shift) % 256) as u8;
+    }
+    out
+}
+
+// The index of the entry at bit `at`. Readers of one entry ask that its bits are there: a type of such places would be made at each step
+// of a walk.
+pub fn index_at(s: &[u8], at: usize) -> LogIndex
+    requires { Here s.now at }
+    ensures { result.0 ≡ places.index_at s.now at }
+{
+    LogIndex(bits_at(s, at, 10) as usize)
+}
+
+// The bit after the entry at bit `at`.
+pub fn next_at(s: &[u8], at: usize) -> usize
+    requires { Here s.now at }
+    ensures { result ≡ places.next_at s.now at }
+{
+    at + 48 + 8 * bits_at(s, at + 42, 6) as usize
+}
+
+// The entry at bit `at`. Its index, term and content length are 48 bits, taken at once.
+#[tactic(auto, using(record_bits::proofs::Widths::head_parts))]
+pub fn entry_at(s: &[u8], at: usize) -> ShownEntry
+    requires { Here s.now at }
+    ensures { result ≡ shown_entry s.now at }
+{
+    let head = bits_at(s, at, 48);
+    let n = (head % 64) as usize;
+    let content = content_at(s, at + 48, n);
+    ShownEntry {
+        index: LogIndex((head >> 38) as usize),
+        term: Term(((head >> 6) % 4294967296) as u32),
+        length: n,
+        content,
+        next: at + 48 + 8 * n,
+    }
+}
+
+// The entries of a view that are left to walk, from bit `next` on. It is made of its parts where a walk begins: a view's, or those of a
+// place along its front.
+#[derive(Drop)]
+pub struct Entries<'a> {
+    pub bytes: &'a [u8],
+    pub next: usize,
+    pub left: usize,
+}
+
+impl<'a> Iterator for Entries<'a> {
+    type Item = ShownEntry;
+
+    ghost can_next = { λ w. places.Walk w.bytes.now w.next w.left };
+
+    ghost next_gives = { λ w r t. EntryTaken w.bytes.now w.next w.left r t.bytes.now t.next t.left };
+
+    ghost remaining = { λ w. at_most w.left };
+
+    #[tactic(auto, using(crate::proofs::Walks::here))]
+    fn next(&mut self) -> Option<ShownEntry> {
+        if self.left == 0 {
+            return None;
+        }
+        let e = entry_at(self.bytes, self.next);
+        self.next = e.next;
+        self.left -= 1;
+        Some(e)
+    }
+}
+
+// The configuration at bit `at`, where one is present.
+#[tactic(auto, using(record_bits::proofs::Widths::field_lt))]
+fn configuration_at(s: &[u8], at: usize) -> Option<Configuration>
+    requires { (at ≤ 2 ^ 33) × (at + 43 ≤ 8 * length s.now) }
+    ensures { result ≡ configuration_value s.now at }
+{
+    let p = bits_at(s, at, 1);
+    let i = bits_at(s, at + 1, 10);
+    let d = bits_at(s, at + 11, 32);
+    let configuration = Configuration {
+        index: LogIndex(i as usize),
+        identity: d as u32,
+    };
+    (p == 1).then_some(configuration)
+}
+
+// The row at bit `at`. Units are made of their bits on the spot, as a readable record's are within their limits.
+#[tactic(auto, using(record_bits::proofs::Widths::field_lt))]
+pub fn row_at(s: &[u8], at: usize) -> Row
+    requires { RowHere s.now at }
+    ensures { result ≡ row_value s.now at }
+{
+    let n = bits_at(s, at, 6);
+    let f = bits_at(s, at + 6, 10);
+    let c = bits_at(s, at + 16, 10);
+    let l = bits_at(s, at + 26, 10);
+    let floor = configuration_at(s, at + 36);
+    let actual = configuration_at(s, at + 79);
+    Row {
+        node: NodeId(n as u8),
+        floor: LogIndex(f as usize),
+        commit: LogIndex(c as usize),
+        last: LogIndex(l as usize),
+        floor_configuration: floor,
+        actual_configuration: actual,
+        next: at + 122,
+    }
+}
+
+// The index of the last of `count` entries from bit `from` on, past a gap too; `before` where there is none. It reads the indexes alone:
+// `Entries` would copy each content.
+#[tactic(auto, using(crate::proofs::Walks::here, crate::proofs::Walks::last_end))]
+pub fn last_index(s: &[u8], from: usize, count: usize, before: LogIndex) -> LogIndex
+    requires { places.Walk s.now from count }
+    ensures { result.0 ≡ model.last_from before.0 (places.entries_at s.now from count) }
+{
+    let mut at = from;
+    let mut last = before;
+    for _ in 0..count {
+        last = index_at(s, at);
+        at = next_at(s, at);
+    }
+    last
+}

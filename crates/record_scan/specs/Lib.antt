@@ -1,2 +1,0 @@
-pub mod Scans
-pub mod Places

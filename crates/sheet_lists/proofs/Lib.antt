@@ -1,2 +1,0 @@
-pub mod ListBounds
-pub mod ClosingLaws

@@ -1,2 +1,0 @@
-pub mod DecimalLaws
-pub mod PutLaws

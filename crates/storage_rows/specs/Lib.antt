@@ -1,0 +1,4 @@
+pub mod Certificates
+pub mod Prefixes
+pub mod TermSearch
+pub mod Rows

@@ -1,2 +1,0 @@
-pub mod TermSearch
-pub mod Values

@@ -1,2 +1,0 @@
-pub mod MarkTurns
-pub mod MarkLaws
