@@ -13,12 +13,15 @@ use Rattle.model.specs.Leaders.{Leader}
 use Rattle.model.specs.Ledger.{empty, ledger_leaders}
 use Rattle.model.specs.Lists.{finding_list, leader_list}
 use Rattle.model.specs.Run.{history_of}
-use Rattle.model.proofs.Tests.{cond_true}
+use Rattle.model.proofs.Tests.{cond_true, either}
 use Rattle.model.proofs.Bridge as bridge
 use Rattle.storage.specs.Rules.{well_formed}
 use Rattle.storage.specs.Decode.{decode}
 use Rattle.storage.specs.Fresh.{fresh_history}
-use Rattle.storage.proofs.Meanings.{Stands}
+use Rattle.storage.proofs.Meanings.{Stands, stand}
+use Rattle.answers.specs.Step.{Step}
+use Rattle.answers.specs.Numbers.{reply_of}
+use Rattle.submission.proofs.Meaning.{answer_never, submit_broken}
 use Rattle.lists.specs.Picked.{nth}
 use Rattle.answers.specs.declared.numbers.Reply.{Reply}
 use Rattle.history.specs.declared.exports.FindingReply.{FindingReply}
@@ -26,7 +29,7 @@ use Rattle.submission.specs.Replies.{submit_answer}
 use Rattle.history.specs.Exports.{a_finding, no_finding, finding_out, a_leader, no_leader}
 use Rattle.history.proofs.Handed.{reply_alike, number_refused}
 use Rattle.promises.specs.Run.{bytes_of, ledger_of}
-use Rattle.promises.specs.Demands.{NeverBroken, Demand1, PrintsNone, Demand2Matching, Demand2Committed, Demand3}
+use Rattle.promises.specs.Demands.{NeverEleven, ModelNeverEleven, NeverBroken, Demand1, PrintsNone, Demand2Matching, Demand2Committed, Demand3}
 use Rattle.promises.proofs.Machine.{said, submitting, means, accepts_is, states_are, ledgers_are}
 use Rattle.promises.proofs.Checks.{known_alike}
 
@@ -44,6 +47,21 @@ demand1 ss s =
     let m = means (bytes_of ss) (history_of ss) (stands ss) s in
     let e = reply_alike (submit_answer (bytes_of ss) s) (answer (history_of ss) s) m.answers in
     (e, λ f. m.keeps (number_refused (answer (history_of ss) s) (λ z. f (ap (λ (r : Reply). r.refusal) e ∙ z))))
+
+-- ---- 11 is never given
+
+pub never_eleven : NeverEleven
+never_eleven h s z =
+    ⊎_elim
+    (λ w.
+    let m = means h (decode h) (stand h w) s in
+    answer_never h (decode h) (stand h w) s
+    (ap (λ (r : Reply). r.refusal) (sym (reply_alike (submit_answer h s) (answer (decode h) s) m.answers)) ∙ z))
+    (λ w. let e = ap (λ (t : Step). (reply_of t.answer).refusal) (submit_broken h s w) in omega (arith, sym e ∙ z))
+    (either (well_formed h))
+
+pub model_never_eleven : ModelNeverEleven
+model_never_eleven ss = answer_never (bytes_of ss) (history_of ss) (stands ss)
 
 -- ---- demand 2
 

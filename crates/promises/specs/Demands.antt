@@ -16,7 +16,7 @@ use Rattle.lists.specs.Picked.{nth}
 use Rattle.answers.specs.Numbers.{model_reply}
 use Rattle.submission.specs.Replies.{submit_bytes}
 use Rattle.history.specs.Exports.{finding_out, a_leader, no_leader, leader_out}
-use Rattle.promises.specs.Run.{bytes_of, reply_to, accepts, ledger_of, KnownAtChecks}
+use Rattle.promises.specs.Run.{bytes_of, submit_reply, reply_to, accepts, ledger_of, KnownAtChecks}
 
 -- A history grown from a fresh one never meets 12: its bytes keep the storage rules, and they stand for the model's history.
 abbrev pub NeverBroken : Type 0
@@ -51,3 +51,11 @@ Demand3 =
     → read s ≡ readable check → accepts (bytes_of ss) s ≡ true
     → KnownAtChecks (ss ++ (s ∷ []))
     → (n : ℕ) → leader_out (bytes_of (ss ++ (s ∷ []))) n ≡ nth a_leader (no_leader 1) (ledger_leaders (ledger_of (ss ++ (s ∷ [])))) n
+
+-- Refusal 11 is never given, whichever bytes are lent as a history and as a record,
+abbrev pub NeverEleven : Type 0
+NeverEleven = (h s : Bytes) → (submit_reply h s).refusal ≡ 11 → ⊥
+
+-- nor by document 01's history, after any list.
+abbrev pub ModelNeverEleven : Type 0
+ModelNeverEleven = (ss : List Bytes) (s : Bytes) → (model_reply (answer (history_of ss) s)).refusal ≡ 11 → ⊥

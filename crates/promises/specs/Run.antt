@@ -20,9 +20,12 @@ bytes_from h (s ∷ ss) = bytes_from (submit_bytes h s) ss
 abbrev pub bytes_of : List Bytes → Bytes
 bytes_of ss = bytes_from fresh_history ss
 
--- what the record s is answered after the list
+-- what the record s is answered by the history in the bytes h, and after the list
+abbrev pub submit_reply : Bytes → Bytes → Reply
+submit_reply h s = reply_of (submit_answer h s)
+
 abbrev pub reply_to : List Bytes → Bytes → Reply
-reply_to ss s = reply_of (submit_answer (bytes_of ss) s)
+reply_to ss s = submit_reply (bytes_of ss) s
 
 abbrev pub accepts : Bytes → Bytes → Bool
 accepts h s = eqb (reply_of (submit_answer h s)).refusal 0

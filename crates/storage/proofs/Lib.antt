@@ -10,3 +10,4 @@ pub mod WellFormed
 pub mod Meanings
 pub mod PrefixLaws
 pub mod OrderLaws
+pub mod NumberLaws

@@ -1,8 +1,8 @@
 -- Laws of the tables: a row is read back as it was written, and a write at place k sets the k-th row or, past the last one,
 -- appends it. One law for every table, over the width of its rows.
 -- Assumes nothing.
-use Prim.Native.Nat.{ℕ, ◌+◌, ◌-◌, ◌*◌, ◌^◌, ◌≤◌, ◌<◌, min}
-use native.Mathlib.Nat.{add-zero, zero-add, mul-le-mul_right, min-eq_left}
+use Prim.Native.Nat.{ℕ, ◌+◌, ◌-◌, ◌*◌, ◌≤◌, ◌<◌, min}
+use native.Mathlib.Nat.{zero-add, mul-le-mul_right, min-eq_left}
 use native.Mathlib.Decide.{dec_lt}
 use native.Mathlib.Omega.{arith}
 use mathlib.Core.Logic.{◌≢◌}

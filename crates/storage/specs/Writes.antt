@@ -1,7 +1,7 @@
 -- The bytes of each row, as they are written: at place k of a table of rows w wide, row x is `put_bytes region (k * w) (bytes x)`.
 -- A row is read back as it was written where each of its numbers fits its field.
 -- Assumes nothing.
-use Rattle.std.specs.Prelude.{ℕ, ◌+◌, ◌-◌, ◌*◌, ◌<◌, ◌≤◌, ◌≡◌, ◌++◌, length, take}
+use Rattle.std.specs.Prelude.{ℕ, ◌+◌, ◌-◌, ◌*◌, ◌≤◌, ◌≡◌, ◌++◌, length, take}
 use Rattle.model.specs.History.{Finding}
 use Rattle.model.specs.Sizes.{Bytes, content_limit}
 use Rattle.storage_bytes.specs.Layout.{terms_start, certificates_start, prefixes_start, term_width, certificate_width, prefix_width, number_width, index_width, byte_width, prefixes_field, terms_field, committed_field, certificates_field, owner_field}
