@@ -2,7 +2,7 @@
 -- Assumes nothing.
 use Rattle.std.specs.Prelude.{ℕ, Option, None, Result, Ok, Err}
 use Rattle.std.specs.Option.{unwrap_or}
-use Rattle.model.specs.Refusal.{number, prefixesFull, findingsFull, old_exceeds_new, lengthExceedsFront, certificatesFull, numberTaken}
+use Rattle.model.specs.Refusal.{number, prefixesFull, findingsFull, old_exceeds_new, lengthExceedsFront, certificatesFull}
 use Rattle.model.specs.Answer as model
 use Rattle.std.proofs.Math.Option as option
 use Rattle.record_bits.specs.Answers.{refusal_of}
@@ -32,7 +32,6 @@ modelled (Err Refusal.FindingsFull) = option.some (model.refused findingsFull)
 modelled (Err Refusal.OldExceedsNew) = option.some (model.refused old_exceeds_new)
 modelled (Err Refusal.LengthExceedsFront) = option.some (model.refused lengthExceedsFront)
 modelled (Err Refusal.CertificatesFull) = option.some (model.refused certificatesFull)
-modelled (Err Refusal.NumberTaken) = option.some (model.refused numberTaken)
 modelled (Err Refusal.StorageBroken) = option.none
 
 -- the number of a refusal
@@ -43,7 +42,6 @@ number_of Refusal.FindingsFull = number findingsFull
 number_of Refusal.OldExceedsNew = number old_exceeds_new
 number_of Refusal.LengthExceedsFront = number lengthExceedsFront
 number_of Refusal.CertificatesFull = number certificatesFull
-number_of Refusal.NumberTaken = number numberTaken
 number_of Refusal.StorageBroken = 12
 
 abbrev pub reply_of : Result Accepted Refusal → Reply

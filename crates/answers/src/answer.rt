@@ -37,8 +37,6 @@ pub enum Refusal {
     LengthExceedsFront,
     // 10
     CertificatesFull,
-    // 11
-    NumberTaken,
     // 12
     StorageBroken,
 }
@@ -63,7 +61,6 @@ impl From<Refusal> for u8 {
             Refusal::OldExceedsNew => 8,
             Refusal::LengthExceedsFront => 9,
             Refusal::CertificatesFull => 10,
-            Refusal::NumberTaken => 11,
             Refusal::StorageBroken => 12,
         }
     }

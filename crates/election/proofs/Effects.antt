@@ -4,20 +4,19 @@
 use Prim.Native.Nat.{ℕ, suc, ◌+◌, ◌≤◌, ◌<◌}
 use native.Mathlib.Omega.{arith}
 use mathlib.Core.Path.{◌≡◌, refl, ap, sym, ◌∙◌, subst}
-use mathlib.Core.Bool.{Bool, true, false, cond, ◌&&◌, ◌||◌}
-use mathlib.Core.Logic.{⊎_elim}
-use mathlib.Core.List.{List, [], ◌∷◌, map, Memᴰ}
-use mathlib.Core.Option.{Option, none, some}
+use mathlib.Core.Bool.{Bool, true, false, cond}
+use mathlib.Core.List.{List, [], ◌∷◌}
+use mathlib.Core.Option.{none, some}
 use lib.Dec.{leb, ltb, eqb}
 use lib.ListN.{length, take, length-map}
-use Rattle.model.specs.Sizes.{Bytes, node_count, term_end, certificate_limit}
-use borrow.Author.Tests.{lt-ltb, le-ltb, eqb-true}
+use Rattle.model.specs.Sizes.{Bytes, node_count, term_end}
+use borrow.Author.Tests.{lt-ltb, le-ltb}
 use Rattle.model.specs.Entry.{Prefix}
-use Rattle.model.specs.Refusal.{Refusal, number as number-of, lengthExceedsFront, certificatesFull, numberTaken}
+use Rattle.model.specs.Refusal.{lengthExceedsFront, certificatesFull}
 use Rattle.model.specs.History.{Certificate, History, front_of, with_certificates}
 use Rattle.model.specs.Election as model
-use Rattle.model.specs.Election.{held, taken, in_order, election_refusal, certificate, election_effect}
-use Rattle.model.proofs.Tests.{tf, either, cond_cases, cond_true, cond_false, and_left, and_right}
+use Rattle.model.specs.Election.{held, in_order, election_refusal, certificate, election_effect}
+use Rattle.model.proofs.Tests.{cond_true, cond_false}
 use Rattle.storage.specs.Values.{certificates_of}
 use Rattle.storage.specs.Tables.{CertificateRow, certificate_row, certificates_part}
 use Rattle.storage.specs.Decode.{prefix_at, log_in, certificate_in}
@@ -27,38 +26,15 @@ use Rattle.storage.specs.Writes.{CertificateFits, certificate_added}
 use Rattle.storage.specs.Head.{prefixes_held, certificates_held}
 use Rattle.storage_bytes.proofs.ListLaws.{tabulate_length}
 use Rattle.storage.proofs.DecodeLaws.{CertificateNamed}
-use Rattle.storage.proofs.NumberLaws.{number_below}
 use Rattle.storage.proofs.WellFormed.{certificates_are, formed}
 use Rattle.storage.proofs.Meanings as meanings
 use Rattle.storage.proofs.Meanings.{Stands, certificates_stored}
 use Rattle.storage.proofs.OrderLaws.{held_is, election_written}
-use Rattle.election_certificates.specs.Order.{taken_of}
-use Rattle.election.specs.declared.judging.Numbering.{Numbering}
-use Rattle.election.specs.declared.judging.NumberTaken.{NumberTaken}
 use Rattle.election.specs.Numbering.{numbering_in}
 use Rattle.election.proofs.Ordered.{numbering_is}
 use Rattle.election.specs.Certify.{full_in, kept}
-use Rattle.std.specs.Prelude.{Result, Ok, Err}
 
 -- ---- rows
-
-taken_is : (ps : List Prefix) (t n : ℕ) (cs : List CertificateRow) → taken t n (map (certificate_in ps) cs) ≡ taken_of t n cs
-unfolding taken taken_of
-taken_is ps t n [] = refl
-taken_is ps t n (c ∷ cs) = ap (λ (b : Bool). (eqb c.term t && eqb c.number n) || b) (taken_is ps t n cs)
-
--- a number that is taken is that of a certificate of the term
-abbrev Member : ℕ → ℕ → List CertificateRow → Type 0
-Member t n cs = (d : CertificateRow) × Memᴰ d cs × (d.term ≡ t) × (d.number ≡ n)
-
-taken_member : (t n : ℕ) (cs : List CertificateRow) → taken_of t n cs ≡ true → Member t n cs
-unfolding taken_of
-taken_member t n [] e = absurd (tf (sym e))
-taken_member t n (c ∷ cs) e = go (eqb c.term t && eqb c.number n) refl e (taken_member t n cs)
-  where
-    go : (b : Bool) → (eqb c.term t && eqb c.number n) ≡ b → (b || taken_of t n cs) ≡ true → (taken_of t n cs ≡ true → Member t n cs) → Member t n (c ∷ cs)
-    go true q f later = (c, Memᴰ.head refl, eqb-true c.term t (and_left _ _ q), eqb-true c.number n (and_right (eqb c.term t) _ q))
-    go false q f later = let r = later f in (r.0, Memᴰ.tail r.1, r.2, r.3)
 
 -- no more are of a term than there are
 held_within : (t : ℕ) (cs : List CertificateRow) → held_of t cs ≤ length cs
@@ -75,18 +51,6 @@ log_is : (ps : List Prefix) (l t m : ℕ) (p : Bool) (q n : ℕ) (f : Prefix) �
     → log_in ps (kept l t m p q) ≡ model.log_of p n f
 log_is ps l t m true q n f e = ap some e
 log_is ps l t m false q n f e = refl
-
--- the number is taken, or it is the next of the term at that place
-abbrev pub found : Bool → ℕ → ℕ → Result Numbering NumberTaken
-found b place number = cond b (Err (record {})) (Ok (record { place = place; number = number }))
-
--- the number of a refusal, or 0, is not 11
-abbrev pub code : Option Refusal → ℕ
-code none = 0
-code (some r) = number-of r
-
-abbrev pub Not11 : Option Refusal → Type 0
-Not11 o = code o ≡ 11 → ⊥
 
 -- ---- bytes that stand for a history
 
@@ -110,50 +74,27 @@ module _ (h : Bytes) (x : History) (s : Stands h x) where
   held_same : (t : ℕ) → number t ≡ held t x.certificates
   held_same t = sym (held_is x.prefixes t cs) ∙ ap (held t) (certificates_stored h x s)
 
-  taken_same : (t n : ℕ) → taken_of t n cs ≡ taken t n x.certificates
-  taken_same t n = sym (taken_is x.prefixes t n cs) ∙ ap (taken t n) (certificates_stored h x s)
-
   numbered_here : numbered cs ≡ true
   numbered_here = subst (λ (rs : List CertificateRow). numbered rs ≡ true) (certificates_are h) (meanings.kept h x s).numbered
 
   -- the certificates are in order, so the searches find these
-  pub numbering_same : (t : ℕ) → numbering_in h t ≡ found (taken_of t (number t) cs) (place t) (number t)
+  pub numbering_same : (t : ℕ) → numbering_in h t ≡ record { place = place t; number = number t }
   numbering_same t =
       numbering_is (certificate_row (certificates_part h)) t (certificates_held h) numbered_here
 
   -- ---- the refusals
 
-  module _ (l t n : ℕ) where
-    pub model_beyond : length (front_of x l) < n → election_refusal x l t n ≡ some lengthExceedsFront
+  module _ (l n : ℕ) where
+    pub model_beyond : length (front_of x l) < n → election_refusal x l n ≡ some lengthExceedsFront
     unfolding election_refusal
     model_beyond b = cond_true (ltb (length (front_of x l)) n) _ _ (lt-ltb (length (front_of x l)) n b)
 
-    pub model_within : n ≤ length (front_of x l) → (a b : Bool) → full_in h ≡ a → taken_of t (number t) cs ≡ b
-        → election_refusal x l t n ≡ cond a (some certificatesFull) (cond b (some numberTaken) none)
+    pub model_within : n ≤ length (front_of x l) → (a : Bool) → full_in h ≡ a → election_refusal x l n ≡ cond a (some certificatesFull) none
     unfolding election_refusal
-    model_within w a b f g =
+    model_within w a f =
         let many = ap (leb 64) (sym count_is) ∙ f in
-        let same = ap (λ (m : ℕ). taken t m x.certificates) (sym (held_same t)) ∙ sym (taken_same t (number t)) ∙ g in
         cond_false (ltb (length (front_of x l)) n) _ _ (le-ltb (length (front_of x l)) n w)
-        ∙ (λ i. cond (many i) (some certificatesFull) (cond (same i) (some numberTaken) none))
-
-    -- 11 is never given: each number of the term is less than how many it holds
-    number_free : taken_of t (number t) cs ≡ false
-    number_free =
-        ⊎_elim
-        (λ b.
-        let d = taken_member t (number t) cs b in
-        let below = number_below t cs numbered_here d.0 d.1 d.2 in
-        absurd (let e = d.3 in omega arith))
-        (λ b. b) (either (taken_of t (number t) cs))
-
-    pub never_taken : Not11 (election_refusal x l t n)
-    unfolding election_refusal
-    never_taken =
-        let free = ap (λ (m : ℕ). taken t m x.certificates) (sym (held_same t)) ∙ sym (taken_same t (number t)) ∙ number_free in
-        cond_cases Not11 (ltb (length (front_of x l)) n) _ _ (λ _ z. omega (arith, z))
-        (λ _. cond_cases Not11 (leb certificate_limit (length x.certificates)) _ _ (λ _ z. omega (arith, z))
-        (λ _. subst Not11 (sym (cond_false (taken t (held t x.certificates) x.certificates) (some numberTaken) none free)) (λ z. omega (arith, z))))
+        ∙ (λ i. cond (many i) (some certificatesFull) none)
 
   -- ---- the certificate
 

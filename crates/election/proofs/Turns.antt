@@ -1,7 +1,7 @@
--- The ways an election goes, with what was read: 9, 10, 11 with nothing written, or kept.
+-- The ways an election goes, with what was read: 9, 10 with nothing written, or kept.
 -- Assumes nothing.
 use Prim.Native.Nat.{ℕ, ◌≤◌, ◌<◌}
-use mathlib.Core.Path.{◌≡◌, refl, ap, sym, ◌∙◌}
+use mathlib.Core.Path.{◌≡◌, refl, ap, sym, ◌∙◌, subst}
 use mathlib.Core.Bool.{Bool, true, false}
 use lib.Dec.{leb}
 use borrow.Author.Tests.{le-leb, lt-leb}
@@ -16,21 +16,20 @@ use Rattle.answers.specs.Numbers.{accepted_with}
 use Rattle.answers.specs.Step.{Gives, accepting, refusing}
 use Rattle.answers.proofs.StepLaws.{ends}
 use Rattle.election.specs.declared.judging.Numbering.{Numbering}
-use Rattle.election.specs.declared.judging.NumberTaken.{NumberTaken}
 use Rattle.election.specs.Numbering.{numbering_in}
 use Rattle.election.proofs.NumberingTurns as judged
 use Rattle.election.specs.Certify.{full_in, kept, step_of, election_step}
-use Rattle.std.specs.Prelude.{Option, Some, None, Result, Ok, Err}
+use Rattle.std.specs.Prelude.{Option, Some, None, Err}
 
 -- the place is among those held, or behind them
-pub place_fits : (h : Bytes) (t : ℕ) (m : Result Numbering NumberTaken) → m ≡ numbering_in h t → (k : Numbering) → m ≡ Ok k → k.place ≤ certificates_held h
-place_fits h t m e k g = judged.next_within (certificate_row (certificates_part h)) t (certificates_held h) k (sym e ∙ g)
+pub place_fits : (h : Bytes) (t : ℕ) (k : Numbering) → k ≡ numbering_in h t → k.place ≤ certificates_held h
+place_fits h t k e = subst (λ (m : Numbering). m.place ≤ certificates_held h) (sym e) (judged.next_within (certificate_row (certificates_part h)) t (certificates_held h))
 
 -- ---- the exits
 
 module _ (h : Bytes) (l t : ℕ) (p : Bool) (n : ℕ) (s : Option LogPrefixWitness) (es : s ≡ front_through h l n) where
   -- an election goes by what was read
-  goes : (log : Option LogPrefixWitness) → s ≡ log → (b : Bool) → full_in h ≡ b → (m : Result Numbering NumberTaken) → numbering_in h t ≡ m
+  goes : (log : Option LogPrefixWitness) → s ≡ log → (b : Bool) → full_in h ≡ b → (m : Numbering) → numbering_in h t ≡ m
       → election_step h l t p n ≡ step_of h l t p log b m
   unfolding election_step
   goes log e b f m g = λ i. step_of h l t p ((sym es ∙ e) i) (f i) (g i)
@@ -45,16 +44,9 @@ module _ (h : Bytes) (l t : ℕ) (p : Bool) (n : ℕ) (s : Option LogPrefixWitne
     pub full : 64 ≤ c → Gives (election_step h l t p n) (Err Refusal.CertificatesFull) h
     full f = ends _ (refusing Refusal.CertificatesFull h) (goes (Some log) e true (ap (leb 64) (sym ec) ∙ le-leb 64 c f) _ refl)
 
-    module _ (f : c < 64) (m : Result Numbering NumberTaken) (em : m ≡ numbering_in h t) where
-      roomy : (a : Result Numbering NumberTaken) → m ≡ a → election_step h l t p n ≡ step_of h l t p (Some log) false a
-      roomy a g = goes (Some log) e false (ap (leb 64) (sym ec) ∙ lt-leb 64 c f) a (sym em ∙ g)
-
-      -- 11
-      pub taken : (x : NumberTaken) → m ≡ Err x → Gives (election_step h l t p n) (Err Refusal.NumberTaken) h
-      taken x g = ends _ (refusing Refusal.NumberTaken h) (roomy (Err x) g)
-
-      -- the certificate is kept
-      pub accepted : (k : Numbering) → m ≡ Ok k → (x : CertificateRow) → x ≡ kept l t k.number p log.0
-          → (h' : Bytes) → h' ≡ certificate_added h k.place x → Gives (election_step h l t p n) (accepted_with 0) h'
-      accepted k g x ex h' e' =
-          ends _ (accepting 0 h') (roomy (Ok k) g ∙ ap (accepting 0) (sym (e' ∙ ap (certificate_added h k.place) ex)))
+    -- the certificate is kept
+    pub accepted : c < 64 → (k : Numbering) → k ≡ numbering_in h t → (x : CertificateRow) → x ≡ kept l t k.number p log.0
+        → (h' : Bytes) → h' ≡ certificate_added h k.place x → Gives (election_step h l t p n) (accepted_with 0) h'
+    accepted f k ek x ex h' e' =
+        ends _ (accepting 0 h')
+        (goes (Some log) e false (ap (leb 64) (sym ec) ∙ lt-leb 64 c f) k (sym ek) ∙ ap (accepting 0) (sym (e' ∙ ap (certificate_added h k.place) ex)))

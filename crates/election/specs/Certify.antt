@@ -1,6 +1,6 @@
 -- What an election answers and writes, on the bytes of a history: as it is judged; accepted, a certificate in its place.
 -- Assumes nothing.
-use Rattle.std.specs.Prelude.{ℕ, Bool, true, false, cond, leb, Option, Some, None, Result, Ok, Err}
+use Rattle.std.specs.Prelude.{ℕ, Bool, true, false, cond, leb, Option, Some, None}
 use Rattle.model.specs.Sizes.{Bytes, certificate_limit}
 use Rattle.storage.specs.Tables.{CertificateRow}
 use Rattle.storage.specs.Writes.{certificate_added}
@@ -9,7 +9,6 @@ use Rattle.log_prefix.specs.Prefix.{front_through}
 use Rattle.answers.specs.declared.answer.Refusal.{Refusal}
 use Rattle.answers.specs.Step.{Step, accepting, refusing}
 use Rattle.election.specs.declared.judging.Numbering.{Numbering}
-use Rattle.election.specs.declared.judging.NumberTaken.{NumberTaken}
 use Rattle.election.specs.Numbering.{numbering_of, numbering_in}
 use Rattle.units.specs.declared.LogPrefixWitness.{LogPrefixWitness}
 
@@ -22,13 +21,12 @@ abbrev pub kept : ℕ → ℕ → ℕ → Bool → ℕ → CertificateRow
 kept l t number p log =
     record { term = t; log = cond p log 0; mark = 0; leader = l; number = number; present = cond p 1 0 }
 
--- an election of leader l in term t: 9 beyond the leader's front; else 10 where the certificates are full; else 11 where the number is
--- taken; else the certificate is put in its place
-abbrev pub step_of : Bytes → ℕ → ℕ → Bool → Option LogPrefixWitness → Bool → Result Numbering NumberTaken → Step
+-- an election of leader l in term t: 9 beyond the leader's front; else 10 where the certificates are full; else the certificate is put in
+-- its place
+abbrev pub step_of : Bytes → ℕ → ℕ → Bool → Option LogPrefixWitness → Bool → Numbering → Step
 step_of h l t p None full m = refusing Refusal.LengthExceedsFront h
 step_of h l t p (Some log) true m = refusing Refusal.CertificatesFull h
-step_of h l t p (Some log) false (Err e) = refusing Refusal.NumberTaken h
-step_of h l t p (Some log) false (Ok m) = accepting 0 (certificate_added h m.place (kept l t m.number p log.0))
+step_of h l t p (Some log) false m = accepting 0 (certificate_added h m.place (kept l t m.number p log.0))
 
 -- the same in the bytes of a history, with a log of n entries
 unfoldable pub election_step : Bytes → ℕ → ℕ → Bool → ℕ → Step

@@ -30,8 +30,8 @@ fn new_certificate(e: Election, number: usize, log: LogPrefixWitness) -> Certifi
     }
 }
 
-// An election of the leader in the term, with the first `length` entries of its front where its log is present: 9, then 10,
-// then 11, else the certificate is put in its place.
+// An election of the leader in the term, with the first `length` entries of its front where its log is present: 9, then 10, else the
+// certificate is put in its place.
 #[tactic(auto, using(crate::proofs::Turns::place_fits))]
 pub fn record_election(history: &mut History, e: Election) -> Result<Accepted, Refusal>
     requires { (well_formed history.old ≡ true) × (e.leader.0 < node_count) }
@@ -44,7 +44,7 @@ pub fn record_election(history: &mut History, e: Election) -> Result<Accepted, R
     if CERTIFICATE_LIMIT <= certificate_count(history) {
         return Err(Refusal::CertificatesFull);
     }
-    let next = number_in_term(Stored { bytes: &*history }, e.term)?;
+    let next = number_in_term(Stored { bytes: &*history }, e.term);
     let c = new_certificate(e, next.number, log);
     add_certificate(history, next.place, c);
     Ok(Accepted::with(0))

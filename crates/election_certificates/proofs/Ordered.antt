@@ -5,17 +5,17 @@ use Prim.Native.Nat.{ℕ, zero, suc, ◌+◌, ◌-◌, ◌≤◌, ◌<◌}
 use native.Mathlib.Nat.{not-suc-le-zero}
 use native.Mathlib.Decide.{ℕ_discrete, dec_le, dec_lt}
 use native.Mathlib.Omega.{arith}
-use mathlib.Core.Path.{◌≡◌, refl, ap, sym, ◌∙◌, subst}
-use mathlib.Core.Bool.{Bool, true, false, cond, ◌&&◌, ◌||◌}
+use mathlib.Core.Path.{◌≡◌, refl, subst}
+use mathlib.Core.Bool.{Bool, true, false, cond, ◌&&◌}
 use lib.Dec.{ltb, eqb}
 use borrow.Author.Tests.{eqb-true, ltb-true, lt-ltb, le-ltb, eq-eqb, ne_eqb}
 use Rattle.model.proofs.Tests.{cond_true, cond_false}
-use Rattle.storage_bytes.specs.Lists.{tabulate, some}
+use Rattle.storage_bytes.specs.Lists.{tabulate}
 use Rattle.storage.specs.Tables.{CertificateRow}
 use Rattle.storage.specs.Rules.{follows, numbered_after, numbered}
 use Rattle.storage.specs.Order.{place_of, held_of}
 use Rattle.storage_bytes.proofs.ListLaws.{both}
-use Rattle.election_certificates.specs.Order.{place_from, held_before, taken_before, taken_of}
+use Rattle.election_certificates.specs.Order.{place_from, held_before}
 use Rattle.election_certificates.proofs.Loops.{place_here, place_back, place_zero, place_within, held_more, held_end, held_within}
 
 -- ---- the order
@@ -169,64 +169,7 @@ module _ (row : ℕ → CertificateRow) where
                 ]
           ]
 
-      module _ (x : ℕ) where
-        -- a row of another term does not count
-        pass : (i m : ℕ) → ((row i).term ≡ t → ⊥) → taken_of t x (tabulate row i (suc m)) ≡ taken_of t x (tabulate row (i + 1) m)
-        unfolding taken_of tabulate
-        pass i m h = ap (λ (b : Bool). (b && eqb (row i).number x) || taken_of t x (tabulate row (i + 1) m)) (ne_eqb (row i).term t h)
-
-        count : (i m : ℕ) → (row i).term ≡ t → taken_of t x (tabulate row i (suc m)) ≡ (eqb (row i).number x || taken_of t x (tabulate row (i + 1) m))
-        unfolding taken_of tabulate
-        count i m h = ap (λ (b : Bool). (b && eqb (row i).number x) || taken_of t x (tabulate row (i + 1) m)) (eq-eqb (row i).term t h)
-
-        none : (i : ℕ) → taken_of t x (tabulate row i 0) ≡ false
-        unfolding taken_of tabulate
-        none i = refl
-
-        -- a row of those from i to p has the number
-        abbrev Taken : ℕ → ℕ → Bool
-        Taken i m = some (λ c. eqb c.number x) (tabulate row i m)
-
-        more : (i j : ℕ) → j ≡ suc (p - (i + 1)) → (eqb (row i).number x || Taken (i + 1) (p - (i + 1))) ≡ Taken i j
-        unfolding some tabulate
-        more i j e = ap (Taken i) (sym e)
-
-        no_more : (i j : ℕ) → j ≡ 0 → Taken i j ≡ false
-        unfolding some tabulate
-        no_more i j e = ap (Taken i) e
-
-        taken_after : (m i : ℕ) → i + m ≡ n → p ≤ i → taken_of t x (tabulate row i m) ≡ false
-        taken_after zero i e b = none i
-        taken_after (suc m) i e b =
-            pass i m (λ y. omega (arith, high i b (omega arith))) ∙ taken_after m (i + 1) (omega arith) (omega arith)
-
-        taken_in : (m i : ℕ) → i + m ≡ n → a ≤ i → i ≤ p → taken_of t x (tabulate row i m) ≡ Taken i (p - i)
-        taken_in zero i e b c =
-            none i ∙ sym (no_more i (p - i) (omega arith))
-        taken_in (suc m) i e b c =
-            elim (dec_lt i p) [
-              | yes q ↦
-                  count i m (same i b q)
-                  ∙ ap (λ (y : Bool). eqb (row i).number x || y) (taken_in m (i + 1) (omega arith) (omega arith) (omega arith))
-                  ∙ more i (p - i) (omega arith)
-              | no q ↦
-                  taken_after (suc m) i e (omega arith)
-                  ∙ sym (no_more i (p - i) (omega arith))
-            ]
-
-        taken_all : (m i : ℕ) → i + m ≡ n → i ≤ a → taken_of t x (tabulate row i m) ≡ Taken a (p - a)
-        taken_all zero i e b =
-            subst (λ (k : ℕ). taken_of t x (tabulate row i 0) ≡ Taken k (p - k)) (let z : i ≡ a = omega arith in z)
-            (taken_in zero i e (omega arith) (omega arith))
-        taken_all (suc m) i e b =
-            elim (dec_lt i a) [
-              | yes q ↦ pass i m (λ y. omega (arith, low i q)) ∙ taken_all m (i + 1) (omega arith) (omega arith)
-              | no q ↦
-                  subst (λ (k : ℕ). taken_of t x (tabulate row i (suc m)) ≡ Taken k (p - k)) (let z : i ≡ a = omega arith in z)
-                  (taken_in (suc m) i e (omega arith) (omega arith))
-            ]
-
-    -- ---- in order of term, the searches give the place, the number and whether it is taken, of all rows
+    -- ---- in order of term, the searches give the place and the number of all rows
 
     module _ (n : ℕ) (o : Ordered n) where
       abbrev place : ℕ
@@ -257,8 +200,3 @@ module _ (row : ℕ → CertificateRow) where
       held_is =
           let e = held_from (place - held) place n (omega arith) within low (of_term place) (later n) n 0 (omega arith) in
           omega (arith, room)
-
-      pub taken_is : (x : ℕ) → taken_before row x place held ≡ taken_of t x (tabulate row 0 n)
-      taken_is x =
-          ap (λ (m : ℕ). some (λ (c : CertificateRow). eqb c.number x) (tabulate row (place - held) m)) (let e : held ≡ place - (place - held) = omega (arith, room) in e)
-          ∙ sym (taken_all (place - held) place n (omega arith) within low (of_term place) (later n) x n 0 (omega arith) (omega arith))

@@ -1,13 +1,13 @@
 // The certificates held stand by term, then arrival, and a new one is mostly of the newest term: so its place is looked for
-// from the end, row by row, and its number and whether that is taken only among those of its term, right before the place. A
+// from the end, row by row, and its number only among those of its term, right before the place. A
 // library's search of sorted rows would begin in the middle. How many there are is asked, as the table is lent without the head.
 ghost use Rattle.std.specs.Prelude.{◌≡◌, ◌≤◌};
 ghost use Rattle.storage.specs.Tables.{certificate_row};
-ghost use Rattle.election_certificates.specs.Order.{place_from, held_before, taken_before};
+ghost use Rattle.election_certificates.specs.Order.{place_from, held_before};
 ghost use Rattle.model.specs.Sizes.{certificate_limit};
 
 use storage_bytes::layout::Certificates;
-use storage_rows::certificates::{number_at, term_at};
+use storage_rows::certificates::term_at;
 use units::Term;
 
 // How many of the n stand before those of a later term: from the end back, the first that is of no later one is the last of them.
@@ -36,12 +36,4 @@ pub fn held_of(certificates: &Certificates, place: usize, term: Term) -> usize
         }
     }
     place // all of them
-}
-
-// Whether one of the `held` right before the place has the number.
-pub fn is_taken(certificates: &Certificates, place: usize, held: usize, number: usize) -> bool
-    requires { (held ≤ place) × (place ≤ certificate_limit) }
-    ensures { result ≡ taken_before (certificate_row certificates.now) number place held }
-{
-    (place - held..place).any(|k| number_at(certificates, k) == number)
 }

@@ -36,7 +36,6 @@ reply_modelled (Err Refusal.FindingsFull) = refl
 reply_modelled (Err Refusal.OldExceedsNew) = refl
 reply_modelled (Err Refusal.LengthExceedsFront) = refl
 reply_modelled (Err Refusal.CertificatesFull) = refl
-reply_modelled (Err Refusal.NumberTaken) = refl
 reply_modelled (Err Refusal.StorageBroken) = refl
 
 pub reply_alike : (a : Result Accepted Refusal) (b : model.Answer) → modelled a ≡ some b → reply_of a ≡ model_reply b

@@ -14,13 +14,13 @@ use lib.Dec.{leb, ltb}
 use lib.ListN.{length, take, length-map}
 use borrow.Author.Tests.{ltb-true, ltb-false, lt-ltb, leb-false}
 use Rattle.model.specs.Entry.{Prefix, prefixes}
-use Rattle.model.specs.Refusal.{Refusal, number, prefixesFull, findingsFull, old_exceeds_new, lengthExceedsFront, certificatesFull, numberTaken}
+use Rattle.model.specs.Refusal.{Refusal, number, prefixesFull, findingsFull, old_exceeds_new, lengthExceedsFront, certificatesFull}
 use Rattle.model.specs.Record.{Record, view, commit, terms, election, check, rows, front}
 use Rattle.model.specs.History.{Finding, Certificate, History, front_of, same_finding, noted}
 use Rattle.model.specs.View.{begun, begun_by, stored, view_findings, view_refusal, view_effect}
 use Rattle.model.specs.Commit.{commit_findings, commit_refusal, commit_effect}
 use Rattle.model.specs.Terms.{first_changed, lowered, terms_effect}
-use Rattle.model.specs.Election.{held, taken, in_order, election_refusal, certificate, election_effect}
+use Rattle.model.specs.Election.{in_order, election_refusal, certificate, election_effect}
 use Rattle.model.specs.Check.{moved, check_findings, check_refusal, check_effect}
 use Rattle.model.specs.Answer.{refusal, effect}
 use Rattle.model.specs.Ledger.{Ledger}
@@ -276,11 +276,10 @@ never : (h : History) (n : ℕ) (o : Option Refusal) → length h.findings ≡ n
     → (o ≡ some findingsFull) ↔ ((o ≡ some prefixesFull → ⊥) × (finding_limit < n))
 never h n o e b f = (λ x. absurd (f x), λ p. absurd (let q = p.1 in omega arith))
 
-election_not_seven : (a b c : Bool) → cond a (some lengthExceedsFront) (cond b (some certificatesFull) (cond c (some numberTaken) none)) ≡ some findingsFull → ⊥
-election_not_seven true b c e = unlike _ _ (λ x. omega arith) e
-election_not_seven false true c e = unlike _ _ (λ x. omega arith) e
-election_not_seven false false true e = unlike _ _ (λ x. omega arith) e
-election_not_seven false false false e = let w : ◌≡◌ {A = ℕ} 0 1 = cc in omega arith
+election_not_seven : (a b : Bool) → cond a (some lengthExceedsFront) (cond b (some certificatesFull) none) ≡ some findingsFull → ⊥
+election_not_seven true b e = unlike _ _ (λ x. omega arith) e
+election_not_seven false true e = unlike _ _ (λ x. omega arith) e
+election_not_seven false false e = let w : ◌≡◌ {A = ℕ} 0 1 = cc in omega arith
 
 seven_by : (h : History) (r : Record) (k : ℕ) → Bounded h → length (effect h r).findings ≡ k
     → (refusal h r ≡ some findingsFull) ↔ ((refusal h r ≡ some prefixesFull → ⊥) × (finding_limit < k))
@@ -291,8 +290,7 @@ seven_by h (commit n i) k b e = seven_test false k _ (rw (← e))
 seven_by h (terms old new t) k b e =
     never h k _ e b.findings_fit (apart old_exceeds_new findingsFull (ltb new old) (λ x. omega arith))
 seven_by h (election l t p n) k b e = never h k _ e b.findings_fit
-    (election_not_seven (ltb (length (front_of h l)) n) (leb certificate_limit (length h.certificates))
-    (taken t (held t h.certificates) h.certificates))
+    (election_not_seven (ltb (length (front_of h l)) n) (leb certificate_limit (length h.certificates)))
 seven_by h check k b e = seven_test false k _ (rw (← e))
 seven_by h (rows rs) k b e = never h k none e b.findings_fit (apart old_exceeds_new findingsFull false (λ x. omega arith))
 

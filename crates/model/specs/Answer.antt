@@ -20,7 +20,7 @@ abbrev pub refusal : History → Record → Option Refusal
 refusal h (view n es) = view_refusal prefix_limit h n es
 refusal h (commit n i) = commit_refusal h n i
 refusal h (terms old new t) = terms_refusal old new
-refusal h (election l t p n) = election_refusal h l t n
+refusal h (election l t p n) = election_refusal h l n
 refusal h check = check_refusal h
 refusal h (rows rs) = none
 

@@ -1,10 +1,10 @@
 -- Document 01, "Election and check", the election: it keeps a certificate.
 -- Assumes nothing.
-use Rattle.std.specs.Prelude.{ℕ, ◌+◌, Bool, true, false, cond, ◌&&◌, ◌||◌, List, [], ◌∷◌, leb, ltb, eqb, length, take}
+use Rattle.std.specs.Prelude.{ℕ, ◌+◌, Bool, true, false, cond, List, [], ◌∷◌, leb, ltb, eqb, length, take}
 use Rattle.std.proofs.Math.Option.{Option, none, some}
 use Rattle.model.specs.Sizes.{certificate_limit}
 use Rattle.model.specs.Entry.{Prefix}
-use Rattle.model.specs.Refusal.{Refusal, lengthExceedsFront, certificatesFull, numberTaken}
+use Rattle.model.specs.Refusal.{Refusal, lengthExceedsFront, certificatesFull}
 use Rattle.model.specs.History.{Certificate, History, with_certificates, front_of}
 
 -- "the first `length` entries of the leader's front, or none"
@@ -17,23 +17,16 @@ unfoldable pub held : ℕ → List Certificate → ℕ
 held t [] = 0
 held t (c ∷ cs) = held t cs + cond (eqb c.term t) 1 0
 
--- a certificate of that term has the number
-unfoldable pub taken : ℕ → ℕ → List Certificate → Bool
-taken t n [] = false
-taken t n (c ∷ cs) = (eqb c.term t && eqb c.number n) || taken t n cs
-
 -- by term, then arrival
 unfoldable pub in_order : Certificate → List Certificate → List Certificate
 in_order c [] = c ∷ []
 in_order c (d ∷ ds) = cond (ltb c.term d.term) (c ∷ d ∷ ds) (d ∷ in_order c ds)
 
--- 9 when length exceeds the leader's front, 10 when 64 are held, 11 when its number within its term is taken
-unfoldable pub election_refusal : History → ℕ → ℕ → ℕ → Option Refusal
-unfolding held taken
-election_refusal h l t n =
+-- 9 when length exceeds the leader's front, 10 when 64 are held
+unfoldable pub election_refusal : History → ℕ → ℕ → Option Refusal
+election_refusal h l n =
     cond (ltb (length (front_of h l)) n) (some lengthExceedsFront)
-    (cond (leb certificate_limit (length h.certificates)) (some certificatesFull)
-    (cond (taken t (held t h.certificates) h.certificates) (some numberTaken) none))
+    (cond (leb certificate_limit (length h.certificates)) (some certificatesFull) none)
 
 -- "a certificate whose checked mark is zero"
 unfoldable pub certificate : History → ℕ → ℕ → Bool → ℕ → Certificate

@@ -10,8 +10,8 @@ pub data Refusal : Type 0 where
   prefixesFull findingsFull : Refusal
   -- commit terms: old exceeds new
   old_exceeds_new : Refusal
-  -- election: length exceeds the leader's front; 64 are held; its number within its term is taken
-  lengthExceedsFront certificatesFull numberTaken : Refusal
+  -- election: length exceeds the leader's front; 64 are held. 11 is the number of none
+  lengthExceedsFront certificatesFull : Refusal
 
 abbrev pub number : Refusal → ℕ
 number unknownKind = 1
@@ -24,4 +24,3 @@ number findingsFull = 7
 number old_exceeds_new = 8
 number lengthExceedsFront = 9
 number certificatesFull = 10
-number numberTaken = 11

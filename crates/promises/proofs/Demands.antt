@@ -20,8 +20,10 @@ use Rattle.storage.specs.Decode.{decode}
 use Rattle.storage.specs.Fresh.{fresh_history}
 use Rattle.storage.proofs.Meanings.{Stands, stand}
 use Rattle.answers.specs.Step.{Step}
-use Rattle.answers.specs.Numbers.{reply_of}
-use Rattle.submission.proofs.Meaning.{answer_never, submit_broken}
+use Rattle.answers.specs.Numbers.{reply_of, model_reply}
+use Rattle.submission.proofs.Meaning.{submit_broken}
+use Rattle.model.specs.Answer as model
+use Rattle.model.specs.Refusal.{Refusal, number, unknownKind, bitsMissing, filling, outOfLimit, notAbove, prefixesFull, findingsFull, old_exceeds_new, lengthExceedsFront, certificatesFull}
 use Rattle.lists.specs.Picked.{nth}
 use Rattle.answers.specs.declared.numbers.Reply.{Reply}
 use Rattle.history.specs.declared.exports.FindingReply.{FindingReply}
@@ -48,20 +50,35 @@ demand1 ss s =
     let e = reply_alike (submit_answer (bytes_of ss) s) (answer (history_of ss) s) m.answers in
     (e, λ f. m.keeps (number_refused (answer (history_of ss) s) (λ z. f (ap (λ (r : Reply). r.refusal) e ∙ z))))
 
--- ---- 11 is never given
+-- ---- 11 is never given: no refusal has the number
+
+model_none : (a : model.Answer) → (model_reply a).refusal ≡ 11 → ⊥
+model_none (model.accepted v n) z = omega (arith, z)
+model_none (model.refused r) z = by r z
+  where
+    by : (w : Refusal) → number w ≡ 11 → ⊥
+    by unknownKind e = omega (arith, e)
+    by bitsMissing e = omega (arith, e)
+    by filling e = omega (arith, e)
+    by outOfLimit e = omega (arith, e)
+    by notAbove e = omega (arith, e)
+    by prefixesFull e = omega (arith, e)
+    by findingsFull e = omega (arith, e)
+    by old_exceeds_new e = omega (arith, e)
+    by lengthExceedsFront e = omega (arith, e)
+    by certificatesFull e = omega (arith, e)
+
+pub model_never_eleven : ModelNeverEleven
+model_never_eleven ss s = model_none (answer (history_of ss) s)
 
 pub never_eleven : NeverEleven
 never_eleven h s z =
     ⊎_elim
     (λ w.
     let m = means h (decode h) (stand h w) s in
-    answer_never h (decode h) (stand h w) s
-    (ap (λ (r : Reply). r.refusal) (sym (reply_alike (submit_answer h s) (answer (decode h) s) m.answers)) ∙ z))
+    model_none (answer (decode h) s) (ap (λ (r : Reply). r.refusal) (sym (reply_alike (submit_answer h s) (answer (decode h) s) m.answers)) ∙ z))
     (λ w. let e = ap (λ (t : Step). (reply_of t.answer).refusal) (submit_broken h s w) in omega (arith, sym e ∙ z))
     (either (well_formed h))
-
-pub model_never_eleven : ModelNeverEleven
-model_never_eleven ss = answer_never (bytes_of ss) (history_of ss) (stands ss)
 
 -- ---- demand 2
 

@@ -2,7 +2,7 @@
 -- Assumes nothing.
 use Rattle.std.specs.Prelude.{ℕ, ◌^◌, ◌≤◌, ◌<◌, ◌≡◌, cond, length, is_some, unwrap_or, Result, Ok, Err}
 use Rattle.std.specs.Bool.{then_some}
-use Rattle.model.specs.Refusal.{Refusal, unknownKind, bitsMissing, filling, outOfLimit, notAbove, prefixesFull, findingsFull, old_exceeds_new, lengthExceedsFront, certificatesFull, numberTaken}
+use Rattle.model.specs.Refusal.{Refusal, unknownKind, bitsMissing, filling, outOfLimit, notAbove, prefixesFull, findingsFull, old_exceeds_new, lengthExceedsFront, certificatesFull}
 use Rattle.model.specs.Record.{Record, view, commit, terms, election, check, rows}
 use Rattle.model.specs.Reading.{Reader, Reading, readable, unreadable, filled, finish, read}
 use Rattle.model.specs.Sizes.{Bytes, node_count, index_limit}
@@ -41,7 +41,6 @@ fault_of findingsFull = Fault.UnknownKind
 fault_of old_exceeds_new = Fault.UnknownKind
 fault_of lengthExceedsFront = Fault.UnknownKind
 fault_of certificatesFull = Fault.UnknownKind
-fault_of numberTaken = Fault.UnknownKind
 
 -- the answer that the model's reading asks for
 abbrev pub head_of : Reading → Result Head Fault

@@ -158,14 +158,6 @@ pub fn mark_at(certificates: &Certificates, k: usize) -> LogIndex
     LogIndex::read(certificates, k * CERTIFICATE_WIDTH + CERTIFICATE_MARK)
 }
 
-// Its number within its term alone.
-pub fn number_at(certificates: &Certificates, k: usize) -> usize
-    requires { k < certificate_limit }
-    ensures { result ≡ (certificate_row certificates.now k).number }
-{
-    usize::from(u8::read(certificates, k * CERTIFICATE_WIDTH + CERTIFICATE_NUMBER))
-}
-
 // The mark of row k alone, written in the table.
 pub fn put_mark(certificates: &mut [u8], k: usize, mark: LogIndex)
     requires { (k < certificate_limit) × (length certificates.old ≡ certificates_length) }

@@ -3,16 +3,16 @@
 -- Assumes nothing.
 use mathlib.Core.Path.{◌≡◌, refl, sym, ◌∙◌, ap, subst}
 use mathlib.Core.Bool.{false}
-use mathlib.Core.Option.{Option, none, some}
+use mathlib.Core.Option.{some}
 use mathlib.Core.List.{List}
-use Rattle.model.specs.Sizes.{Bytes, prefix_limit, finding_limit}
-use Rattle.model.specs.Record.{view, commit, terms, election, check, front, Row, Record, rows}
+use Rattle.model.specs.Sizes.{Bytes}
+use Rattle.model.specs.Record.{Row, Record, rows}
 use Rattle.model.specs.Rows.{Verdict, verdict}
 use Rattle.model.specs.Reading.{Reading, readable, unreadable, read}
 use Rattle.model.specs.History.{History}
 use Rattle.model.specs.Answer as model
 use Rattle.model.specs.Answer.{answer_unless, refusal, answer, after, answer_read, after_read, is_accepted}
-use Rattle.model.proofs.Tests.{cond_cases, cond_true, cond_false}
+use Rattle.model.proofs.Tests.{cond_true, cond_false}
 use Rattle.record_bits.specs.declared.bits.Fault.{Fault}
 use Rattle.record_reading.specs.declared.head.Head.{Head}
 use Rattle.record_bits.specs.Answers.{refusal_of}
@@ -24,7 +24,7 @@ use Rattle.storage.specs.Rules.{well_formed}
 use Rattle.storage.proofs.Meanings.{Stands}
 use Rattle.std.specs.Prelude.{Option as Answered, Some, None, is_some, unwrap_or, Result, Ok, Err}
 use Rattle.answers.specs.declared.answer.Refusal.{Refusal}
-use Rattle.answers.specs.Numbers.{model_reply, modelled, node_number}
+use Rattle.answers.specs.Numbers.{modelled, node_number}
 use Rattle.answers.specs.Step.{Step, refusing}
 use Rattle.answers.proofs.Meaning as kinds
 use Rattle.invariants.specs.declared.commit_safety.Failure.{Failure}
@@ -34,15 +34,6 @@ use Rattle.logical_log.proofs.Meaning.{view_means}
 use Rattle.commit.proofs.CommitLaws.{commit_means}
 use Rattle.commit_terms.proofs.Meaning.{terms_mean}
 use Rattle.election.proofs.Meaning.{election_means}
-use Rattle.election.proofs.Effects.{Not11, never_taken}
-use native.Mathlib.Omega.{arith}
-use lib.Dec.{ltb}
-use lib.ListN.{length}
-use Rattle.model.specs.Refusal as model-refusal
-use Rattle.model.specs.Refusal.{findingsFull, old_exceeds_new}
-use Rattle.model.specs.View.{stored, view_findings, view_refusal}
-use Rattle.model.specs.Commit.{commit_findings, commit_refusal}
-use Rattle.model.specs.Check.{check_findings, check_refusal}
 use Rattle.leader_completeness.proofs.Meaning.{check_means}
 use Rattle.submission.specs.Replies.{step_to, submit_step}
 
@@ -98,55 +89,6 @@ module _ (h : Bytes) (x : History) (st : Stands h x) where
   told_means s (Ok Head.Check) t = took s _ _ t.reading (check_means h x st)
   told_means s (Ok (Head.Rows c)) t = took s _ _ t.reading (rows_mean (rows_at s first_row c))
   told_means s (Err w) t = unread s w t.reading
-
-  -- ---- 11 is never given
-
-  refusal_never : (r : Record) → Not11 (refusal x r)
-  unfolding view_refusal commit_refusal check_refusal
-  refusal_never (view n es) =
-      cond_cases Not11 (ltb prefix_limit (length (stored x.prefixes (front es)))) _ _ (λ _ z. omega (arith, z))
-      (λ _. cond_cases Not11 (ltb finding_limit (length (view_findings x n (front es)))) (some findingsFull) none (λ _ z. omega (arith, z)) (λ _ z. omega (arith, z)))
-  refusal_never (commit n i) =
-      cond_cases Not11 (ltb finding_limit (length (commit_findings x n i))) (some findingsFull) none (λ _ z. omega (arith, z)) (λ _ z. omega (arith, z))
-  refusal_never (terms old new t) = cond_cases Not11 (ltb new old) (some old_exceeds_new) none (λ _ z. omega (arith, z)) (λ _ z. omega (arith, z))
-  refusal_never (election l t p n) = never_taken h x st l t n
-  refusal_never check =
-      cond_cases Not11 (ltb finding_limit (length (check_findings x))) (some findingsFull) none (λ _ z. omega (arith, z)) (λ _ z. omega (arith, z))
-  refusal_never (rows rs) = λ z. omega (arith, z)
-
-  abbrev Never : Reading → Type 0
-  Never d = (model_reply (answer_read x d)).refusal ≡ 11 → ⊥
-
-  read_never : (r : Record) → Never (readable r)
-  read_never r = go (refusal x r) (refusal_never r)
-    where
-      go : (o : Option model-refusal.Refusal) → Not11 o → (model_reply (answer_unless x r o)).refusal ≡ 11 → ⊥
-      go none n z = omega (arith, z)
-      go (some e) n z = n z
-
-  as_read : (s : Bytes) (r : Record) → read s ≡ readable r → Never (read s)
-  as_read s r e = subst Never (sym e) (read_never r)
-
-  told_never : (s : Bytes) (d : Result Head Fault) → Told s d → Never (read s)
-  told_never s (Ok (Head.View n c)) t = as_read s _ t.reading
-  told_never s (Ok (Head.Commit n i)) t = as_read s _ t.reading
-  told_never s (Ok (Head.Terms c)) t = as_read s _ t.reading
-  told_never s (Ok (Head.Election e)) t = as_read s _ t.reading
-  told_never s (Ok Head.Check) t = as_read s _ t.reading
-  told_never s (Ok (Head.Rows c)) t = as_read s _ t.reading
-  told_never s (Err f) t = subst Never (sym t.reading) (by_fault f)
-    where
-      by_fault : (g : Fault) → Never (unreadable (refusal_of g))
-      by_fault Fault.UnknownKind z = omega (arith, z)
-      by_fault Fault.BitsMissing z = omega (arith, z)
-      by_fault Fault.Filling z = omega (arith, z)
-      by_fault Fault.OutOfLimit z = omega (arith, z)
-      by_fault Fault.NotAbove z = omega (arith, z)
-
-  -- no record is answered 11 by a history that bytes stand for
-  pub answer_never : (s : Bytes) → (model_reply (answer x s)).refusal ≡ 11 → ⊥
-  unfolding answer
-  answer_never s = told_never s (head_of (read s)) (told_always s)
 
 -- of bytes that stand for a history, what `submit` promises is what the model says
 pub submit_means : (h : Bytes) (x : History) (s : Bytes) → Stands h x → Means h x s (submit_step h s)

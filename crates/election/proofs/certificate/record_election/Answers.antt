@@ -1,10 +1,7 @@
 -- `election::certificate::record_election` meets its contract: each exit is a law of the ways an election goes.
 -- Assumes nothing.
-use Rattle.std.proofs.lemmas.Result.{err_from_is_err_and}
 use Rattle.answers.proofs.StepLaws.{told}
-use Rattle.election.proofs.Turns.{beyond, full, taken, accepted}
-use mathlib.Core.Path.{◌∙◌, ap}
-use Rattle.std.specs.Prelude.{Err}
+use Rattle.election.proofs.Turns.{beyond, full, accepted}
 use Rattle.election.proofs.certificate.record_election.Goals as goal
 
 pub returns-in_default : goal.returns-in_default
@@ -15,16 +12,9 @@ pub returns-then-certificate_count-ge-CERTIFICATE_LIMIT : goal.returns-then-cert
 returns-then-certificate_count-ge-CERTIFICATE_LIMIT c =
     full _ _ _ _ _ _ (rw c.unwrap_or.ensures at c.front_through.ensures) _ c.in-Some.is _ c.certificate_count.ensures.is c.if-certificate_count-ge-CERTIFICATE_LIMIT.true
 
-pub returns-in_err-next : goal.returns-in_err-next
-returns-in_err-next c =
-    let p = err_from_is_err_and c.from_residual.result c.from_residual.ensures.1 in
-    told _ _ (p.1 ∙ ap Err p.2)
-    (taken _ _ _ _ _ _ (rw c.unwrap_or.ensures at c.front_through.ensures) _ c.in-Some.is _ c.certificate_count.ensures.is
-    c.if-certificate_count-ge-CERTIFICATE_LIMIT.false _ c.number_in_term.ensures _ c.in_err-next.was)
-
 pub returns : goal.returns
 returns c =
     told _ _ c.with.ensures
     (accepted _ _ _ _ _ _ (rw c.unwrap_or.ensures at c.front_through.ensures) _ c.in-Some.is _ c.certificate_count.ensures.is
-    c.if-certificate_count-ge-CERTIFICATE_LIMIT.false _ c.number_in_term.ensures _ c.in_ok-next.was
+    c.if-certificate_count-ge-CERTIFICATE_LIMIT.false _ c.number_in_term-next.ensures
     _ c.new_certificate-c.ensures _ c.add_certificate.ensures)
