@@ -20,7 +20,7 @@ extern "C" {
 
 /* What a record is answered: document 01's numbers. */
 struct gamiwhoru_reply {
-    uint8_t refusal; /* 1 to 12, or 0 where the record is accepted */
+    uint8_t refusal; /* 1 to 10 or 12, or 0 where the record is accepted */
     size_t value;    /* the sum of its flags, or the rule that fails; 0 where it is refused */
     uint8_t node;    /* the node of a failing row, or 0 */
 };
