@@ -48,7 +48,8 @@ def growing(told):
         node = 1 if k % 2 else 2
         if k < 255:
             told.accepted(terms(k - 1, k, k))
-        told.accepted(view(node, k, *entries[:k]))
+        # the entries before it are in the view before, so one prefix is new
+        told.accepted(view(node, k, *entries[:k]), 1)
         # the first one is only kept; each later one agrees (1), and the owner is the other node (2)
         told.accepted(commit(node, k), 0 if k == 1 else 3)
         if k in CHECKS:
@@ -63,10 +64,10 @@ def each_record_tells():
     told = Told()
     growing(told)
     # node 3 has entry 1 in another term, and shows it as committed: LG-04. Node 4 has no view. Node 5 has another entry 1 in its term: LG-03
-    told.accepted(view(3, 1, entry(1, 1000)))
+    told.accepted(view(3, 1, entry(1, 1000)), 1)
     told.accepted(commit(3, 1))
     told.accepted(commit(4, 9))
-    told.accepted(view(5, 1, entry(1, 1, b'x')))
+    told.accepted(view(5, 1, entry(1, 1, b'x')), 1)
     lists = ['LG-03 5 1 1', 'LG-04 3 1 0']
     lists += ['LG-05 0 %d %d' % (k, MOST) for k in CHECKS]
     lists += ['LG-05 2 %d %d' % (k, k + 1) for k in CHECKS[1:]]

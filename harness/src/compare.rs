@@ -31,7 +31,7 @@ pub struct Counts {
     pub flags: [u64; 8],
     /// Failing rows by rule.
     pub rules: [u64; 5],
-    /// Accepted checks whose leader list the ledger had to have as well, and
+    /// Accepted checks, whose leader list the ledger must have as well, and
     /// those of them where it was not empty.
     pub ledger_checks: u64,
     pub ledger_leaders: u64,
@@ -87,9 +87,9 @@ impl Counts {
 }
 
 /// The answer, all lists and the state after every record; where a record is
-/// refused, every byte that the second subject holds; at accepted checks,
-/// while all commit terms are known, the Rust's leader list with the plain
-/// ledger's; and at the end the lists in printed order.
+/// refused, every byte that the second subject holds; at accepted checks the
+/// judge's leader list with the plain ledger's; and at the end the lists in
+/// printed order.
 pub fn compare(
     oracle: &mut dyn Subject,
     subject: &mut dyn Subject,
@@ -135,11 +135,11 @@ pub fn compare(
 }
 
 fn answers(one: Answer, two: Answer) -> Option<String> {
-    (one != two).then(|| format!("the Rust answers {one:?}, the other {two:?}"))
+    (one != two).then(|| format!("the judge answers {one:?}, the other {two:?}"))
 }
 
 fn differing(one: &Lists, two: &Lists) -> Option<String> {
-    (one != two).then(|| format!("the Rust has {one:?}, the other {two:?}"))
+    (one != two).then(|| format!("the judge has {one:?}, the other {two:?}"))
 }
 
 /// Tells the ledger of an accepted record, and holds the leader lists together at a check.
@@ -152,14 +152,14 @@ fn ledgers(
     let record = read(record).ok()?;
     let check = record == Record::Check;
     ledger.take(record);
-    if !check || !ledger.known {
+    if !check {
         return None;
     }
     counts.ledger_checks += 1;
     counts.ledger_leaders += u64::from(!expected.leaders.is_empty());
     let leaders = ledger.leaders();
     (leaders != expected.leaders)
-        .then(|| format!("the ledger has {leaders:?}, the Rust {expected:?}"))
+        .then(|| format!("the ledger has {leaders:?}, the judge {expected:?}"))
 }
 
 /// Drops records, then entries and rows, for as long as the two still part.

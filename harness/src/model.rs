@@ -29,7 +29,7 @@ pub enum Mistake {
     FlagTwoForOwner,
     FirstRelevantIndex,
     EqualTermRelevant,
-    ZeroTermNotRelevant,
+    ZeroTermRelevant,
     AbsentTermRelevant,
     ZerosLowerMarks,
     EqualTermLowersMark,
@@ -41,6 +41,7 @@ pub enum Mistake {
     RiseBeforeLimit,
     AbsentFieldsIgnored,
     SixCountsEntries,
+    FoundCountsAsMade,
     SevenCountsRepeats,
     SevenBeforeSix,
     TenBeforeNine,
@@ -58,7 +59,7 @@ pub enum Mistake {
     LastIndexOfFront,
 }
 
-pub const MISTAKES: [Mistake; 38] = [
+pub const MISTAKES: [Mistake; 39] = [
     Mistake::MarkLeftUp,
     Mistake::LastEntryOnly,
     Mistake::MismatchReplaces,
@@ -72,7 +73,7 @@ pub const MISTAKES: [Mistake; 38] = [
     Mistake::FlagTwoForOwner,
     Mistake::FirstRelevantIndex,
     Mistake::EqualTermRelevant,
-    Mistake::ZeroTermNotRelevant,
+    Mistake::ZeroTermRelevant,
     Mistake::AbsentTermRelevant,
     Mistake::ZerosLowerMarks,
     Mistake::EqualTermLowersMark,
@@ -84,6 +85,7 @@ pub const MISTAKES: [Mistake; 38] = [
     Mistake::RiseBeforeLimit,
     Mistake::AbsentFieldsIgnored,
     Mistake::SixCountsEntries,
+    Mistake::FoundCountsAsMade,
     Mistake::SevenCountsRepeats,
     Mistake::SevenBeforeSix,
     Mistake::TenBeforeNine,
@@ -421,6 +423,10 @@ impl Model {
             return Err(6);
         }
         self.findings = self.with_findings(&found)?;
+        let made = match self.mistake {
+            Mistake::FoundCountsAsMade => front.len(),
+            _ => missing.len(),
+        };
         self.stored.extend(missing);
         if self.is(Mistake::UnseenForgottenByView) {
             self.unseen.retain(|(n, _)| *n != node);
@@ -433,7 +439,7 @@ impl Model {
                 let _ = self.commit(node, index);
             }
         }
-        Ok((0, 0))
+        Ok((made as u32, 0))
     }
 
     fn replace_view(&mut self, node: u64, front: Prefix, last: u64) {
@@ -553,11 +559,17 @@ impl Model {
         Ok((0, 0))
     }
 
-    /// The last committed index after the mark with a recorded term below the certificate's.
+    /// A committed index whose commit term is recorded as zero.
+    pub fn has_committed_zero(&self) -> bool {
+        let recorded = self.terms.iter().take(self.committed.len());
+        recorded.into_iter().any(|term| *term == 0)
+    }
+
+    /// The last committed index after the mark with a recorded term, not zero, below the certificate's.
     fn relevant(&self, certificate: &Certificate) -> Option<usize> {
         let below = |index: &usize| match self.terms.get(index - 1) {
             None => self.is(Mistake::AbsentTermRelevant),
-            Some(0) if self.is(Mistake::ZeroTermNotRelevant) => false,
+            Some(0) if !self.is(Mistake::ZeroTermRelevant) => false,
             Some(term) if self.is(Mistake::EqualTermRelevant) => *term <= certificate.term,
             Some(term) => *term < certificate.term,
         };

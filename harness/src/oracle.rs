@@ -124,8 +124,8 @@ impl Oracle {
                 }
                 next.run(&call);
                 self.keep(next)?;
-                self.prefixes.store(front(&entries));
-                Ok(Answer::default())
+                let made = self.prefixes.store(front(&entries));
+                Ok(Answer::accepted(made as u32))
             }
             Record::Commit { .. } | Record::Check => {
                 let (flags, _) = next.run(&call).unwrap_or_default();
@@ -270,7 +270,9 @@ impl Prefixes {
         0
     }
 
-    fn store(&mut self, front: &[Entry]) {
+    /// How many were new.
+    fn store(&mut self, front: &[Entry]) -> usize {
+        let before = self.stored.len();
         let mut at = 0;
         for entry in front {
             at = match self.child(at, entry.term, &entry.content) {
@@ -289,5 +291,6 @@ impl Prefixes {
                 }
             };
         }
+        self.stored.len() - before
     }
 }

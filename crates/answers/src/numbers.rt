@@ -10,7 +10,7 @@ use units::NodeId;
 pub struct Reply {
     // 1 to 10 or 12, or 0 where the record is accepted.
     pub refusal: u8,
-    // The sum of its flags, or the rule that fails; 0 where it is refused.
+    // How many prefixes a view made, the sum of the flags, or the rule that fails; 0 where the record is refused.
     pub value: usize,
     // The node of a failing row, or 0.
     pub node: u8,

@@ -8,7 +8,7 @@ use native.Mathlib.Numerals.{add-one}
 use lib.ListN.{length, get_or, drop, drop_of_length-le}
 use lib.Seq.{drop-cons}
 use Rattle.model.specs.Sizes.{Bytes}
-use Rattle.record_entries.specs.Places.{entries_at, next_at, content_at}
+use Rattle.record_entries.specs.BitLayout.{entries_at, next_at, content_at}
 use Rattle.record_entries.proofs.Walks.{entries_next, entries_none}
 use Rattle.bench_records.specs.Used.{sum_of, contents_of}
 

@@ -3,7 +3,7 @@
 
 ghost use Rattle.std.specs.Prelude.{◌≡◌, ◌≤◌, take};
 ghost use Rattle.model.specs.Reading as reading;
-ghost use Rattle.record_entries.specs.Places as places;
+ghost use Rattle.record_entries.specs.BitLayout as places;
 ghost use Rattle.bench_records.specs.Used.{sum_of, contents_of, used_of, count_of};
 ghost use Rattle.model.specs.Sizes.{content_limit, index_limit};
 

@@ -18,7 +18,7 @@ use Rattle.model.specs.Commit.{seen, unseen_mark, replaces, differences, commit_
 use Rattle.model.specs.Sizes.{Bytes, node_count, index_limit, finding_limit}
 use Rattle.model.proofs.Tests.{either, cond_true, cond_false, yes_same}
 use Rattle.storage.proofs.RuleLaws.{pass, stop}
-use Rattle.storage.proofs.Meanings.{Stands, findings_read}
+use Rattle.storage.proofs.Meanings.{Represents, findings_read}
 use Rattle.log_violation.specs.Violation.{room_for, noted_in}
 use Rattle.log_prefix.specs.Prefix.{witness, stored_of, front_through}
 use Rattle.commit.specs.Committed.{agree_in, unseen_set, keep_bytes}
@@ -75,10 +75,10 @@ module _ (x : History) (n i : ℕ) where
   pub record Accepts (v : ℕ) (h' : Bytes) : Type 0 where
     pub refuses : commit_refusal x n i ≡ none
     pub value : v ≡ commit_value x n i
-    pub stands : Stands h' (commit_effect x n i)
+    pub represents : Represents h' (commit_effect x n i)
 
   taken : (h : Bytes) (v : ℕ) (h' : Bytes) → Accepts v h' → Means h x (commit n i) (accepting v h')
-  taken h v h' a = accepts h x (commit n i) _ h' a.refuses (ap (λ (m : ℕ). accepted m 0) a.value) a.stands
+  taken h v h' a = accepts h x (commit n i) _ h' a.refuses (ap (λ (m : ℕ). accepted m 0) a.value) a.represents
 
   few : (fs : List Finding) → fs ≡ commit_findings x n i → length fs ≤ finding_limit → commit_refusal x n i ≡ none
   unfolding commit_refusal
@@ -109,7 +109,7 @@ module _ (x : History) (n i : ℕ) where
   differing c p ec ep e =
       sym (ap (noted x.findings) ((λ j. differences n (ec j) (ep j)) ∙ cond_false (agree c p) [] _ e))
 
-  module _ (h : Bytes) (s : Stands h x) (here : n < node_count) (limit : i ≤ index_limit) where
+  module _ (h : Bytes) (s : Represents h x) (here : n < node_count) (limit : i ≤ index_limit) where
     held : length x.findings ≤ finding_limit
     held = (let a = ap (λ (y : History). length y.findings) (sym s.decodes) ∙ findings_read h in let b = (formed h s.right).findings in omega arith)
 
@@ -122,8 +122,8 @@ module _ (x : History) (n i : ℕ) where
         record {
           refuses = few x.findings calm held;
           value = sym (ap (agreement n x.owner x.committed) e ∙ value_empty n x.owner x.committed);
-          stands =
-              subst (Stands (unseen_set h n m))
+          represents =
+              subst (Represents (unseen_set h n m))
               (effect_is m x.committed x.owner x.findings em
               (sym (cond_false (replaces x.committed (seen x n i)) _ _ keeps)) (sym (cond_false (replaces x.committed (seen x n i)) _ _ keeps)) calm)
               (unseen_written h x s n m here b);
@@ -139,8 +139,8 @@ module _ (x : History) (n i : ℕ) where
           record {
             refuses = few x.findings (quiet e) held;
             value = ev;
-            stands =
-                subst (Stands (keep_bytes h n p))
+            represents =
+                subst (Represents (keep_bytes h n p))
                 (effect_is 0 (at h x s p) n x.findings reach
                 (sym (cond_true (replaces x.committed (seen x n i)) _ _ r ∙ es)) (sym (cond_true (replaces x.committed (seen x n i)) _ _ r)) (quiet e))
                 (keep_written h x s n p here within);
@@ -185,8 +185,8 @@ module _ (x : History) (n i : ℕ) where
             record {
               refuses = few x.findings (quiet (agree_is ∙ e)) held;
               value = sym (value_is true e);
-              stands =
-                  subst (Stands (unseen_set h n 0))
+              represents =
+                  subst (Represents (unseen_set h n 0))
                   (effect_is 0 x.committed x.owner x.findings reach
                   (sym (cond_false (replaces x.committed (seen x n i)) _ _ keeps)) (sym (cond_false (replaces x.committed (seen x n i)) _ _ keeps))
                   (quiet (agree_is ∙ e)))
@@ -217,11 +217,11 @@ module _ (x : History) (n i : ℕ) where
               (record {
                 refuses = few fs found y.few;
                 value = sym (value_is false e);
-                stands =
-                    subst (Stands (unseen_set (noted_in h f) n 0))
+                represents =
+                    subst (Represents (unseen_set (noted_in h f) n 0))
                     (effect_is 0 x.committed x.owner fs reach
                     (sym (cond_false (replaces x.committed (seen x n i)) _ _ keeps)) (sym (cond_false (replaces x.committed (seen x n i)) _ _ keeps)) found)
-                    (unseen_written (noted_in h f) (with_findings x fs) y.stands n 0 here (omega arith));
+                    (unseen_written (noted_in h f) (with_findings x fs) y.represents n 0 here (omega arith));
               })))
               (λ y.
               subst (Means h x (commit n i)) (sym (cond_false (room_for h f) (accepting 0 (unseen_set (noted_in h f) n 0)) _ y.0))
@@ -230,7 +230,7 @@ module _ (x : History) (n i : ℕ) where
 
 -- ---- all cases
 
-module _ (h : Bytes) (x : History) (n i : ℕ) (s : Stands h x) (here : n < node_count) (limit : i ≤ index_limit) where
+module _ (h : Bytes) (x : History) (n i : ℕ) (s : Represents h x) (here : n < node_count) (limit : i ≤ index_limit) where
   abbrev Meant : Step → Type 0
   Meant t = Means h x (commit n i) t
 

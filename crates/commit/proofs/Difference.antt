@@ -20,7 +20,7 @@ use Rattle.storage.specs.Rules.{finding_right}
 use Rattle.storage.specs.Head.{findings_held}
 use Rattle.storage_bytes.proofs.ListLaws.{tabulate_length}
 use Rattle.storage.proofs.DecodeLaws.{FindingNamed}
-use Rattle.storage.proofs.Meanings.{Stands, findings_stored, findings_taken, findings_right, noted_right}
+use Rattle.storage.proofs.Meanings.{Represents, findings_stored, findings_taken, findings_right, noted_right}
 use Rattle.storage.proofs.WellFormed.{formed}
 use Rattle.log_violation.specs.Violation.{note_held, note_bytes, findings_written, room_for, room_answer, noted_in}
 use Rattle.log_violation.proofs.ViolationLaws.{Holds, note_holds, note_length, findings_long}
@@ -54,7 +54,7 @@ module _ (h : Bytes) (n i : ℕ) (r : Result ⊤ FindingsFull) (u : Bytes)
   note_so v z a ea w ew =
       accepts_with _ _ _ (cond_true (room_for h (difference n i)) _ _ (some_room v z)) a ea w (ew ∙ ap (λ (y : Bytes). unseen_set y n 0) em.1)
 
-module _ (h : Bytes) (x : History) (s : Stands h x) (n i : ℕ) (here : n < node_count) (limit : i ≤ index_limit) where
+module _ (h : Bytes) (x : History) (s : Represents h x) (n i : ℕ) (here : n < node_count) (limit : i ≤ index_limit) where
   -- the findings with the difference; how many are held with it, and their table
   abbrev fs : List Finding
   fs = noted x.findings (difference n i ∷ [])
@@ -82,7 +82,7 @@ module _ (h : Bytes) (x : History) (s : Stands h x) (n i : ℕ) (here : n < node
   pub record Taken : Type 0 where
     pub room : room_for h (difference n i) ≡ true
     pub few : length fs ≤ finding_limit
-    pub stands : Stands (noted_in h (difference n i)) (with_findings x fs)
+    pub represents : Represents (noted_in h (difference n i)) (with_findings x fs)
 
   in_room : held ≤ finding_limit → finding_rows table held ≡ fs → Taken
   unfolding room_for noted_in findings_written
@@ -92,9 +92,9 @@ module _ (h : Bytes) (x : History) (s : Stands h x) (n i : ℕ) (here : n < node
       record {
         room = r;
         few = (let count = sym (ap length e) ∙ tabulate_length (finding_row table) 0 held in omega arith);
-        stands =
-            subst (λ (u : Bytes). Stands u (with_findings x fs)) (sym (cond_true (room_for h (difference n i)) _ h r))
-            (subst (λ (gs : List Finding). Stands (findings_written h table held) (with_findings x gs)) e
+        represents =
+            subst (λ (u : Bytes). Represents u (with_findings x fs)) (sym (cond_true (room_for h (difference n i)) _ h r))
+            (subst (λ (gs : List Finding). Represents (findings_written h table held) (with_findings x gs)) e
             (findings_taken h x s table held long l (ap (every finding_right) e ∙ noted_fit)));
       }
 

@@ -11,7 +11,7 @@ use Rattle.model.specs.Sizes.{Bytes, index_limit}
 use Rattle.storage.specs.Values.{number_index}
 use Rattle.storage.specs.Tables.{prefixes_part}
 use Rattle.storage.specs.Head.{prefixes_held}
-use Rattle.storage.proofs.Meanings.{Stands, number_length}
+use Rattle.storage.proofs.Meanings.{Represents, number_length}
 use Rattle.storage.proofs.WellFormed.{formed, formed_index}
 use Rattle.commit.specs.Committed.{agree_in}
 use Rattle.commit.proofs.PrefixLaws.{at, agree_at}
@@ -30,7 +30,7 @@ module _ (h : Bytes) (a b : ℕ) (q : Bytes) (eq : q ≡ prefixes_part h) (i : �
 
 -- ---- of bytes that stand for a history
 
-module _ (h : Bytes) (x : History) (s : Stands h x) (c p : ℕ) (lc : c ≤ prefixes_held h) (lp : p ≤ prefixes_held h) where
+module _ (h : Bytes) (x : History) (s : Represents h x) (c p : ℕ) (lc : c ≤ prefixes_held h) (lp : p ≤ prefixes_held h) where
   pub longer_means : longer_in h c p ≡ ltb (length (at h x s c)) (length (at h x s p))
   unfolding longer_in number_index
   longer_means = λ j. ltb (number_length h x s c lc j) (number_length h x s p lp j)

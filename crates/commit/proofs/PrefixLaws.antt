@@ -15,7 +15,7 @@ use Rattle.storage.specs.Tables.{PrefixRow, NodeRow, rows_of_prefixes, prefixes_
 use Rattle.storage.specs.Decode.{prefix_at, resolve}
 use Rattle.storage.specs.Head.{prefixes_held, committed_number, owner_of}
 use Rattle.storage.proofs.RowFacts.{Facts}
-use Rattle.storage.proofs.Meanings.{Stands, prefixes_read, owner_read, last_read, node_written, committed_written, prefixes_stored, committed_stored}
+use Rattle.storage.proofs.Meanings.{Represents, prefixes_read, owner_read, last_read, node_written, committed_written, prefixes_stored, committed_stored}
 use Rattle.log_prefix.specs.Prefix.{slice_of}
 use Rattle.log_prefix.specs.Comparison.{same_from}
 use Rattle.log_prefix.proofs.TableLaws.{rows_length, rows_at}
@@ -31,7 +31,7 @@ use Rattle.units.specs.declared.LogPrefixWitness.{LogPrefixWitness}
 abbrev pub changed : History → ℕ → ℕ → Prefix → ℕ → List Finding → History
 changed x n m c o fs = with_findings (with_committed (with_unseen x (set x.unseen n m)) c o) fs
 
-module _ (h : Bytes) (x : History) (s : Stands h x) where
+module _ (h : Bytes) (x : History) (s : Represents h x) where
   -- the prefix of a number
   abbrev pub at : ℕ → Prefix
   at p = prefix_at x.prefixes p
@@ -102,7 +102,7 @@ module _ (h : Bytes) (x : History) (s : Stands h x) where
   -- ---- what is written
 
   -- a node's unseen mark
-  pub unseen_written : (n m : ℕ) → n < node_count → m ≤ index_limit → Stands (unseen_set h n m) (changed x n m x.committed x.owner x.findings)
+  pub unseen_written : (n m : ℕ) → n < node_count → m ≤ index_limit → Represents (unseen_set h n m) (changed x n m x.committed x.owner x.findings)
   unfolding unseen_set
   unseen_written n m l b =
       let r = facts.node n l in
@@ -111,13 +111,13 @@ module _ (h : Bytes) (x : History) (s : Stands h x) where
       ap (λ (p : Prefix). set x.fronts n p) (sym (front_is h x s n l)) ∙ set-get_or x.fronts n [] in
       let lasts : set x.lasts n (node_of h n).last ≡ x.lasts =
       ap (λ (k : ℕ). set x.lasts n k) (sym (last_is n l)) ∙ set-get_or x.lasts n 0 in
-      subst (Stands (unseen_set h n m))
+      subst (Represents (unseen_set h n m))
       (λ j. with_unseen (with_views x (fronts j) (lasts j)) (set x.unseen n m))
       (node_written h x s n row l (record { front = r.front; last = r.last; unseen = b }))
 
 -- the committed prefix and its owner, with the mark cleared
-pub keep_written : (h : Bytes) (x : History) (s : Stands h x) (n p : ℕ) → n < node_count → p ≤ prefixes_held h
-    → Stands (keep_bytes h n p) (changed x n 0 (prefix_at x.prefixes p) n x.findings)
+pub keep_written : (h : Bytes) (x : History) (s : Represents h x) (n p : ℕ) → n < node_count → p ≤ prefixes_held h
+    → Represents (keep_bytes h n p) (changed x n 0 (prefix_at x.prefixes p) n x.findings)
 unfolding keep_bytes
 keep_written h x s n p l b =
     let y = changed x n 0 x.committed x.owner x.findings in

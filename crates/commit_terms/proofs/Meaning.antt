@@ -11,14 +11,14 @@ use Rattle.model.specs.Record.{terms}
 use Rattle.model.specs.History.{History}
 use Rattle.model.specs.Sizes.{Bytes, index_limit, term_end}
 use Rattle.model.proofs.Tests.{cond_cases, cond_true, cond_false}
-use Rattle.storage.proofs.Meanings.{Stands}
+use Rattle.storage.proofs.Meanings.{Represents}
 use Rattle.answers.proofs.Meaning.{Means, accepts, refuses}
 use Rattle.commit_terms.specs.Terms.{record_bytes, terms_step}
 use Rattle.answers.specs.declared.answer.Refusal.{Refusal}
 use Rattle.commit_terms.proofs.TermLaws.{record_means}
 
 -- kind 3
-pub terms_mean : (h : Bytes) (x : History) (old new t : ℕ) → Stands h x → new ≤ index_limit → t < term_end
+pub terms_mean : (h : Bytes) (x : History) (old new t : ℕ) → Represents h x → new ≤ index_limit → t < term_end
     → Means h x (terms old new t) (terms_step h old new t)
 unfolding terms_step
 terms_mean h x old new t s b f =

@@ -20,12 +20,12 @@ use Rattle.storage.specs.Tables.{term_row, terms_part}
 use Rattle.storage.specs.Writes.{terms_lengthened}
 use Rattle.storage.specs.Head.{terms_held, certificates_held}
 use Rattle.storage.proofs.RuleLaws.{pass}
-use Rattle.storage.proofs.Meanings.{Stands, terms_read, certificates_read, term_read, term_written, terms_added}
+use Rattle.storage.proofs.Meanings.{Represents, terms_read, certificates_read, term_read, term_written, terms_added}
 use Rattle.election_certificates.specs.Marks.{lower_back}
 use Rattle.commit_terms.specs.Terms.{lengthened_to, term_in, is_replaced, first_replaced, replace_bytes, replace_all, changed_from, record_bytes}
 use Rattle.election_certificates.proofs.MarkLaws.{lower_means}
 
-module _ (h : Bytes) (x : History) (s : Stands h x) where
+module _ (h : Bytes) (x : History) (s : Represents h x) where
   pub terms_counted : length x.terms ≡ terms_held h
   terms_counted = ap (λ (y : History). length y.terms) (sym s.decodes) ∙ terms_read h
 
@@ -37,20 +37,20 @@ module _ (h : Bytes) (x : History) (s : Stands h x) where
 
 -- ---- the list lengthened
 
-lengthened_means : (h : Bytes) (x : History) (new : ℕ) → Stands h x → new ≤ index_limit
-    → Stands (lengthened_to h new) (with_terms x (lengthened new x.terms))
+lengthened_means : (h : Bytes) (x : History) (new : ℕ) → Represents h x → new ≤ index_limit
+    → Represents (lengthened_to h new) (with_terms x (lengthened new x.terms))
 unfolding lengthened_to lengthened
 lengthened_means h x new s b =
     let held = terms_counted h x s in
     ⊎_elim
     (λ p.
-    subst (λ (u : Bytes). Stands u (with_terms x (x.terms ++ replicate (new - length x.terms) 0))) (sym (cond_true (ltb (terms_held h) new) _ h p))
-    (subst (λ (n : ℕ). Stands (terms_lengthened h new) (with_terms x (x.terms ++ replicate (new - n) 0))) (sym held)
+    subst (λ (u : Bytes). Represents u (with_terms x (x.terms ++ replicate (new - length x.terms) 0))) (sym (cond_true (ltb (terms_held h) new) _ h p))
+    (subst (λ (n : ℕ). Represents (terms_lengthened h new) (with_terms x (x.terms ++ replicate (new - n) 0))) (sym held)
     (terms_added h x s new (let l : terms_held h < new = ltb-true _ _ p in omega arith) b)))
     (λ p.
     let none : new - length x.terms ≡ 0 = (let l : new ≤ terms_held h = ltb-false _ _ p in omega arith) in
-    subst (λ (u : Bytes). Stands u (with_terms x (x.terms ++ replicate (new - length x.terms) 0))) (sym (cond_false (ltb (terms_held h) new) _ h p))
-    (subst (λ (ts : List ℕ). Stands h (with_terms x ts)) (sym (ap (λ (n : ℕ). x.terms ++ replicate n 0) none ∙ append-nil x.terms)) s))
+    subst (λ (u : Bytes). Represents u (with_terms x (x.terms ++ replicate (new - length x.terms) 0))) (sym (cond_false (ltb (terms_held h) new) _ h p))
+    (subst (λ (ts : List ℕ). Represents h (with_terms x ts)) (sym (ap (λ (n : ℕ). x.terms ++ replicate n 0) none ∙ append-nil x.terms)) s))
     (either (ltb (terms_held h) new))
 
 -- ---- the places replaced
@@ -104,35 +104,35 @@ module _ (old new t : ℕ) where
   first_after (y ∷ B) i l = cond_false (changes old new t i y) i _ (test_after i y l) ∙ first_after B (i + 1) (omega arith)
 
   -- one place
-  module _ (h : Bytes) (x : History) (A : List ℕ) (y : ℕ) (B : List ℕ) (k : ℕ) (s : Stands h x) (e : x.terms ≡ A ++ (y ∷ B)) (a : length A ≡ k) where
+  module _ (h : Bytes) (x : History) (A : List ℕ) (y : ℕ) (B : List ℕ) (k : ℕ) (s : Represents h x) (e : x.terms ≡ A ++ (y ∷ B)) (a : length A ≡ k) where
     place_within : k < terms_held h
     place_within = (let p = terms_counted h x s in let q = ap length e ∙ length-append A (y ∷ B) in omega arith)
 
     place_read : term_in h k ≡ y
     place_read = sym (term_held h x s k place_within) ∙ ap (λ (ts : List ℕ). get_or ts k 0) e ∙ get_or_at A y B 0 k a
 
-    place_means : k < index_limit → t < term_end → Stands (replace_bytes h k t) (with_terms x (A ++ (cond (is_replaced t y) t y ∷ B)))
+    place_means : k < index_limit → t < term_end → Represents (replace_bytes h k t) (with_terms x (A ++ (cond (is_replaced t y) t y ∷ B)))
     unfolding replace_bytes
     place_means l f =
         ⊎_elim
         (λ p.
         let to : set x.terms k t ≡ A ++ (t ∷ B) = ap (λ (ts : List ℕ). set ts k t) e ∙ set_at A y B t k a in
-        subst (λ (u : Bytes). Stands u (with_terms x (A ++ (cond (is_replaced t y) t y ∷ B)))) (sym (cond_true (is_replaced t (term_in h k)) _ h (ap (is_replaced t) place_read ∙ p)))
-        (subst (λ (z : ℕ). Stands (put_bytes h (terms_start + k * term_width) (word_bytes term_width t)) (with_terms x (A ++ (z ∷ B)))) (sym (cond_true (is_replaced t y) t y p))
-        (subst (λ (ts : List ℕ). Stands (put_bytes h (terms_start + k * term_width) (word_bytes term_width t)) (with_terms x ts)) to (term_written h x s k t l f))))
+        subst (λ (u : Bytes). Represents u (with_terms x (A ++ (cond (is_replaced t y) t y ∷ B)))) (sym (cond_true (is_replaced t (term_in h k)) _ h (ap (is_replaced t) place_read ∙ p)))
+        (subst (λ (z : ℕ). Represents (put_bytes h (terms_start + k * term_width) (word_bytes term_width t)) (with_terms x (A ++ (z ∷ B)))) (sym (cond_true (is_replaced t y) t y p))
+        (subst (λ (ts : List ℕ). Represents (put_bytes h (terms_start + k * term_width) (word_bytes term_width t)) (with_terms x ts)) to (term_written h x s k t l f))))
         (λ p.
-        subst (λ (u : Bytes). Stands u (with_terms x (A ++ (cond (is_replaced t y) t y ∷ B)))) (sym (cond_false (is_replaced t (term_in h k)) _ h (ap (is_replaced t) place_read ∙ p)))
-        (subst (λ (z : ℕ). Stands h (with_terms x (A ++ (z ∷ B)))) (sym (cond_false (is_replaced t y) t y p))
-        (subst (λ (ts : List ℕ). Stands h (with_terms x ts)) e s)))
+        subst (λ (u : Bytes). Represents u (with_terms x (A ++ (cond (is_replaced t y) t y ∷ B)))) (sym (cond_false (is_replaced t (term_in h k)) _ h (ap (is_replaced t) place_read ∙ p)))
+        (subst (λ (z : ℕ). Represents h (with_terms x (A ++ (z ∷ B)))) (sym (cond_false (is_replaced t y) t y p))
+        (subst (λ (ts : List ℕ). Represents h (with_terms x ts)) e s)))
         (either (is_replaced t y))
 
-  replace_means : (n : ℕ) (B A : List ℕ) (h : Bytes) (x : History) (k : ℕ) → Stands h x → x.terms ≡ A ++ B → length A ≡ k
+  replace_means : (n : ℕ) (B A : List ℕ) (h : Bytes) (x : History) (k : ℕ) → Represents h x → x.terms ≡ A ++ B → length A ≡ k
       → old ≤ k → k + n ≡ new → n ≤ length B → new ≤ index_limit → t < term_end
-      → Stands (replace_all h t k n) (with_terms x (A ++ replaced_from old new t (k + 1) B))
+      → Represents (replace_all h t k n) (with_terms x (A ++ replaced_from old new t (k + 1) B))
   unfolding replace_all replaced_from
   replace_means zero B A h x k s e a o m c b f =
-      subst (λ (ts : List ℕ). Stands h (with_terms x (A ++ ts))) (sym (replaced_after B (k + 1) (omega arith)))
-      (subst (λ (ts : List ℕ). Stands h (with_terms x ts)) e s)
+      subst (λ (ts : List ℕ). Represents h (with_terms x (A ++ ts))) (sym (replaced_after B (k + 1) (omega arith)))
+      (subst (λ (ts : List ℕ). Represents h (with_terms x ts)) e s)
   replace_means (suc n) [] A h x k s e a o m c b f = absurd (omega arith)
   replace_means (suc n) (y ∷ B) A h x k s e a o m c b f =
       let z = cond (is_replaced t y) t y in
@@ -141,13 +141,13 @@ module _ (old new t : ℕ) where
       (place_means h x A y B k s e a (omega arith) f)
       (sym (append_assoc A (z ∷ []) B))
       (length-append A (z ∷ []) ∙ ap (λ (j : ℕ). j + 1) a) (omega arith) (omega arith) (omega arith) b f in
-      subst (λ (ts : List ℕ). Stands (replace_all (replace_bytes h k t) t (k + 1) n) (with_terms x ts))
+      subst (λ (ts : List ℕ). Represents (replace_all (replace_bytes h k t) t (k + 1) n) (with_terms x ts))
       (append_assoc A (z ∷ []) (replaced_from old new t (k + 1 + 1) B)
       ∙ ap (λ (q : Bool). A ++ (cond q t y ∷ replaced_from old new t (k + 1 + 1) B)) (sym same))
       ih
 
   -- the search finds the model's first changed index
-  search_means : (h : Bytes) (x : History) → Stands h x → (n : ℕ) (B A : List ℕ) (k : ℕ) → x.terms ≡ A ++ B → length A ≡ k
+  search_means : (h : Bytes) (x : History) → Represents h x → (n : ℕ) (B A : List ℕ) (k : ℕ) → x.terms ≡ A ++ B → length A ≡ k
       → old ≤ k → k + n ≡ new → n ≤ length B → first_replaced (term_row (terms_part h)) t k n ≡ first_from old new t (k + 1) B
   unfolding first_replaced first_from
   search_means h x s zero B A k e a o m c = sym (first_after B (k + 1) (omega arith))
@@ -164,11 +164,11 @@ module _ (old new t : ℕ) where
   lengthened_reaches ts = simp (length-append, length-replicate) (omega arith)
 
   -- the whole list
-  pub record Places (h : Bytes) (x : History) (ts : List ℕ) : Type 0 where
-    pub bytes : Stands (replace_all h t old (new - old)) (with_terms x (recorded old new t ts))
+  pub record TermPlaces (h : Bytes) (x : History) (ts : List ℕ) : Type 0 where
+    pub bytes : Represents (replace_all h t old (new - old)) (with_terms x (recorded old new t ts))
     pub is : first_replaced (term_row (terms_part h)) t old (new - old) ≡ first_changed old new t ts
 
-  places_mean : (h : Bytes) (x : History) (ts : List ℕ) → Stands h x → x.terms ≡ lengthened new ts → old ≤ new → new ≤ index_limit → t < term_end → Places h x ts
+  places_mean : (h : Bytes) (x : History) (ts : List ℕ) → Represents h x → x.terms ≡ lengthened new ts → old ≤ new → new ≤ index_limit → t < term_end → TermPlaces h x ts
   unfolding recorded first_changed
   places_mean h x ts s e o b f =
       let L = lengthened new ts in
@@ -181,7 +181,7 @@ module _ (old new t : ℕ) where
       let at : 0 + length A + 1 ≡ old + 1 = omega arith in
       record {
         bytes =
-            subst (λ (l : List ℕ). Stands (replace_all h t old (new - old)) (with_terms x l))
+            subst (λ (l : List ℕ). Represents (replace_all h t old (new - old)) (with_terms x l))
             (sym (ap (replaced_from old new t 1) (sym split) ∙ replaced_before A B 0 (omega arith) ∙ ap (λ (i : ℕ). A ++ replaced_from old new t i B) at))
             (replace_means (new - old) B A h x old s (e ∙ sym split) la (omega arith) (omega arith) (omega arith) b f);
         is =
@@ -227,18 +227,18 @@ none_lowered t [] = refl
 none_lowered t (c ∷ cs) = ap (λ (l : List Certificate). c ∷ l) (none_lowered t cs)
 
 -- where a place changed, the marks are lowered
-marks_mean : (u w : Bytes) (y : History) (t first n : ℕ) → Stands (cond (eqb first 0) u w) y → n ≡ length y.certificates
-    → Stands (cond (eqb first 0) u (lower_back w t first n)) (with_certificates y (map (lowered t first) y.certificates))
-marks_mean u w y t zero n s e = subst (λ (cs : List Certificate). Stands u (with_certificates y cs)) (sym (none_lowered t y.certificates)) s
+marks_mean : (u w : Bytes) (y : History) (t first n : ℕ) → Represents (cond (eqb first 0) u w) y → n ≡ length y.certificates
+    → Represents (cond (eqb first 0) u (lower_back w t first n)) (with_certificates y (map (lowered t first) y.certificates))
+marks_mean u w y t zero n s e = subst (λ (cs : List Certificate). Represents u (with_certificates y cs)) (sym (none_lowered t y.certificates)) s
 marks_mean u w y t (suc f) n s e =
     let cs = y.certificates in
     let some : eqb (suc f) 0 ≡ false = ne_eqb (suc f) 0 (λ z. omega arith) in
-    subst (λ (v : Bytes). Stands v (with_certificates y (map (lowered t (suc f)) cs))) (sym (cond_false (eqb (suc f) 0) u (lower_back w t (suc f) n) some))
-    (subst (λ (ds : List Certificate). Stands (lower_back w t (suc f) n) (with_certificates y ds)) (append-nil (map (lowered t (suc f)) cs))
-    (lower_means t (suc f) (omega arith) n cs [] w y (subst (λ (v : Bytes). Stands v y) (cond_false (eqb (suc f) 0) u w some) s) (sym (append-nil cs)) (sym e)))
+    subst (λ (v : Bytes). Represents v (with_certificates y (map (lowered t (suc f)) cs))) (sym (cond_false (eqb (suc f) 0) u (lower_back w t (suc f) n) some))
+    (subst (λ (ds : List Certificate). Represents (lower_back w t (suc f) n) (with_certificates y ds)) (append-nil (map (lowered t (suc f)) cs))
+    (lower_means t (suc f) (omega arith) n cs [] w y (subst (λ (v : Bytes). Represents v y) (cond_false (eqb (suc f) 0) u w some) s) (sym (append-nil cs)) (sym e)))
 
-pub record_means : (h : Bytes) (x : History) (old new t : ℕ) → Stands h x → old ≤ new → new ≤ index_limit → t < term_end
-    → Stands (record_bytes h old new t) (terms_effect x old new t)
+pub record_means : (h : Bytes) (x : History) (old new t : ℕ) → Represents h x → old ≤ new → new ≤ index_limit → t < term_end
+    → Represents (record_bytes h old new t) (terms_effect x old new t)
 unfolding record_bytes changed_from terms_effect
 record_means h x old new t s o b f =
     let u = lengthened_to h new in
@@ -246,7 +246,7 @@ record_means h x old new t s o b f =
     let p = places_mean old new t u (with_terms x (lengthened new x.terms)) x.terms long refl o b f in
     let first = first_replaced (term_row (terms_part u)) t old (new - old) in
     let y = with_terms x (recorded old new t x.terms) in
-    subst (λ (i : ℕ). Stands (changed_from u new t first) (with_certificates y (map (lowered t i) x.certificates))) p.is
+    subst (λ (i : ℕ). Represents (changed_from u new t first) (with_certificates y (map (lowered t i) x.certificates))) p.is
     (marks_mean u (replace_all u t (first - 1) (new + 1 - first)) y t first (certificates_held u)
-    (subst (λ (v : Bytes). Stands v y) (sym (from_first_lem u t new (new - old) old (omega arith))) p.bytes)
+    (subst (λ (v : Bytes). Represents v y) (sym (from_first_lem u t new (new - old) old (omega arith))) p.bytes)
     (sym (certificates_counted u (with_terms x (lengthened new x.terms)) long)))

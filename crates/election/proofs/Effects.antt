@@ -9,7 +9,7 @@ use mathlib.Core.List.{List, [], ◌∷◌}
 use mathlib.Core.Option.{none, some}
 use lib.Dec.{leb, ltb, eqb}
 use lib.ListN.{length, take, length-map}
-use Rattle.model.specs.Sizes.{Bytes, node_count, term_end}
+use Rattle.model.specs.Sizes.{Bytes, node_count, certificate_limit, term_end}
 use borrow.Author.Tests.{lt-ltb, le-ltb}
 use Rattle.model.specs.Entry.{Prefix}
 use Rattle.model.specs.Refusal.{lengthExceedsFront, certificatesFull}
@@ -28,7 +28,7 @@ use Rattle.storage_bytes.proofs.ListLaws.{tabulate_length}
 use Rattle.storage.proofs.DecodeLaws.{CertificateNamed}
 use Rattle.storage.proofs.WellFormed.{certificates_are, formed}
 use Rattle.storage.proofs.Meanings as meanings
-use Rattle.storage.proofs.Meanings.{Stands, certificates_stored}
+use Rattle.storage.proofs.Meanings.{Represents, certificates_stored}
 use Rattle.storage.proofs.OrderLaws.{held_is, election_written}
 use Rattle.election.specs.Numbering.{numbering_in}
 use Rattle.election.proofs.Ordered.{numbering_is}
@@ -54,7 +54,7 @@ log_is ps l t m false q n f e = refl
 
 -- ---- bytes that stand for a history
 
-module _ (h : Bytes) (x : History) (s : Stands h x) where
+module _ (h : Bytes) (x : History) (s : Represents h x) where
   abbrev pub cs : List CertificateRow
   cs = certificates_of h
 
@@ -92,7 +92,7 @@ module _ (h : Bytes) (x : History) (s : Stands h x) where
     pub model_within : n ≤ length (front_of x l) → (a : Bool) → full_in h ≡ a → election_refusal x l n ≡ cond a (some certificatesFull) none
     unfolding election_refusal
     model_within w a f =
-        let many = ap (leb 64) (sym count_is) ∙ f in
+        let many = ap (leb certificate_limit) (sym count_is) ∙ f in
         cond_false (ltb (length (front_of x l)) n) _ _ (le-ltb (length (front_of x l)) n w)
         ∙ (λ i. cond (many i) (some certificatesFull) none)
 
@@ -100,7 +100,7 @@ module _ (h : Bytes) (x : History) (s : Stands h x) where
 
   -- the leader's front through n is the stored prefix q, and there is room
   module _ (l t : ℕ) (p : Bool) (n : ℕ) (leads : l < node_count) (fits : t < term_end)
-      (q : ℕ) (stored : q ≤ prefixes_held h) (log : prefix_at x.prefixes q ≡ take n (front_of x l)) (room : certificates_held h < 64) where
+      (q : ℕ) (stored : q ≤ prefixes_held h) (log : prefix_at x.prefixes q ≡ take n (front_of x l)) (room : certificates_held h < certificate_limit) where
     abbrev new : CertificateRow
     new = kept l t (number t) p q
 
@@ -140,9 +140,9 @@ module _ (h : Bytes) (x : History) (s : Stands h x) where
     unfolding election_effect
     effect_is = ap (λ (c : Certificate). with_certificates x (in_order c x.certificates)) certificate_is
 
-    pub kept_stands : Stands (certificate_added h (place t) new) (election_effect x l t p n)
+    pub kept_stands : Represents (certificate_added h (place t) new) (election_effect x l t p n)
     kept_stands =
         let e = certificates_are h in
         let w = election_written h x s new room new_fits new_named (ap (held_of t) (sym e)) in
-        subst (λ (y : History). Stands (certificate_added h (place t) new) y) effect_is
-        (subst (λ (rs : List CertificateRow). Stands (certificate_added h (place_of t rs) new) (with_certificates x (in_order (certificate_in x.prefixes new) x.certificates))) e w)
+        subst (λ (y : History). Represents (certificate_added h (place t) new) y) effect_is
+        (subst (λ (rs : List CertificateRow). Represents (certificate_added h (place_of t rs) new) (with_certificates x (in_order (certificate_in x.prefixes new) x.certificates))) e w)

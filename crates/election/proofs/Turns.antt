@@ -5,7 +5,7 @@ use mathlib.Core.Path.{◌≡◌, refl, ap, sym, ◌∙◌, subst}
 use mathlib.Core.Bool.{Bool, true, false}
 use lib.Dec.{leb}
 use borrow.Author.Tests.{le-leb, lt-leb}
-use Rattle.model.specs.Sizes.{Bytes}
+use Rattle.model.specs.Sizes.{Bytes, certificate_limit}
 use Rattle.storage.specs.Tables.{CertificateRow, certificate_row, certificates_part}
 use Rattle.storage.specs.Writes.{certificate_added}
 use Rattle.storage.specs.Head.{certificates_held}
@@ -41,12 +41,12 @@ module _ (h : Bytes) (l t : ℕ) (p : Bool) (n : ℕ) (s : Option LogPrefixWitne
   -- c certificates are held
   module _ (log : LogPrefixWitness) (e : s ≡ Some log) (c : ℕ) (ec : c ≡ certificates_held h) where
     -- 10
-    pub full : 64 ≤ c → Gives (election_step h l t p n) (Err Refusal.CertificatesFull) h
-    full f = ends _ (refusing Refusal.CertificatesFull h) (goes (Some log) e true (ap (leb 64) (sym ec) ∙ le-leb 64 c f) _ refl)
+    pub full : certificate_limit ≤ c → Gives (election_step h l t p n) (Err Refusal.CertificatesFull) h
+    full f = ends _ (refusing Refusal.CertificatesFull h) (goes (Some log) e true (ap (leb certificate_limit) (sym ec) ∙ le-leb certificate_limit c f) _ refl)
 
     -- the certificate is kept
-    pub accepted : c < 64 → (k : Numbering) → k ≡ numbering_in h t → (x : CertificateRow) → x ≡ kept l t k.number p log.0
+    pub accepted : c < certificate_limit → (k : Numbering) → k ≡ numbering_in h t → (x : CertificateRow) → x ≡ kept l t k.number p log.0
         → (h' : Bytes) → h' ≡ certificate_added h k.place x → Gives (election_step h l t p n) (accepted_with 0) h'
     accepted f k ek x ex h' e' =
         ends _ (accepting 0 h')
-        (goes (Some log) e false (ap (leb 64) (sym ec) ∙ lt-leb 64 c f) k (sym ek) ∙ ap (accepting 0) (sym (e' ∙ ap (certificate_added h k.place) ex)))
+        (goes (Some log) e false (ap (leb certificate_limit) (sym ec) ∙ lt-leb certificate_limit c f) k (sym ek) ∙ ap (accepting 0) (sym (e' ∙ ap (certificate_added h k.place) ex)))

@@ -29,7 +29,7 @@ use Rattle.storage.proofs.RowLaws.{certificate_own}
 use Rattle.storage.proofs.RuleLaws.{pass, stop, within, numbered_set}
 use Rattle.storage.proofs.OrderLaws.{follows_rise}
 use Rattle.storage.proofs.DecodeLaws.{CertificateNamed, certificate_test, kept_certificates, Kept}
-use Rattle.storage.proofs.Meanings.{Stands, stands, certificates_read, long, kept, is, certificates_is}
+use Rattle.storage.proofs.Meanings.{Represents, represents, certificates_read, long, kept, is, certificates_is}
 use Rattle.storage.proofs.WellFormed.{rows_count, certificates_count, certificate_row_lem, formed}
 use Rattle.storage.proofs.TableLaws.{region_written}
 use Rattle.election_certificates.specs.WithMark.{marked_row}
@@ -81,7 +81,7 @@ tables_marked h k m right l f =
     region_written h right certificates_region (k * certificate_width + certificate_mark) (word_bytes index_width m) (omega arith)
     ∙ ap (with_certificate_rows (tables_of h)) (rows_marked (certificates_part h) k m size l f (certificates_held (head_part h)))
 
-module _ (h : Bytes) (x : History) (s : Stands h x) where
+module _ (h : Bytes) (x : History) (s : Represents h x) where
   -- the certificate of the model at that place
   pub certificate_at : (k : ℕ) → k < certificates_held h → get_or x.certificates k (certificate_in x.prefixes (certificate_of h k)) ≡ certificate_in x.prefixes (certificate_of h k)
   certificate_at k l =
@@ -90,7 +90,7 @@ module _ (h : Bytes) (x : History) (s : Stands h x) where
       ∙ ap (certificate_in x.prefixes) (certificate_row_lem h k (certificate_of h k) l)
 
   pub mark_written : (k m : ℕ) → k < certificates_held h → m ≤ index_limit
-      → Stands (mark_set h k m) (with_certificates x (set x.certificates k (with_mark (certificate_in x.prefixes (certificate_of h k)) m)))
+      → Represents (mark_set h k m) (with_certificates x (set x.certificates k (with_mark (certificate_in x.prefixes (certificate_of h k)) m)))
   mark_written k m l f =
       let lim = within _ _ _ _ (kept h x s).limits in
       let n = length (tables_of h).rows in
@@ -104,7 +104,7 @@ module _ (h : Bytes) (x : History) (s : Stands h x) where
       kept_certificates (tables_of h) (kept h x s) (set cs k c) (omega (arith, length-set cs k c, lim.certificates))
       (every_set (certificate_right n) cs k c (certificate_test n c named) (kept h x s).certificates)
       (numbered_set cs k c c (subst (λ (y : CertificateRow). (c.term ≡ y.term) × (c.number ≡ y.number)) (sym (certificate_row_lem h k c l)) (refl, refl)) ∙ (kept h x s).numbered) in
-      stands (mark_set h k m) (with_certificate_rows (tables_of h) (set cs k c)) _ (mark_length h k m ∙ long h x s) e keeps
+      represents (mark_set h k m) (with_certificate_rows (tables_of h) (set cs k c)) _ (mark_length h k m ∙ long h x s) e keeps
       (ap (λ (y : History). with_certificates y (map (certificate_in y.prefixes) (set cs k c))) (is h x s)
       ∙ ap (with_certificates x)
       (map_set (certificate_in x.prefixes) cs k c
@@ -166,7 +166,7 @@ module _ (t first : ℕ) (some : 0 < first) where
       λ i. lowered_not a (omega (arith, p.0)) i ∷ p.1 i
 
   -- the last of k certificates
-  module _ (h : Bytes) (x : History) (s : Stands h x) (A : List Certificate) (c : Certificate) (B : List Certificate) (k : ℕ)
+  module _ (h : Bytes) (x : History) (s : Represents h x) (A : List Certificate) (c : Certificate) (B : List Certificate) (k : ℕ)
       (e : x.certificates ≡ A ++ (c ∷ B)) (a : length A ≡ k) where
     place : k < certificates_held h
     place =
@@ -191,7 +191,7 @@ module _ (t first : ℕ) (some : 0 < first) where
         map-append (lowered t first) A (c ∷ [])
         ∙ (λ i. none_before x.prefixes (tables_of h).certificates A c B (kept h x s).numbered (certificates_is h x s ∙ e) m i ++ (lowered_not c m i ∷ []))
 
-    one_lowered : t < row.term → Stands (lower_bytes h first k) (with_certificates x (A ++ (lowered t first c ∷ B)))
+    one_lowered : t < row.term → Represents (lower_bytes h first k) (with_certificates x (A ++ (lowered t first c ∷ B)))
     unfolding lower_bytes
     one_lowered l =
         let C = certificate_in x.prefixes row in
@@ -201,53 +201,53 @@ module _ (t first : ℕ) (some : 0 < first) where
         ∙ ap (λ (y : Certificate). A ++ (with_mark y (first - 1) ∷ B)) (sym here) in
         let by : leb first c.mark ≡ leb first row.mark = ap (λ (y : Certificate). leb first y.mark) here in
         let is-low = lowered_by c m ∙ ap (λ (b : Bool). cond b (with_mark c (first - 1)) c) by in
-        subst (λ (y : Certificate). Stands (cond (leb first row.mark) (mark_set h k (first - 1)) h) (with_certificates x (A ++ (y ∷ B)))) (sym is-low)
+        subst (λ (y : Certificate). Represents (cond (leb first row.mark) (mark_set h k (first - 1)) h) (with_certificates x (A ++ (y ∷ B)))) (sym is-low)
         (⊎_elim
         (λ p.
         let low : first ≤ row.mark = leb-true _ _ p in
         let most = ((formed h s.right).certificate k place).mark in
         let w = mark_written h x s k (first - 1) place (omega arith) in
-        subst (λ (b : Bool). Stands (cond b (mark_set h k (first - 1)) h) (with_certificates x (A ++ (cond b (with_mark c (first - 1)) c ∷ B)))) (sym p)
-        (subst (λ (cs : List Certificate). Stands (mark_set h k (first - 1)) (with_certificates x cs)) to w))
+        subst (λ (b : Bool). Represents (cond b (mark_set h k (first - 1)) h) (with_certificates x (A ++ (cond b (with_mark c (first - 1)) c ∷ B)))) (sym p)
+        (subst (λ (cs : List Certificate). Represents (mark_set h k (first - 1)) (with_certificates x cs)) to w))
         (λ p.
-        subst (λ (b : Bool). Stands (cond b (mark_set h k (first - 1)) h) (with_certificates x (A ++ (cond b (with_mark c (first - 1)) c ∷ B)))) (sym p)
-        (subst (λ (cs : List Certificate). Stands h (with_certificates x cs)) e s))
+        subst (λ (b : Bool). Represents (cond b (mark_set h k (first - 1)) h) (with_certificates x (A ++ (cond b (with_mark c (first - 1)) c ∷ B)))) (sym p)
+        (subst (λ (cs : List Certificate). Represents h (with_certificates x cs)) e s))
         (either (leb first row.mark)))
 
     abbrev Lowered : Bytes → Type 0
-    Lowered u = Stands u (with_certificates x (map (lowered t first) (A ++ (c ∷ [])) ++ B))
+    Lowered u = Represents u (with_certificates x (map (lowered t first) (A ++ (c ∷ [])) ++ B))
 
     -- those before it are lowered by the loop's further turns, or there is no further turn
-    back_step : ((u : Bytes) (y : History) → Stands u y → y.certificates ≡ A ++ (lowered t first c ∷ B)
-        → Stands (lower_back u t first k) (with_certificates y (map (lowered t first) A ++ (lowered t first c ∷ B))))
+    back_step : ((u : Bytes) (y : History) → Represents u y → y.certificates ≡ A ++ (lowered t first c ∷ B)
+        → Represents (lower_back u t first k) (with_certificates y (map (lowered t first) A ++ (lowered t first c ∷ B))))
         → Lowered (lower_back h t first (suc k))
     unfolding lower_back
     back_step ih =
         ⊎_elim
         (λ p.
         let to = e ∙ sym (append_snoc A c B) ∙ ap (λ (l : List Certificate). l ++ B) (sym (all_stay (leb-true _ _ p))) in
-        subst Lowered (sym (cond_true (leb row.term t) h _ p)) (subst (λ (cs : List Certificate). Stands h (with_certificates x cs)) to s))
+        subst Lowered (sym (cond_true (leb row.term t) h _ p)) (subst (λ (cs : List Certificate). Represents h (with_certificates x cs)) to s))
         (λ p.
         let to : map (lowered t first) A ++ (lowered t first c ∷ B) ≡ map (lowered t first) (A ++ (c ∷ [])) ++ B =
         sym (append_snoc (map (lowered t first) A) (lowered t first c) B)
         ∙ ap (λ (l : List Certificate). l ++ B) (sym (map-append (lowered t first) A (c ∷ []))) in
         let low = one_lowered (leb-false _ _ p) in
         subst Lowered (sym (cond_false (leb row.term t) h _ p))
-        (subst (λ (cs : List Certificate). Stands (lower_back (lower_bytes h first k) t first k) (with_certificates x cs)) to
+        (subst (λ (cs : List Certificate). Represents (lower_back (lower_bytes h first k) t first k) (with_certificates x cs)) to
         (ih (lower_bytes h first k) (with_certificates x (A ++ (lowered t first c ∷ B))) low refl)))
         (either (leb row.term t))
 
   -- the first k certificates of a history that stands: every one of a greater term whose mark is at or past the index is lowered
-  pub lower_means : (k : ℕ) (A B : List Certificate) (h : Bytes) (x : History) → Stands h x → x.certificates ≡ A ++ B → length A ≡ k
-      → Stands (lower_back h t first k) (with_certificates x (map (lowered t first) A ++ B))
+  pub lower_means : (k : ℕ) (A B : List Certificate) (h : Bytes) (x : History) → Represents h x → x.certificates ≡ A ++ B → length A ≡ k
+      → Represents (lower_back h t first k) (with_certificates x (map (lowered t first) A ++ B))
   unfolding lower_back
-  lower_means zero [] B h x s e a = subst (λ (cs : List Certificate). Stands h (with_certificates x cs)) e s
+  lower_means zero [] B h x s e a = subst (λ (cs : List Certificate). Represents h (with_certificates x cs)) e s
   lower_means zero (c ∷ A) B h x s e a = absurd (omega arith)
   lower_means (suc k) [] B h x s e a = absurd (omega arith)
   lower_means (suc k) (d ∷ A) B h x s e a =
       let r = last_of d A in
       let split : x.certificates ≡ r.before ++ (r.last ∷ B) = e ∙ ap (λ (l : List Certificate). l ++ B) r.are ∙ append_snoc r.before r.last B in
       let long : length r.before ≡ k = (let z = sym a ∙ ap length r.are ∙ length-append r.before (r.last ∷ []) in omega arith) in
-      subst (λ (l : List Certificate). Stands (lower_back h t first (suc k)) (with_certificates x (map (lowered t first) l ++ B))) (sym r.are)
+      subst (λ (l : List Certificate). Represents (lower_back h t first (suc k)) (with_certificates x (map (lowered t first) l ++ B))) (sym r.are)
       (back_step h x s r.before r.last B k split long
       (λ u y w q. lower_means k r.before (lowered t first r.last ∷ B) u y w q long))

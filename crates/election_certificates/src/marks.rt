@@ -19,7 +19,7 @@ fn election_term(history: &History, k: usize) -> Term
 }
 
 // The mark of certificate k.
-pub fn checked_mark(history: &History, k: usize) -> LogIndex
+pub fn mark_of(history: &History, k: usize) -> LogIndex
     requires { k < certificate_limit }
     ensures { result.0 ≡ (certificate_of history.now k).mark }
 {
@@ -28,7 +28,7 @@ pub fn checked_mark(history: &History, k: usize) -> LogIndex
 
 // The mark of certificate k, written. Only the table is lent, on the spot: a function that lends a region to be written was tried, and
 // its `Lends` did not prove for a range.
-pub fn store_mark(history: &mut History, k: usize, mark: LogIndex)
+pub fn put_mark_of(history: &mut History, k: usize, mark: LogIndex)
     requires { k < certificate_limit }
     ensures { history.new ≡ mark_set history.old k mark.0 }
 {
@@ -43,8 +43,8 @@ fn lower_mark(history: &mut History, k: usize, first: LogIndex)
     requires { (k < certificate_limit) × (1 ≤ first.0) }
     ensures { history.new ≡ lower_bytes history.old first.0 k }
 {
-    if first <= checked_mark(history, k) {
-        store_mark(history, k, LogIndex(first.0 - 1));
+    if first <= mark_of(history, k) {
+        put_mark_of(history, k, LogIndex(first.0 - 1));
     }
 }
 

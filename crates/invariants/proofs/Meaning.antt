@@ -12,7 +12,7 @@ use Rattle.model.specs.Answer.{accepted, answer, after}
 use Rattle.model.specs.Rows.{verdict}
 use Rattle.record_reading.specs.declared.head.Head.{Head}
 use Rattle.record_reading.specs.Heads.{Told, reading_of}
-use Rattle.record_entries.specs.Places.{RowWalk, rows_at, first_row}
+use Rattle.record_entries.specs.BitLayout.{RowWalk, rows_at, first_row}
 use Rattle.record_reading.proofs.Readable.{rows_walk}
 use Rattle.invariants.specs.declared.commit_safety.Failure.{Failure}
 use Rattle.invariants.specs.Rules.{verdict_for, verdict_of}

@@ -17,7 +17,7 @@ use Rattle.model.specs.Rows.{failing, verdict, or, rule1, rule2, rule3, rule4}
 use Rattle.model.proofs.Tests.{either}
 use Rattle.std.specs.Bool.{then_some}
 use Rattle.model.specs.Reading.{field_at}
-use Rattle.record_entries.specs.Places.{configuration_at, row_at, after_row, rows_at, RowWalk}
+use Rattle.record_entries.specs.BitLayout.{configuration_at, row_at, after_row, rows_at, RowWalk}
 use Rattle.record_entries.proofs.Given.{Bare}
 use Rattle.record_entries.specs.Values.{configuration_value, row_value}
 use Rattle.record_entries.proofs.Walks.{rows_next, rows_none, walk_rowed}

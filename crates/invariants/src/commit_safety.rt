@@ -2,7 +2,7 @@
 // An earlier rule counts before an earlier row, so the walk goes on past a failing row, to rows that fail an earlier rule.
 ghost use Rattle.std.specs.Prelude.{◌≡◌, ◌∷◌, ltb};
 ghost use Rattle.model.specs.Rows as model;
-ghost use Rattle.record_entries.specs.Places as places;
+ghost use Rattle.record_entries.specs.BitLayout as places;
 ghost use Rattle.invariants.specs.Rules.{row_of, configured, number, rank, least, node_in, first_rule, least_from, verdict_for, accepted_for, rows_answer};
 
 use answers::answer::{Accepted, Refusal};

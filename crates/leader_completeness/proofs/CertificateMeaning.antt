@@ -19,7 +19,7 @@ use Rattle.model.specs.Sizes.{Bytes, index_limit}
 use Rattle.model.proofs.Tests.{either, no_begins}
 use Rattle.storage.specs.Tables.{CertificateRow, term_row, terms_part}
 use Rattle.storage.specs.Decode.{prefix_at, certificate_in}
-use Rattle.storage.proofs.Meanings.{Stands, committed_stored, terms_stored, end_is}
+use Rattle.storage.proofs.Meanings.{Represents, committed_stored, terms_stored, end_is}
 use Rattle.commit.specs.Committed.{agree_in}
 use Rattle.commit.proofs.PrefixLaws.{agree_at, agree_beyond}
 use Rattle.storage.specs.Values.{committed_end}
@@ -68,7 +68,7 @@ either_flag r b c = by (eqb r 0) c ∙ ap (λ (t : Bool). cond (t || c) 4 b) (po
     by false true = refl
     by false false = refl
 
-module _ (h : Bytes) (x : History) (s : Stands h x) where
+module _ (h : Bytes) (x : History) (s : Represents h x) where
   -- ---- the relevant index
 
   pub relevant_means : (c : CertificateRow) → relevant_in h c ≡ relevant x.committed x.terms (certificate_in x.prefixes c)

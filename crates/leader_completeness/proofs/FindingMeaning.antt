@@ -15,7 +15,7 @@ use Rattle.storage.specs.Tables.{CertificateRow}
 use Rattle.storage.specs.Writes.{FindingFits}
 use Rattle.storage.specs.Head.{prefixes_held}
 use Rattle.storage.proofs.DecodeLaws.{CertificateNamed, FindingNamed}
-use Rattle.storage.proofs.Meanings.{Stands}
+use Rattle.storage.proofs.Meanings.{Represents}
 use Rattle.leader_completeness.specs.Relevance.{relevant_in}
 use Rattle.leader_completeness.specs.Judgement.{lacks_through, lacking_of, lacking_at, lacking_in, lackings_in}
 use Rattle.leader_completeness.proofs.CertificateMeaning.{relevant_within}
@@ -36,7 +36,7 @@ fitting g f =
 one_fits : (n : ℕ) (c : CertificateRow) (i : ℕ) → CertificateNamed n c → i ≤ index_limit → Fitting (lacking_of c i)
 one_fits n c i s l = (record { low = omega arith; high = omega arith; node = s.leader; index = l }, omega (arith, s.term))
 
-module _ (h : Bytes) (x : History) (s : Stands h x) where
+module _ (h : Bytes) (x : History) (s : Represents h x) where
   pub lacking_fits : (c : CertificateRow) → CertificateNamed (prefixes_held h) c → (g : Finding) → Memᴰ g (lacking_in h c) → Fitting g
   unfolding lacking_in lacking_at
   lacking_fits c w g =

@@ -15,7 +15,7 @@ use Rattle.storage.specs.Values.{certificates_of}
 use Rattle.storage.specs.Tables.{CertificateRow, certificate_row, certificates_part}
 use Rattle.storage.specs.Head.{prefixes_held, committed_number, certificates_held}
 use Rattle.storage_bytes.proofs.ListLaws.{tabulate_cons, tabulate_none}
-use Rattle.log_violation.specs.Violation.{held_all, bytes_all, NotedAll, note_where}
+use Rattle.log_violation.specs.Violation.{held_all, bytes_all, NotedAll, note_if}
 use Rattle.log_violation.proofs.ViolationLaws.{held_then, bytes_then}
 use Rattle.storage.proofs.WellFormed.{Formed}
 use Rattle.leader_completeness.specs.Relevance.{relevant_in}
@@ -49,7 +49,7 @@ module _ (h : Bytes) (c : CertificateRow) where
   unfolding lacking_in lacking_at relevant_in
   lacking_told =
       let i = relevant_in h c in
-      ap (λ (b : Bool). cond (eqb i 0) [] (note_where b (lacking_of c i))) (lacks_told i)
+      ap (λ (b : Bool). cond (eqb i 0) [] (note_if b (lacking_of c i))) (lacks_told i)
 
   pub judged_told : (t : Bytes) (held : ℕ) (r : Bool) (held' : ℕ) (t' : Bytes) → JudgedAs h (told_row c) t held r held' t' → JudgedAs h c t held r held' t'
   unfolding flag_in relevant_in
@@ -88,12 +88,12 @@ module _ (h : Bytes) (c : CertificateRow) where
 
     -- l: its log lacks the committed prefix through r
     pub judged_some : (r ≡ 0 → ⊥) → (l : Bool) → l ≡ lacks_through h c r → (held' : ℕ) (t' : Bytes)
-        → NotedAll t held (note_where l (lacking_of c r)) held' t' → JudgedAs h c t held true held' t'
+        → NotedAll t held (note_if l (lacking_of c r)) held' t' → JudgedAs h c t held true held' t'
     unfolding flag_in lacking_in lacking_at
     judged_some z l el held' t' w =
         let f : eqb (relevant_in h c) 0 ≡ false = ne_eqb (relevant_in h c) 0 (λ q. z (e ∙ q)) in
-        let n : note_where l (lacking_of c r) ≡ lacking_in h c =
-        ap (λ (x : Bool). note_where x (lacking_of c r)) el ∙ ap (lacking_at h c) e ∙ sym (cond_false (eqb (relevant_in h c) 0) [] _ f) in
+        let n : note_if l (lacking_of c r) ≡ lacking_in h c =
+        ap (λ (x : Bool). note_if x (lacking_of c r)) el ∙ ap (lacking_at h c) e ∙ sym (cond_false (eqb (relevant_in h c) 0) [] _ f) in
         record {
           flag = λ b. sym (cond_false (eqb (relevant_in h c) 0) b 4 f);
           holds = w.0 ∙ ap (held_all t held) n;

@@ -24,7 +24,7 @@ use Rattle.storage.specs.Decode.{prefix_at}
 use Rattle.storage.specs.Rules.{finding_right}
 use Rattle.storage_bytes.proofs.ListLaws.{tabulate_length}
 use Rattle.storage.proofs.DecodeLaws.{CertificateNamed}
-use Rattle.storage.proofs.Meanings.{Stands, certificates_stored, findings_stored, committed_stored, findings_right, noted_right, end_is}
+use Rattle.storage.proofs.Meanings.{Represents, certificates_stored, findings_stored, committed_stored, findings_right, noted_right, end_is}
 use Rattle.answers.specs.declared.answer.Refusal.{Refusal}
 use Rattle.answers.specs.Step.{accepting}
 use Rattle.answers.proofs.Meaning.{Means, accepts, refuses}
@@ -45,7 +45,7 @@ use Rattle.leader_completeness.proofs.FindingMeaning.{Fitting, fitting, lackings
 use Rattle.leader_completeness.proofs.CheckLaws.{check_cases}
 use Rattle.leader_completeness.proofs.NothingCommitted.{nothing_refused, nothing_flagged, nothing_changed}
 
-module _ (h : Bytes) (x : History) (s : Stands h x) where
+module _ (h : Bytes) (x : History) (s : Represents h x) where
   rows : (c : CertificateRow) → Memᴰ c (certificates_of h) → CertificateNamed (prefixes_held h) c
   rows = stored h s.right
 
@@ -72,12 +72,12 @@ module _ (h : Bytes) (x : History) (s : Stands h x) where
       flags_mean h x s (certificates_of h) 0 ∙ ap (λ (cs : List Certificate). cond (some_relevant x.committed x.terms cs) 4 0) (certificates_stored h x s)
 
   -- the marks have moved, as the model's
-  marks : Stands (marks_moved h (committed_end h) 0 (certificates_held h)) (with_certificates x (map (moved x.committed) x.certificates))
+  marks : Represents (marks_moved h (committed_end h) 0 (certificates_held h)) (with_certificates x (map (moved x.committed) x.certificates))
   unfolding moved
   marks =
-      subst (λ (n : ℕ). Stands (marks_moved h (committed_end h) 0 n) (with_certificates x (map (moved x.committed) x.certificates)))
+      subst (λ (n : ℕ). Represents (marks_moved h (committed_end h) 0 n) (with_certificates x (map (moved x.committed) x.certificates)))
       (tabulate_length (certificate_row (certificates_part h)) 0 (certificates_held h))
-      (subst (λ (cs : List Certificate). Stands (marks_moved h (committed_end h) 0 (length (certificates_of h))) (with_certificates x cs))
+      (subst (λ (cs : List Certificate). Represents (marks_moved h (committed_end h) 0 (length (certificates_of h))) (with_certificates x cs))
       (λ i. map (raised (end_is h x s i)) (certificates_stored h x s i))
       (marks_mean (certificates_of h) [] h x s (committed_end h) (end_small h s.right) (sym (certificates_stored h x s))))
 
@@ -99,10 +99,10 @@ module _ (h : Bytes) (x : History) (s : Stands h x) where
     unfolding check_table
     table_kept = all_length (lackings_in h (certificates_of h)) (findings_part h) (findings_held h) ∙ findings_long h s.right
 
-    written : Stands (check_written h (check_table h) (check_held h) (committed_end h)) (check_effect x)
+    written : Represents (check_written h (check_table h) (check_held h) (committed_end h)) (check_effect x)
     unfolding check_written check_findings check_effect
     written =
-        subst (λ (fs : List Finding). Stands (check_written h (check_table h) (check_held h) (committed_end h)) (with_findings (with_certificates x (map (moved x.committed) x.certificates)) fs)) e
+        subst (λ (fs : List Finding). Represents (check_written h (check_table h) (check_held h) (committed_end h)) (with_findings (with_certificates x (map (moved x.committed) x.certificates)) fs)) e
         (findings_kept_lem (marks_moved h (committed_end h) 0 (certificates_held h)) (with_certificates x (map (moved x.committed) x.certificates)) marks
         (check_table h) (check_held h) (lackings x.committed x.terms x.certificates) table_kept few (ap (every finding_right) e ∙ found_right) e)
 
@@ -125,7 +125,7 @@ module _ (h : Bytes) (x : History) (s : Stands h x) where
         (refuses h x check Refusal.FindingsFull findingsFull refl s model_refuses)
 
 -- nothing is committed: accepted, and nothing changes
-nothing_means : (h : Bytes) (x : History) → Stands h x → committed_number h ≡ 0 → Means h x check (accepting 0 h)
+nothing_means : (h : Bytes) (x : History) → Represents h x → committed_number h ≡ 0 → Means h x check (accepting 0 h)
 nothing_means h x s e =
     let none_kept : x.committed ≡ [] = sym (committed_stored h x s) ∙ ap (prefix_at x.prefixes) e in
     let count : findings_held h ≡ length x.findings =
@@ -133,10 +133,10 @@ nothing_means h x s e =
     let held = (formed h s.right).findings in
     accepts h x check _ h (nothing_refused x none_kept (omega arith))
     (ap (λ (v : ℕ). accepted v 0) (sym (nothing_flagged x none_kept)))
-    (subst (Stands h) (sym (nothing_changed x none_kept)) s)
+    (subst (Represents h) (sym (nothing_changed x none_kept)) s)
 
 -- the check of bytes that stand for a history is the model's check of it
-pub check_means : (h : Bytes) (x : History) → Stands h x → Means h x check (check_step h)
+pub check_means : (h : Bytes) (x : History) → Represents h x → Means h x check (check_step h)
 check_means h x s =
     check_cases h (Means h x check) (nothing_means h x s)
     (⊎_elim (λ a. accepted_means h x s a.0 a.1) (λ a. refused_means h x s a.0 a.1) (holds h x s))

@@ -13,7 +13,7 @@ use Rattle.model.specs.Entry.{Prefix, with_all}
 use Rattle.model.specs.Refusal.{findingsFull}
 use Rattle.model.specs.History.{Finding, Certificate, History, noted, with_certificates, with_findings}
 use Rattle.model.specs.Terms.{with_mark}
-use Rattle.model.specs.Check.{last_below, relevant, lacks, lacking, moved, lackings, some_relevant, check_findings, check_refusal, check_value, check_effect}
+use Rattle.model.specs.Check.{is_earlier, last_below, relevant, lacks, lacking, moved, lackings, some_relevant, check_findings, check_refusal, check_value, check_effect}
 use Rattle.model.specs.Sizes.{finding_limit}
 use Rattle.model.proofs.Tests.{tf, cond_false}
 
@@ -24,8 +24,8 @@ none_below : (mark t i : ℕ) (xs : List ℕ) → 0 < i → last_below mark 0 t 
 unfolding last_below
 none_below mark t i [] h = refl
 none_below mark t i (x ∷ xs) h =
-    ap (λ (l : ℕ). cond (eqb l 0) (cond (ltb mark i && leb i 0 && ltb x t) i 0) l) (none_below mark t (i + 1) xs (omega arith))
-    ∙ past (ltb mark i) (leb i 0) (ltb x t) (lt-leb i 0 h)
+    ap (λ (l : ℕ). cond (eqb l 0) (cond (ltb mark i && leb i 0 && is_earlier x t) i 0) l) (none_below mark t (i + 1) xs (omega arith))
+    ∙ past (ltb mark i) (leb i 0) (is_earlier x t) (lt-leb i 0 h)
   where
     past : (a b c : Bool) → b ≡ false → cond (a && b && c) i 0 ≡ 0
     past true true c f = absurd (tf f)

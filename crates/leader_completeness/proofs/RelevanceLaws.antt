@@ -11,7 +11,7 @@ use mathlib.Core.List.{List, [], ◌∷◌, ◌++◌}
 use lib.Dec.{leb, ltb, eqb}
 use lib.ListN.{length}
 use borrow.Author.Tests.{ltb-false, lt-ltb, le-ltb, le-leb, lt-leb, ne_eqb}
-use Rattle.model.specs.Check.{last_below}
+use Rattle.model.specs.Check.{is_earlier, last_below}
 use Rattle.model.proofs.Tests.{tf, cond_cases, cond_true, cond_false}
 use Rattle.model.specs.Sizes.{Bytes}
 use Rattle.storage_bytes.specs.Lists.{tabulate}
@@ -24,15 +24,15 @@ use Rattle.leader_completeness.specs.Relevance.{last_relevant, recorded_end, rel
 -- ---- the turns of the loop
 
 module _ (row : ℕ → ℕ) (mark t : ℕ) where
-  at_next : (k : ℕ) → mark < suc k → t ≤ row k → last_relevant row mark t (suc k) ≡ last_relevant row mark t k
+  at_next : (k : ℕ) → mark < suc k → is_earlier (row k) t ≡ false → last_relevant row mark t (suc k) ≡ last_relevant row mark t k
   unfolding last_relevant
   at_next k h l =
-      cond_true (ltb mark (suc k)) _ 0 (lt-ltb mark (suc k) h) ∙ cond_false (ltb (row k) t) _ _ (le-ltb (row k) t l)
+      cond_true (ltb mark (suc k)) _ 0 (lt-ltb mark (suc k) h) ∙ cond_false (is_earlier (row k) t) _ _ l
 
-  at_found : (k : ℕ) → mark < suc k → row k < t → last_relevant row mark t (suc k) ≡ suc k
+  at_found : (k : ℕ) → mark < suc k → is_earlier (row k) t ≡ true → last_relevant row mark t (suc k) ≡ suc k
   unfolding last_relevant
   at_found k h l =
-      cond_true (ltb mark (suc k)) _ 0 (lt-ltb mark (suc k) h) ∙ cond_true (ltb (row k) t) (suc k) _ (lt-ltb (row k) t l)
+      cond_true (ltb mark (suc k)) _ 0 (lt-ltb mark (suc k) h) ∙ cond_true (is_earlier (row k) t) (suc k) _ l
 
   pub at_none : (i : ℕ) → i ≤ mark → last_relevant row mark t i ≡ 0
   unfolding last_relevant
@@ -45,21 +45,21 @@ module _ (row : ℕ → ℕ) (mark t : ℕ) where
   at_most_lem zero = omega arith
   at_most_lem (suc k) =
       cond_cases (λ (r : ℕ). r ≤ suc k) (ltb mark (suc k)) _ 0
-      (λ _. cond_cases (λ (r : ℕ). r ≤ suc k) (ltb (row k) t) (suc k) _ (λ _. omega arith) (λ _. omega (arith, at_most_lem k)))
+      (λ _. cond_cases (λ (r : ℕ). r ≤ suc k) (is_earlier (row k) t) (suc k) _ (λ _. omega arith) (λ _. omega (arith, at_most_lem k)))
       (λ _. omega arith)
 
   before : (i : ℕ) → mark < i → i ≡ suc (i - 1)
   before i h = omega arith
 
   module _ (end i : ℕ) (inv : last_relevant row mark t end ≡ last_relevant row mark t i) (h : mark < i) (x : ℕ) (e : x ≡ row (i - 1)) where
-    pub relevant_next : t ≤ x → last_relevant row mark t end ≡ last_relevant row mark t (i - 1)
+    pub relevant_next : is_earlier x t ≡ false → last_relevant row mark t end ≡ last_relevant row mark t (i - 1)
     relevant_next l =
-        inv ∙ ap (last_relevant row mark t) (before i h) ∙ at_next (i - 1) (omega arith) (subst (λ (y : ℕ). t ≤ y) e l)
+        inv ∙ ap (last_relevant row mark t) (before i h) ∙ at_next (i - 1) (omega arith) (subst (λ (y : ℕ). is_earlier y t ≡ false) e l)
 
-    pub relevant_found : x < t → i ≡ last_relevant row mark t end
+    pub relevant_found : is_earlier x t ≡ true → i ≡ last_relevant row mark t end
     relevant_found l =
         sym
-        (inv ∙ ap (last_relevant row mark t) (before i h) ∙ at_found (i - 1) (omega arith) (subst (λ (y : ℕ). y < t) e l) ∙ sym (before i h))
+        (inv ∙ ap (last_relevant row mark t) (before i h) ∙ at_found (i - 1) (omega arith) (subst (λ (y : ℕ). is_earlier y t ≡ true) e l) ∙ sym (before i h))
 
   pub relevant_none : (end i : ℕ) → last_relevant row mark t end ≡ last_relevant row mark t i → i ≤ mark → 0 ≡ last_relevant row mark t end
   relevant_none end i inv h = sym (inv ∙ at_none i h)
@@ -69,7 +69,7 @@ module _ (row : ℕ → ℕ) (mark t : ℕ) where
 module _ (mark end t : ℕ) where
   -- whether index i, of term x, is relevant
   abbrev test : ℕ → ℕ → Bool
-  test i x = ltb mark i && leb i end && ltb x t
+  test i x = ltb mark i && leb i end && is_earlier x t
 
   -- the last of one more index is that one, or the last of those before it
   below_last : (i : ℕ) (xs : List ℕ) (x : ℕ) → 0 < i
@@ -106,7 +106,7 @@ module _ (mark end t : ℕ) where
     -- the new index is within the committed prefix
     inside : (n : ℕ) → suc n ≤ end → cond (test (suc n) (row n)) (suc n) (last_relevant row mark t n) ≡ last_relevant row mark t (suc n)
     unfolding last_relevant
-    inside n h = by (ltb mark (suc n)) (leb (suc n) end) (ltb (row n) t) refl (le-leb (suc n) end h)
+    inside n h = by (ltb mark (suc n)) (leb (suc n) end) (is_earlier (row n) t) refl (le-leb (suc n) end h)
       where
         by : (a b c : Bool) → ltb mark (suc n) ≡ a → b ≡ true
             → cond (a && b && c) (suc n) (last_relevant row mark t n) ≡ cond a (cond c (suc n) (last_relevant row mark t n)) 0
@@ -115,7 +115,7 @@ module _ (mark end t : ℕ) where
         by false b c e f = at_none row mark t n (let z = ltb-false mark (suc n) e in omega arith)
 
     beyond : (n : ℕ) (z : ℕ) → end < suc n → cond (test (suc n) (row n)) (suc n) z ≡ z
-    beyond n z h = by (ltb mark (suc n)) (leb (suc n) end) (ltb (row n) t) (lt-leb (suc n) end h)
+    beyond n z h = by (ltb mark (suc n)) (leb (suc n) end) (is_earlier (row n) t) (lt-leb (suc n) end h)
       where
         by : (a b c : Bool) → b ≡ false → cond (a && b && c) (suc n) z ≡ z
         by true true c f = absurd (tf f)
@@ -133,7 +133,7 @@ module _ (mark end t : ℕ) where
     unfolding last_below tabulate
     none_recorded = sym (at_none row mark t (min end 0) (omega arith))
 
-    -- the last of the recorded terms below t is found from the end back
+    -- the last of the recorded terms earlier than t is found from the end back
     pub last_below_lem : (n : ℕ) → Alike n
     last_below_lem zero = none_recorded
     last_below_lem (suc n) =

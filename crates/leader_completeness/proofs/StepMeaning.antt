@@ -14,7 +14,7 @@ use Rattle.storage_bytes.specs.Layout.{findings_length}
 use Rattle.storage.specs.Tables.{CertificateRow, certificate_row, certificates_part}
 use Rattle.storage.specs.Decode.{certificate_in}
 use Rattle.storage.proofs.DecodeLaws.{CertificateNamed}
-use Rattle.storage.proofs.Meanings.{Stands, end_is}
+use Rattle.storage.proofs.Meanings.{Represents, end_is}
 use Rattle.log_violation.proofs.ViolationLaws.{Holds, all_hold}
 use Rattle.storage.specs.Values.{committed_end}
 use Rattle.storage.specs.Head.{prefixes_held, certificates_held}
@@ -37,7 +37,7 @@ either_set : (z : Bool) (b : ℕ) → cond z b 4 ≡ cond (not z) 4 b
 either_set true b = refl
 either_set false b = refl
 
-module _ (h : Bytes) (x : History) (s : Stands h x) where
+module _ (h : Bytes) (x : History) (s : Represents h x) where
   pub judge_means : (c : CertificateRow) → CertificateNamed (prefixes_held h) c → (t : Bytes) (b held : ℕ) (r : Bool) (held' : ℕ) (t' : Bytes) (fs : List Finding)
       → length t ≡ findings_length → Holds t held fs → JudgedAs h c t held r held' t' → StepMeans x (certificate_in x.prefixes c) b fs (cond r 4 b) held' t'
   unfolding flag_in
@@ -52,10 +52,10 @@ module _ (h : Bytes) (x : History) (s : Stands h x) where
 
   -- its mark moves to the committed end, and nothing else changes
   pub move_means : (k : ℕ) → k < certificates_held h
-      → Stands (mark_moved h k (committed_end h))
+      → Represents (mark_moved h k (committed_end h))
       (with_certificates x (set x.certificates k (moved x.committed (certificate_in x.prefixes (certificate_row (certificates_part h) k)))))
   unfolding moved
   move_means k l =
-      subst (λ (n : ℕ). Stands (mark_moved h k (committed_end h)) (with_certificates x (set x.certificates k (raised n (certificate_in x.prefixes (certificate_row (certificates_part h) k))))))
+      subst (λ (n : ℕ). Represents (mark_moved h k (committed_end h)) (with_certificates x (set x.certificates k (raised n (certificate_in x.prefixes (certificate_row (certificates_part h) k))))))
       (end_is h x s)
       (mark_means h x s (committed_end h) (end_small h s.right) k l)

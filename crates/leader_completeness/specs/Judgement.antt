@@ -8,7 +8,7 @@ use Rattle.storage.specs.Tables.{CertificateRow}
 use Rattle.storage.specs.Values.{certificates_of}
 use Rattle.storage.specs.Head.{committed_number}
 use Rattle.commit.specs.Committed.{agree_in}
-use Rattle.log_violation.specs.Violation.{held_all, bytes_all, note_where}
+use Rattle.log_violation.specs.Violation.{held_all, bytes_all, note_if}
 use Rattle.leader_completeness.specs.Relevance.{relevant_in}
 
 -- ---- one certificate
@@ -24,7 +24,7 @@ lacking_of c i = record { name = 5; node = c.leader; index = i; term = c.term }
 
 unfoldable pub lacking_at : Bytes → CertificateRow → ℕ → List Finding
 unfolding lacks_through
-lacking_at h c i = note_where (lacks_through h c i) (lacking_of c i)
+lacking_at h c i = note_if (lacks_through h c i) (lacking_of c i)
 
 -- what judging the certificate notes
 unfoldable pub lacking_in : Bytes → CertificateRow → List Finding

@@ -7,7 +7,7 @@ ghost use Rattle.model.specs.Sizes.{certificate_limit};
 ghost use Rattle.storage_bytes.specs.Layout.{certificate_mark};
 
 use election_certificates::mark::with_mark;
-use election_certificates::marks::{checked_mark, store_mark};
+use election_certificates::marks::{mark_of, put_mark_of};
 use storage::head::certificate_count;
 use storage_bytes::layout::{CERTIFICATES, History};
 use storage_rows::certificates::certificate_at;
@@ -19,12 +19,12 @@ pub fn move_mark(history: &mut History, k: usize, end: LogIndex)
     requires { k < certificate_limit }
     ensures { history.new ≡ mark_moved history.old k end.0 }
 {
-    if end <= checked_mark(history, k) {
+    if end <= mark_of(history, k) {
         return;
     }
     let c = certificate_at(CERTIFICATES.array(history), k);
     let moved = with_mark(c, end);
-    store_mark(history, k, moved.mark);
+    put_mark_of(history, k, moved.mark);
 }
 
 // The marks of all certificates.

@@ -1,6 +1,6 @@
-// The relevant index of a certificate: the last committed index after its mark with a recorded term below its own.
-// A recorded zero is below every nonzero term; an index without a recorded term is not relevant.
+// The relevant index of a certificate: the last committed index after its mark with a recorded term earlier than its own.
 ghost use Rattle.std.specs.Prelude.{◌≡◌, ◌≤◌};
+ghost use Rattle.model.specs.Check.{is_earlier};
 ghost use Rattle.storage.specs.Tables.{term_row};
 ghost use Rattle.storage.specs.Values.{committed_end};
 ghost use Rattle.storage_rows.specs.Certificates.{certificate_value};
@@ -15,6 +15,13 @@ use storage_rows::certificates::Certificate;
 use storage_rows::terms::term_of;
 use units::{LogIndex, Term};
 
+// A recorded zero is the term of no leader: it is earlier than nothing, as an absent one is.
+fn is_earlier(recorded: Term, term: Term) -> bool
+    ensures { result ≡ is_earlier recorded.0 term.0 }
+{
+    recorded > Term::ZERO && recorded < term
+}
+
 // From the end back to the mark, so that the first one met is the last.
 fn last_relevant(terms: &Terms, end: LogIndex, mark: LogIndex, term: Term) -> Option<LogIndex>
     requires { end.0 ≤ index_limit }
@@ -22,7 +29,7 @@ fn last_relevant(terms: &Terms, end: LogIndex, mark: LogIndex, term: Term) -> Op
 {
     for k in (mark.0..end.0).rev() {
         let index = LogIndex(k + 1);
-        if term_of(terms, index) < term {
+        if is_earlier(term_of(terms, index), term) {
             return Some(index);
         }
     }

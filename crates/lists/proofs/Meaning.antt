@@ -1,5 +1,5 @@
 -- What the readers answer, in the model's words: the n-th element of the printed list, counted from 0, or that there are not
--- so many. `Stands h x`: the bytes h keep the storage rules and stand for the history x.
+-- so many. `Represents h x`: the bytes h keep the storage rules and stand for the history x.
 -- Assumes nothing.
 use Prim.Native.Nat.{ℕ}
 use mathlib.Core.Path.{◌≡◌, sym, ◌∙◌, ap}
@@ -12,13 +12,13 @@ use Rattle.storage.specs.Tables.{nodes_part, terms_part, finding_rows, findings_
 use Rattle.storage.specs.Decode.{decode}
 use Rattle.storage.specs.Values.{committed_end}
 use Rattle.storage.specs.Head.{terms_held, findings_held, owner_of}
-use Rattle.storage.proofs.Meanings.{Stands, owner_read, end_is, findings_stored}
+use Rattle.storage.proofs.Meanings.{Represents, owner_read, end_is, findings_stored}
 use Rattle.lists.specs.Picked.{nth}
 use Rattle.lists.specs.Committed.{owner_in}
 use Rattle.lists.specs.Findings.{finding_of, finding_answer}
 use Rattle.std.specs.Prelude.{None}
 use Rattle.lists.specs.Leaders.{leader_as, leader_answer}
-use Rattle.lists.specs.Unseen.{mark_of, mark_in, unseen_answer}
+use Rattle.lists.specs.Unseen.{told_unseen, mark_in, unseen_answer}
 use Rattle.lists.specs.Unknown.{is_known, index_of, index_in, unknown_answer}
 use Rattle.lists.proofs.Ordered.{ordered_picked}
 use Rattle.storage_bytes.proofs.ListLaws.{tabulate_length}
@@ -28,7 +28,7 @@ use Rattle.lists.proofs.Printed.{marks_picked, known_read, indexes_picked, leade
 
 -- ---- the committed prefix: its length is `end_is` of `storage`
 
-pub owner_told : (h : Bytes) (x : History) → Stands h x → owner_in h ≡ committed_owner x
+pub owner_told : (h : Bytes) (x : History) → Represents h x → owner_in h ≡ committed_owner x
 unfolding owner_in
 owner_told h x s =
     let o : owner_of h ≡ x.owner = sym (owner_read h) ∙ ap (λ (y : History). y.owner) s.decodes in
@@ -36,14 +36,14 @@ owner_told h x s =
 
 -- ---- unseen marks
 
-pub unseen_told : (h : Bytes) (x : History) (n : ℕ) → Stands h x → unseen_answer h n ≡ nth mark_of None (unseen_list x) n
+pub unseen_told : (h : Bytes) (x : History) (n : ℕ) → Represents h x → unseen_answer h n ≡ nth told_unseen None (unseen_list x) n
 unfolding unseen_answer mark_in unseen_list decode tables_in
 unseen_told h x n s =
-    marks_picked (nodes_part h) 0 node_count n ∙ ap (λ (y : History). nth mark_of None (marks_from 0 y.unseen) n) s.decodes
+    marks_picked (nodes_part h) 0 node_count n ∙ ap (λ (y : History). nth told_unseen None (marks_from 0 y.unseen) n) s.decodes
 
 -- ---- unknown indexes
 
-pub unknown_told : (h : Bytes) (x : History) (n : ℕ) → Stands h x → unknown_answer h n ≡ nth index_of None (unknown_list x) n
+pub unknown_told : (h : Bytes) (x : History) (n : ℕ) → Represents h x → unknown_answer h n ≡ nth index_of None (unknown_list x) n
 unfolding unknown_answer index_in unknown_list
 unknown_told h x n s =
     indexes_picked (is_known (terms_part h) (terms_held h)) (decode h).terms (known_read h) 0 (committed_end h) n
@@ -51,7 +51,7 @@ unknown_told h x n s =
 
 -- ---- findings
 
-pub findings_told : (h : Bytes) (x : History) (n : ℕ) → Stands h x → finding_answer h n ≡ nth finding_of None (finding_list x) n
+pub findings_told : (h : Bytes) (x : History) (n : ℕ) → Represents h x → finding_answer h n ≡ nth finding_of None (finding_list x) n
 unfolding finding_answer finding_list
 findings_told h x n s =
     ordered_picked (finding_rows (findings_part h) (findings_held h)) n
@@ -59,7 +59,7 @@ findings_told h x n s =
 
 -- ---- leaders
 
-pub leaders_told : (h : Bytes) (x : History) (n : ℕ) → Stands h x → leader_answer h n ≡ nth leader_as None (leader_list x) n
+pub leaders_told : (h : Bytes) (x : History) (n : ℕ) → Represents h x → leader_answer h n ≡ nth leader_as None (leader_list x) n
 unfolding leader_answer leader_list
 leaders_told h x n s =
     leaders_all (finding_rows (findings_part h) (findings_held h)) (findings_held h) n (tabulate_length _ 0 _)

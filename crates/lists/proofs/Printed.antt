@@ -22,7 +22,7 @@ use Rattle.units.specs.declared.LogIndex.{LogIndex}
 use Rattle.lists.specs.Picked.{nth, pick_from}
 use Rattle.std.specs.Prelude.{Option, None}
 use Rattle.lists.specs.Leaders.{leader_as, leader_in}
-use Rattle.lists.specs.Unseen.{mark_of, unmarked, mark_at}
+use Rattle.lists.specs.Unseen.{told_unseen, unmarked, mark_at}
 use Rattle.lists.specs.Unknown.{is_known, index_of}
 use Rattle.lists.proofs.Ascents.{leaders_picked, leaders_few}
 use Rattle.model.specs.Leaders.{ascending}
@@ -39,11 +39,11 @@ turn answer none x xs later h false (suc n) =
 
 pub marks_picked : (t : Bytes) (k m n : ℕ)
     → pick_from (unmarked t) (mark_at t) None k m n
-    ≡ nth mark_of None (marks_from k (map (λ (r : NodeRow). r.unseen) (tabulate (row_of_node t) k m))) n
+    ≡ nth told_unseen None (marks_from k (map (λ (r : NodeRow). r.unseen) (tabulate (row_of_node t) k m))) n
 unfolding pick_from marks_from tabulate
 marks_picked t k zero n = refl
 marks_picked t k (suc m) n =
-    turn mark_of None (record { node = k; index = (row_of_node t k).unseen }) _ _ (marks_picked t (k + 1) m) (eqb (row_of_node t k).unseen 0) n
+    turn told_unseen None (record { node = k; index = (row_of_node t k).unseen }) _ _ (marks_picked t (k + 1) m) (eqb (row_of_node t k).unseen 0) n
 
 -- ---- unknown indexes
 

@@ -9,15 +9,15 @@ use Rattle.lists.specs.declared.unseen.Unseen.{Unseen}
 use Rattle.lists.specs.Picked.{pick_from}
 
 -- a printed mark
-abbrev pub mark_of : Mark → Option Unseen
-mark_of u = Some (record { node = record { 0 = u.node }; index = record { 0 = u.index } })
+abbrev pub told_unseen : Mark → Option Unseen
+told_unseen u = Some (record { node = record { 0 = u.node }; index = record { 0 = u.index } })
 
 -- node k has no mark
 abbrev pub unmarked : Bytes → ℕ → Bool
 unmarked t k = eqb (row_of_node t k).unseen 0
 
 abbrev pub mark_at : Bytes → ℕ → Option Unseen
-mark_at t k = mark_of (record { node = k; index = (row_of_node t k).unseen })
+mark_at t k = told_unseen (record { node = k; index = (row_of_node t k).unseen })
 
 unfoldable pub mark_in : Bytes → ℕ → Option Unseen
 unfolding word_at pick_from

@@ -11,7 +11,7 @@ use lib.Dec.{eqb}
 use lib.ListN.{length, length-append}
 use borrow.Author.Tests.{ne_eqb}
 use Rattle.model.specs.Entry.{Entry, Prefix, prefixes, with, with_all}
-use Rattle.model.specs.View.{begun}
+use Rattle.model.specs.View.{prefixes_from}
 use Rattle.model.specs.Sizes.{index_limit, content_limit}
 use Rattle.model.proofs.Tests.{cond_false, and_both}
 use Rattle.model.proofs.Members.{with_there, with_fresh}
@@ -140,11 +140,11 @@ pub record ExtendedAll (rs rs' : List PrefixRow) (p n : ℕ) (es : List Entry) :
   pub keeps : (x : ℕ) → x ≤ length rs → prefix_at (resolve rs') x ≡ prefix_at (resolve rs) x
   pub within : n ≤ length rs'
   pub is : prefix_at (resolve rs') n ≡ prefix_at (resolve rs) p ++ es
-  pub stores : resolve rs' ≡ with_all prefixes (resolve rs) (begun (prefix_at (resolve rs) p) es)
+  pub stores : resolve rs' ≡ with_all prefixes (resolve rs) (prefixes_from (prefix_at (resolve rs) p) es)
 
 pub extends_all : (es : List Entry) (rs : List PrefixRow) → Good rs → (p i : ℕ) → p ≤ length rs
     → length (prefix_at (resolve rs) p) + 1 ≡ i → Fits i es → ExtendedAll rs (extend_all rs p i es) p (extend_last rs p i es) es
-unfolding extend_all extend_last begun with_all
+unfolding extend_all extend_last prefixes_from with_all
 extends_all [] rs g p i h next fits =
     record {
       good = g;
@@ -166,5 +166,5 @@ extends_all (e ∷ es) rs g p i h next fits =
       keeps = λ z l. y.keeps z (le_trans l x.grows) ∙ x.keeps z l;
       within = y.within;
       is = y.is ∙ ap (λ (l : Prefix). l ++ es) x.is ∙ append_assoc q (e ∷ []) es;
-      stores = y.stores ∙ (λ j. with_all prefixes (x.stores j) (begun (x.is j) es));
+      stores = y.stores ∙ (λ j. with_all prefixes (x.stores j) (prefixes_from (x.is j) es));
     }

@@ -12,7 +12,7 @@ use Rattle.storage.specs.Tables.{prefix_row, rows_of_prefixes, prefixes_part}
 use Rattle.storage.specs.Decode.{prefix_at}
 use Rattle.storage.specs.Head.{prefixes_held}
 use Rattle.storage.proofs.WellFormed.{formed, formed_rows}
-use Rattle.storage.proofs.Meanings.{Stands, front_read, prefixes_stored}
+use Rattle.storage.proofs.Meanings.{Represents, front_read, prefixes_stored}
 use Rattle.log_prefix.specs.Prefix.{witness, slice_of, front_in, front_through}
 use Rattle.log_prefix.proofs.SliceLaws.{slice_cases}
 use Rattle.log_prefix.proofs.TableLaws.{rows_length, rows_at}
@@ -32,7 +32,7 @@ module _ (h : Bytes) (x : History) where
   abbrev pub Cut : Option LogPrefixWitness → Prefix → ℕ → Type 0
   Cut y f i = ((y ≡ None) × (length f < i)) ⊎ Part y f i
 
-  module _ (s : Stands h x) where
+  module _ (s : Represents h x) where
     -- a stored prefix, by number
     pub slice_is : (p i : ℕ) → p ≤ prefixes_held h → Cut (slice_of (prefix_row (prefixes_part h)) p i) (prefix_at x.prefixes p) i
     slice_is p i l =

@@ -3,29 +3,23 @@
 use Prim.Native.Nat.{ℕ, ◌+◌}
 use native.Mathlib.Omega.{arith}
 use mathlib.Core.Path.{◌≡◌, sym, ◌∙◌, ap}
-use mathlib.Core.Bool.{cond}
-use lib.Dec.{eqb}
-use borrow.Author.Tests.{eq-eqb, ne_eqb}
-use Rattle.model.proofs.Tests.{cond_true, cond_false, unless_none, unless_some}
+use Rattle.model.proofs.Tests.{zero_none, above_some, unless_none, unless_some}
 use Rattle.units.specs.declared.LogPrefixWitness.{LogPrefixWitness}
 use Rattle.log_prefix.specs.Prefix.{witness, stored_of}
 use Rattle.std.specs.Prelude.{Option, Some, None}
 
 pub stored_some : (k r : ℕ) → r ≡ k + 1 → Some (witness (k + 1)) ≡ stored_of r
 unfolding stored_of
-stored_some k r e =
-    sym (ap (λ (x : ℕ). cond (eqb x 0) None (Some (witness x))) e ∙ cond_false (eqb (k + 1) 0) None (Some (witness (k + 1))) (ne_eqb (k + 1) 0 (λ z. omega arith)))
+stored_some k r e = above_some (k + 1) (witness (k + 1)) (λ z. omega arith) ∙ ap stored_of (sym e)
 
 pub stored_none : (r : ℕ) → r ≡ 0 → None ≡ stored_of r
 unfolding stored_of
-stored_none r e = sym (cond_true (eqb r 0) None (Some (witness r)) (eq-eqb r 0 e))
+stored_none r e = zero_none r (witness r) e
 
 -- a number that was read
 pub stored_read : (p r : ℕ) → p ≡ r → (p ≡ 0 → ⊥) → Some (witness p) ≡ stored_of r
 unfolding stored_of
-stored_read p r e z =
-    sym (cond_false (eqb p 0) None (Some (witness p)) (ne_eqb p 0 z))
-    ∙ ap (λ (x : ℕ). cond (eqb x 0) None (Some (witness x))) e
+stored_read p r e z = above_some p (witness p) z ∙ ap stored_of e
 
 -- ---- from the answer to the number
 

@@ -6,17 +6,15 @@ use native.Mathlib.Omega.{arith}
 use mathlib.Core.Path.{◌≡◌, refl, sym, ◌∙◌, ap}
 use mathlib.Core.Bool.{Bool, true, false, cond, ◌&&◌, ◌||◌}
 use lib.Dec.{eqb}
-use lib.ListN.{length, get_or}
+use lib.ListN.{length, get_or, drop}
 use borrow.Author.Tests.{eq-eqb, ne_eqb}
+use Rattle.std.proofs.lemmas.List.{drop_more, drop_all}
 use Rattle.model.specs.Sizes.{Bytes, content_limit}
 use Rattle.model.proofs.Tests.{cond_true, cond_false}
-use Rattle.storage_bytes.specs.Words.{word_at, bytes_at, same_bytes}
-use Rattle.storage_bytes.specs.Layout.{prefix_width, term_width, byte_width, prefix_term, prefix_size, prefix_content}
+use Rattle.storage_bytes.specs.Words.{bytes_at, same_bytes}
+use Rattle.storage_bytes.specs.Layout.{prefix_width, prefix_content}
 use Rattle.storage.specs.Tables.{PrefixRow, prefix_row}
-use Rattle.std.specs.Cmp.Lexicographic.{pointwise}
 use Rattle.storage_bytes.proofs.ListLaws.{tabulate_length}
-use Rattle.storage_bytes.proofs.ByteTurns.{pointwise_bytes}
-use Rattle.storage.proofs.PrefixLaws.{same_bytes_eq}
 use Rattle.log_prefix.specs.Comparison.{same_entry, same_from}
 
 -- ---- the comparison of two prefixes
@@ -91,33 +89,55 @@ module _ (row : ℕ → PrefixRow) {r : Bool} (p q : ℕ) where
 
 -- ---- the last entries of two rows
 
-content_length : (t : Bytes) (k : ℕ) → length (prefix_row t k).content ≡ min (word_at t (k * prefix_width + prefix_size) byte_width) content_limit
-unfolding bytes_at
-content_length t k = tabulate_length (λ i. get_or t i 0) (k * prefix_width + prefix_content) (min (word_at t (k * prefix_width + prefix_size) byte_width) content_limit)
-
 none : (x : Bool) → (x && false) ≡ false
 none true = refl
 none false = refl
 
--- of equal bytes there are equally many, so that their counts need no test
-same_sized : (xs ys : Bytes) {m n : ℕ} → length xs ≡ m → length ys ≡ n → (eqb m n && same_bytes xs ys) ≡ same_bytes xs ys
-same_sized xs ys {m} {n} a b = go (same_bytes xs ys) refl
-  where
-    go : (r : Bool) → same_bytes xs ys ≡ r → (eqb m n && r) ≡ r
-    go true t = ap (λ (x : Bool). x && true) (eq-eqb m n (sym a ∙ ap length (same_bytes_eq xs ys t) ∙ b))
-    go false f = none (eqb m n)
+-- a row that keeps the rules has as many bytes of content as it says
+pub content_sized : (t : Bytes) (k a : ℕ) → (prefix_row t k).size ≤ content_limit → a ≡ (prefix_row t k).size
+    → length (prefix_row t k).content ≡ a
+unfolding bytes_at
+content_sized t k a l e =
+    let z : min (prefix_row t k).size content_limit ≡ a = omega arith in
+    tabulate_length (λ i. get_or t i 0) (k * prefix_width + prefix_content) (min (prefix_row t k).size content_limit) ∙ z
 
-module _ (t : Bytes) (i j a b : ℕ) (ta : a ≡ word_at t (i * prefix_width + prefix_term) term_width) (tb : b ≡ word_at t (j * prefix_width + prefix_term) term_width) where
-  pub entry_term : (a ≡ b → ⊥) → same_entry (prefix_row t i) (prefix_row t j) ≡ false
+-- two rows held against each other, from what was read of them
+module _ (t : Bytes) (i j a b : ℕ) where
+  pub entry_terms : a ≡ (prefix_row t i).term → b ≡ (prefix_row t j).term → (a ≡ b → ⊥)
+      → same_entry (prefix_row t i) (prefix_row t j) ≡ false
   unfolding same_entry
-  entry_term d = rw (← ta, ← tb, ne_eqb a b d)
+  entry_terms ta tb d = rw (← ta, ← tb, ne_eqb a b d)
 
-  pub entry_content : a ≡ b → word_at t (i * prefix_width + prefix_size) byte_width ≤ content_limit → word_at t (j * prefix_width + prefix_size) byte_width ≤ content_limit
-      → pointwise eqb (prefix_row t i).content (prefix_row t j).content ≡ same_entry (prefix_row t i) (prefix_row t j)
-  unfolding same_entry
-  entry_content e m n =
-      pointwise_bytes (prefix_row t i).content (prefix_row t j).content
-      ∙ sym (rw (← ta, ← tb, eq-eqb a b e) (same_sized (prefix_row t i).content (prefix_row t j).content (sized i m) (sized j n)))
-    where
-      sized : (k : ℕ) → word_at t (k * prefix_width + prefix_size) byte_width ≤ content_limit → length (prefix_row t k).content ≡ word_at t (k * prefix_width + prefix_size) byte_width
-      sized k l = content_length t k ∙ (let z : min (word_at t (k * prefix_width + prefix_size) byte_width) content_limit ≡ word_at t (k * prefix_width + prefix_size) byte_width = omega arith in z)
+  module _ (sa : a ≡ (prefix_row t i).size) (sb : b ≡ (prefix_row t j).size) where
+    pub entry_sizes : (a ≡ b → ⊥) → same_entry (prefix_row t i) (prefix_row t j) ≡ false
+    unfolding same_entry
+    entry_sizes d = rw (← sa, ← sb, ne_eqb a b d) (none (eqb (prefix_row t i).term (prefix_row t j).term))
+
+    -- past term and size the bytes decide
+    pub entry_by_bytes : a ≡ b → (x y : ℕ) → x ≡ (prefix_row t i).term → y ≡ (prefix_row t j).term → x ≡ y
+        → same_entry (prefix_row t i) (prefix_row t j) ≡ same_bytes (prefix_row t i).content (prefix_row t j).content
+    unfolding same_entry
+    entry_by_bytes e x y ta tb d = rw (← ta, ← tb, eq-eqb x y d, ← sa, ← sb, eq-eqb a b e)
+
+-- the bytes of two contents from place k on; b is whether they are the same
+module _ (xs ys : Bytes) (k : ℕ) {b : Bool} where
+  step_bytes : b ≡ same_bytes (drop k xs) (drop k ys) → k < length xs → k < length ys
+      → b ≡ (eqb (get_or xs k 0) (get_or ys k 0) && same_bytes (drop (k + 1) xs) (drop (k + 1) ys))
+  unfolding same_bytes
+  step_bytes inv h g = inv ∙ (λ i. same_bytes (drop_more xs k 0 h i) (drop_more ys k 0 g i))
+
+  pub bytes_next : b ≡ same_bytes (drop k xs) (drop k ys) → k < length xs → k < length ys → get_or xs k 0 ≡ get_or ys k 0
+      → b ≡ same_bytes (drop (k + 1) xs) (drop (k + 1) ys)
+  bytes_next inv h g e =
+      step_bytes inv h g
+      ∙ ap (λ (v : Bool). v && same_bytes (drop (k + 1) xs) (drop (k + 1) ys)) (eq-eqb (get_or xs k 0) (get_or ys k 0) e)
+
+  pub bytes_differ : b ≡ same_bytes (drop k xs) (drop k ys) → k < length xs → k < length ys
+      → (get_or xs k 0 ≡ get_or ys k 0 → ⊥) → b ≡ false
+  bytes_differ inv h g d =
+      step_bytes inv h g
+      ∙ ap (λ (v : Bool). v && same_bytes (drop (k + 1) xs) (drop (k + 1) ys)) (ne_eqb (get_or xs k 0) (get_or ys k 0) d)
+
+  pub bytes_end : b ≡ same_bytes (drop k xs) (drop k ys) → length xs ≤ k → length ys ≤ k → b ≡ true
+  unfolding same_bytes
+  bytes_end inv h g = inv ∙ (λ i. same_bytes (drop_all k xs h i) (drop_all k ys g i))

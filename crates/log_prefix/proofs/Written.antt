@@ -2,16 +2,15 @@
 -- Assumes nothing.
 use Prim.Native.Nat.{ℕ, ◌+◌, ◌≤◌}
 use native.Mathlib.Omega.{arith}
-use mathlib.Core.Path.{◌≡◌, refl, sym, ◌∙◌, ap}
+use mathlib.Core.Path.{◌≡◌, refl, sym, ◌∙◌, ap, subst}
 use mathlib.Core.Bool.{true, false}
-use mathlib.Core.Logic.{⊎_elim}
 use mathlib.Core.List.{List, [], ◌∷◌}
 use lib.Dec.{eqb}
 use lib.ListN.{length}
 use borrow.Author.Tests.{eq-eqb, ne_eqb, eqb-true, eqb-false}
 use Rattle.model.specs.Sizes.{Bytes}
 use Rattle.model.specs.Entry.{Entry}
-use Rattle.model.proofs.Tests.{tf, either, cond_cases, cond_true, cond_false}
+use Rattle.model.proofs.Tests.{cond_cases, cond_true, cond_false}
 use Rattle.record_entries.specs.declared.walk.ShownEntry.{ShownEntry}
 use Rattle.storage_bytes.specs.Words.{bytes_at}
 use Rattle.storage.specs.Tables.{prefix_row, prefixes_part}
@@ -22,9 +21,9 @@ use Rattle.log_prefix.specs.Table.{entry_value}
 use Rattle.log_prefix.specs.Prefix.{witness, stored_of, row_of, find}
 use Rattle.log_prefix.proofs.StoredLaws.{stored_number, stored_nothing}
 use Rattle.units.specs.declared.LogPrefixWitness.{LogPrefixWitness}
-use Rattle.log_prefix.specs.Extension.{extension_in, appended, made, extended_bytes, extended_count, extended_number, extended, next_index, extension, extension_bytes, Making, Extending, written_bytes, written_count, written_number}
+use Rattle.log_prefix.specs.Extension.{extension_in, appended, extended_bytes, extended_count, extended_number, extended, next_index, extension, extension_bytes, Making, Extending, written_bytes, written_count, written_number}
 use Rattle.log_prefix.specs.declared.prefix.Extended.{Extended}
-use Rattle.std.specs.Prelude.{Option, Some, None, is_some, unwrap_or}
+use Rattle.std.specs.Prelude.{Option, Some, None}
 
 pub value_length : (e : ShownEntry) → length (entry_value e).content ≡ e.length
 unfolding bytes_at
@@ -66,21 +65,21 @@ row_made h h' n p e g w =
     w ∙ (λ j. prefix_appended h p e.index.0 e.term.0 (a j) (b j))
 
 -- what the extension of p by e comes to
-abbrev Made : Bytes → ℕ → ℕ → ShownEntry → Extended → Bytes → Type 0
-Made h n p e y h' = (y ≡ extended h n p (entry_value e)) × (h' ≡ extended_bytes h n p e.index.0 (entry_value e))
+abbrev Lengthened : Bytes → ℕ → ℕ → ShownEntry → Extended → Bytes → Type 0
+Lengthened h n p e y h' = (y ≡ extended h n p (entry_value e)) × (h' ≡ extended_bytes h n p e.index.0 (entry_value e))
 
 module _ (h : Bytes) (n p : ℕ) (e : ShownEntry) (q : Bytes) (eq : q ≡ prefixes_part h) (r : Option LogPrefixWitness) (er : r ≡ stored_of (find (prefix_row q) n (row_of p 0 (entry_value e)))) where
   extension_is : r ≡ stored_of (extension_in h n p (entry_value e))
   unfolding extension_in
   extension_is = er ∙ ap (λ (t : Bytes). stored_of (find (prefix_row t) n (row_of p 0 (entry_value e)))) eq
 
-  pub extend_found : (w : LogPrefixWitness) → r ≡ Some w → Made h n p e (record { prefix = w; count = n }) h
+  pub extend_found : (w : LogPrefixWitness) → r ≡ Some w → Lengthened h n p e (Extended.Found w) h
   extend_found w z =
       let s = stored_number (extension_in h n p (entry_value e)) r extension_is w z in
-      let f = ne_eqb (extension_in h n p (entry_value e)) 0 s.1 in
-      let a = s.0 ∙ sym (number_found h n p (entry_value e) f) in
-      let b = sym (count_found h n p (entry_value e) f) in
-      ((λ j. record { prefix = witness (a j); count = b j }), sym (bytes_found h n p e.index.0 (entry_value e) f))
+      let f = ne_eqb (extension_in h n p (entry_value e)) 0 s.1 in (
+        ap (λ (k : ℕ). Extended.Found (witness k)) s.0 ∙ sym (cond_false (eqb (extension_in h n p (entry_value e)) 0) (Extended.Made (witness (n + 1))) _ f),
+        sym (bytes_found h n p e.index.0 (entry_value e) f),
+      )
 
   module _ (z : r ≡ None) where
     nowhere : eqb (extension_in h n p (entry_value e)) 0 ≡ true
@@ -92,11 +91,12 @@ module _ (h : Bytes) (n p : ℕ) (e : ShownEntry) (q : Bytes) (eq : q ≡ prefix
         let c = count_made h n p (entry_value e) nowhere in
         record { count = g.count; room = omega arith; padded = g.padded }
 
-    pub extend_made : (y : Extended) (h' : Bytes) → (y ≡ made n) × (h' ≡ appended h p e.index.0 (entry_value e)) → Made h n p e y h'
-    extend_made y h' w =
-        let a = sym (number_made h n p (entry_value e) nowhere) in
-        let b = sym (count_made h n p (entry_value e) nowhere) in
-        (w.0 ∙ (λ j. record { prefix = witness (a j); count = b j }), w.1 ∙ sym (bytes_made h n p e.index.0 (entry_value e) nowhere))
+    pub extend_made : (w : LogPrefixWitness) (h' : Bytes) → (w ≡ witness (n + 1)) × (h' ≡ appended h p e.index.0 (entry_value e))
+        → Lengthened h n p e (Extended.Made w) h'
+    extend_made w h' a = (
+      ap (λ (x : LogPrefixWitness). Extended.Made x) a.0 ∙ sym (cond_true (eqb (extension_in h n p (entry_value e)) 0) _ (Extended.Found (witness (extension_in h n p (entry_value e)))) nowhere),
+      a.1 ∙ sym (bytes_made h n p e.index.0 (entry_value e) nowhere),
+    )
 
 -- ---- an entry of the next index, and any other
 
@@ -105,50 +105,55 @@ pub next_read : (h q : Bytes) (p i : ℕ) → q ≡ prefixes_part h → i ≡ nu
 next_read h q p i eq ei = ap (λ (m : ℕ). m + 1) (ei ∙ ap (λ (t : Bytes). number_index t p) eq)
 
 module _ (h : Bytes) (n p : ℕ) (e : ShownEntry) where
-  abbrev Answered : Option Extended → Bytes → Type 0
+  abbrev Answered : Extended → Bytes → Type 0
   Answered r h' = (r ≡ extension h n p e) × (h' ≡ extension_bytes h n p e)
 
-  pub extends_next : e.index.0 ≡ next_index h p → (x : Extended) (h' : Bytes) → Made h n p e x h' → Answered (Some x) h'
+  pub extends_next : e.index.0 ≡ next_index h p → (x : Extended) (h' : Bytes) → Lengthened h n p e x h' → Answered x h'
   unfolding extension extension_bytes
   extends_next i x h' a =
       let t = eq-eqb e.index.0 (next_index h p) i in (
-        ap Some a.0 ∙ sym (cond_true (eqb e.index.0 (next_index h p)) (Some (extended h n p (entry_value e))) None t),
+        a.0 ∙ sym (cond_true (eqb e.index.0 (next_index h p)) (extended h n p (entry_value e)) Extended.NotNext t),
         a.1 ∙ sym (cond_true (eqb e.index.0 (next_index h p)) (extended_bytes h n p e.index.0 (entry_value e)) h t),
       )
 
-  pub extends_none : (e.index.0 ≡ next_index h p → ⊥) → Answered None h
+  pub extends_none : (e.index.0 ≡ next_index h p → ⊥) → Answered Extended.NotNext h
   unfolding extension extension_bytes
   extends_none o =
       let f = ne_eqb e.index.0 (next_index h p) o in (
-        sym (cond_false (eqb e.index.0 (next_index h p)) (Some (extended h n p (entry_value e))) None f),
+        sym (cond_false (eqb e.index.0 (next_index h p)) (extended h n p (entry_value e)) Extended.NotNext f),
         sym (cond_false (eqb e.index.0 (next_index h p)) (extended_bytes h n p e.index.0 (entry_value e)) h f),
       )
 
-  -- what an answer tells
-  module _ (r : Option Extended) (h' : Bytes) (a : Answered r h') where
-    pub answer_longer : (x : Extended) → r ≡ Some x
-        → (e.index.0 ≡ next_index h p) × (x ≡ extended h n p (entry_value e)) × (h' ≡ extended_bytes h n p e.index.0 (entry_value e))
-    answer_longer x q =
-        ⊎_elim
-        (λ t.
-        let i = eqb-true e.index.0 (next_index h p) t in
-        let b = extends_next i (extended h n p (entry_value e)) _ (refl, refl) in
-        (i, ap (λ (o : Option Extended). unwrap_or o x) (sym q ∙ a.0 ∙ sym b.0), a.1 ∙ sym b.1))
-        (λ f.
-        let b = extends_none (eqb-false e.index.0 (next_index h p) f) in
-        absurd (tf (ap is_some (sym q ∙ a.0 ∙ sym b.0))))
-        (either (eqb e.index.0 (next_index h p)))
+  -- ---- what an answer tells
 
-    pub answer_stays : r ≡ None → (e.index.0 ≡ next_index h p → ⊥) × (h' ≡ h)
-    answer_stays q =
-        ⊎_elim
-        (λ t.
-        let b = extends_next (eqb-true e.index.0 (next_index h p) t) (extended h n p (entry_value e)) _ (refl, refl) in
-        absurd (tf (sym (ap is_some (sym q ∙ a.0 ∙ sym b.0)))))
-        (λ f.
-        let o = eqb-false e.index.0 (next_index h p) f in
-        (o, a.1 ∙ sym (extends_none o).1))
-        (either (eqb e.index.0 (next_index h p)))
+  -- the prefix w is the extension, c prefixes are stored with it, and the history is h'
+  pub record Longer (w : LogPrefixWitness) (c : ℕ) (h' : Bytes) : Type 0 where
+    pub index : e.index.0 ≡ next_index h p
+    pub number : w.0 ≡ extended_number h n p (entry_value e)
+    pub count : c ≡ extended_count h n p (entry_value e)
+    pub bytes : h' ≡ extended_bytes h n p e.index.0 (entry_value e)
+
+  abbrev Tells : Bytes → Extended → Type 0
+  Tells h' (Extended.Found w) = Longer w n h'
+  Tells h' (Extended.Made w) = Longer w (n + 1) h'
+  Tells h' Extended.NotNext = (e.index.0 ≡ next_index h p → ⊥) × (h' ≡ h)
+
+  longer_tells : e.index.0 ≡ next_index h p → (h' : Bytes) → h' ≡ extended_bytes h n p e.index.0 (entry_value e) → Tells h' (extended h n p (entry_value e))
+  longer_tells i h' b =
+      cond_cases (Tells h') (eqb (extension_in h n p (entry_value e)) 0) (Extended.Made (witness (n + 1))) (Extended.Found (witness (extension_in h n p (entry_value e))))
+      (λ t. record { index = i; number = sym (number_made h n p (entry_value e) t); count = sym (count_made h n p (entry_value e) t); bytes = b })
+      (λ f. record { index = i; number = sym (number_found h n p (entry_value e) f); count = sym (count_found h n p (entry_value e) f); bytes = b })
+
+  pub answer_tells : (r : Extended) (h' : Bytes) → Answered r h' → Tells h' r
+  unfolding extension extension_bytes
+  answer_tells r h' a =
+      subst (Tells h') (sym a.0)
+      (cond_cases (Tells h') (eqb e.index.0 (next_index h p)) (extended h n p (entry_value e)) Extended.NotNext
+      (λ t.
+      longer_tells (eqb-true e.index.0 (next_index h p) t) h'
+      (a.1 ∙ cond_true (eqb e.index.0 (next_index h p)) (extended_bytes h n p e.index.0 (entry_value e)) h t))
+      (λ f.
+      (eqb-false e.index.0 (next_index h p) f, a.1 ∙ cond_false (eqb e.index.0 (next_index h p)) (extended_bytes h n p e.index.0 (entry_value e)) h f)))
 
 count_grows_one : (h : Bytes) (n p : ℕ) (e : Entry) → n ≤ extended_count h n p e
 unfolding extended_count

@@ -1,7 +1,7 @@
 -- An extension of a stored prefix by an entry, found or made: what `extend` answers and writes; and the entries of a front written
 -- one after the other.
 -- Assumes nothing.
-use Rattle.std.specs.Prelude.{ℕ, ◌+◌, ◌-◌, ◌≤◌, ◌<◌, ◌≡◌, cond, List, [], ◌∷◌, ◌++◌, eqb, length, replicate, Option, Some, None}
+use Rattle.std.specs.Prelude.{ℕ, ◌+◌, ◌-◌, ◌≤◌, ◌<◌, ◌≡◌, cond, List, [], ◌∷◌, ◌++◌, eqb, length, replicate}
 use Rattle.model.specs.Entry.{Entry}
 use Rattle.model.specs.Sizes.{Bytes, content_limit, prefix_limit}
 use Rattle.storage.specs.Tables.{prefix_row, prefixes_part}
@@ -30,10 +30,6 @@ stored_content e = e.content ++ replicate (content_limit - length e.content) 0
 abbrev pub appended : Bytes → ℕ → ℕ → Entry → Bytes
 appended h p i e = prefix_appended h p i e.term (length e.content) (stored_content e)
 
--- one that is made is the next row
-abbrev pub made : ℕ → Extended
-made n = record { prefix = witness (n + 1); count = n + 1 }
-
 -- found or made: the history, how many prefixes it holds, and the number of the extension
 unfoldable pub extended_bytes : Bytes → ℕ → ℕ → ℕ → Entry → Bytes
 unfolding extension_in prefix_appended
@@ -47,17 +43,18 @@ unfoldable pub extended_number : Bytes → ℕ → ℕ → Entry → ℕ
 unfolding extension_in
 extended_number h n p e = or_next (extension_in h n p e) n
 
+-- whether it was found or made: one that is made is the next row
 abbrev pub extended : Bytes → ℕ → ℕ → Entry → Extended
-extended h n p e = record { prefix = witness (extended_number h n p e); count = extended_count h n p e }
+extended h n p e = cond (eqb (extension_in h n p e) 0) (Extended.Made (witness (n + 1))) (Extended.Found (witness (extension_in h n p e)))
 
 -- the index after the last of the prefix of number p
 abbrev pub next_index : Bytes → ℕ → ℕ
 next_index h p = number_index (prefixes_part h) p + 1
 
 -- `extend` takes the next index only: the extension, and the history after it; any other entry leaves every byte
-unfoldable pub extension : Bytes → ℕ → ℕ → ShownEntry → Option Extended
-unfolding extended_number extended_count
-extension h n p e = cond (eqb e.index.0 (next_index h p)) (Some (extended h n p (entry_value e))) None
+unfoldable pub extension : Bytes → ℕ → ℕ → ShownEntry → Extended
+unfolding extension_in
+extension h n p e = cond (eqb e.index.0 (next_index h p)) (extended h n p (entry_value e)) Extended.NotNext
 
 unfoldable pub extension_bytes : Bytes → ℕ → ℕ → ShownEntry → Bytes
 unfolding extended_bytes

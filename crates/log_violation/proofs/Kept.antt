@@ -18,7 +18,7 @@ use Rattle.storage.specs.Tables.{finding_row, finding_rows, findings_part}
 use Rattle.storage.specs.Rules.{finding_right}
 use Rattle.storage.specs.Head.{findings_held, put_head_field}
 use Rattle.storage_bytes.proofs.ListLaws.{tabulate_length}
-use Rattle.storage.proofs.Meanings.{Stands, findings_stored, findings_taken}
+use Rattle.storage.proofs.Meanings.{Represents, findings_stored, findings_taken}
 use Rattle.log_violation.specs.Violation.{findings_written, findings_kept}
 use Rattle.log_violation.proofs.ViolationLaws.{written_length}
 
@@ -40,7 +40,7 @@ module _ (h t : Bytes) (n : ℕ) where
 
 -- ---- what they stand for: the findings with those that were noted. As many as before are those of before.
 
-module _ (h : Bytes) (x : History) (s : Stands h x) (t : Bytes) (n : ℕ) (gs : List Finding) where
+module _ (h : Bytes) (x : History) (s : Represents h x) (t : Bytes) (n : ℕ) (gs : List Finding) where
   none_new : finding_rows t n ≡ noted x.findings gs → n ≡ findings_held h → finding_rows t n ≡ x.findings
   unfolding noted
   none_new e c =
@@ -50,9 +50,9 @@ module _ (h : Bytes) (x : History) (s : Stands h x) (t : Bytes) (n : ℕ) (gs : 
       e ∙ all_there same_finding x.findings gs many
 
   pub findings_kept_lem : length t ≡ findings_length → n ≤ finding_limit → every finding_right (finding_rows t n) ≡ true → finding_rows t n ≡ noted x.findings gs
-      → Stands (findings_kept h t n) (with_findings x (finding_rows t n))
+      → Represents (findings_kept h t n) (with_findings x (finding_rows t n))
   unfolding findings_kept findings_written
   findings_kept_lem long few right e =
-      cond_cases (λ (u : Bytes). Stands u (with_findings x (finding_rows t n))) (eqb n (findings_held h)) h (findings_written h t n)
-      (λ b. subst (λ (fs : List Finding). Stands h (with_findings x fs)) (sym (none_new e (eqb-true n (findings_held h) b))) s)
+      cond_cases (λ (u : Bytes). Represents u (with_findings x (finding_rows t n))) (eqb n (findings_held h)) h (findings_written h t n)
+      (λ b. subst (λ (fs : List Finding). Represents h (with_findings x fs)) (sym (none_new e (eqb-true n (findings_held h) b))) s)
       (λ _. findings_taken h x s t n long few right)

@@ -32,7 +32,7 @@ use Rattle.storage.proofs.WriteLaws.{part_written}
 use Rattle.storage.proofs.RowLaws.{rows_append, finding_own, finding_length, finding_back}
 use Rattle.storage.proofs.HeadLaws.{head_kept}
 use Rattle.log_violation.specs.declared.violation.FindingsFull.{FindingsFull}
-use Rattle.log_violation.specs.Violation.{same_numbers, is_noted, note_held, note_bytes, held_all, bytes_all, NotedAll, note_where, findings_written, fits_answer, room_for, room_answer, noted_in, too_many}
+use Rattle.log_violation.specs.Violation.{same_numbers, is_noted, note_held, note_bytes, held_all, bytes_all, NotedAll, note_if, findings_written, fits_answer, room_for, room_answer, noted_in, too_many}
 
 -- ---- whether the findings fit
 
@@ -233,12 +233,12 @@ module _ (t : Bytes) (n : ℕ) (f : Finding) where
 -- ---- a finding that is noted where b is true
 
 module _ (b : Bool) (f : Finding) (t : Bytes) (n : ℕ) where
-  pub where_not : b ≡ false → NotedAll t n (note_where b f) n t
+  pub if_not : b ≡ false → NotedAll t n (note_if b f) n t
   unfolding held_all bytes_all
-  where_not e = let z : note_where b f ≡ [] = cond_false b (f ∷ []) [] e in (sym (ap (held_all t n) z), sym (ap (bytes_all t n) z))
+  if_not e = let z : note_if b f ≡ [] = cond_false b (f ∷ []) [] e in (sym (ap (held_all t n) z), sym (ap (bytes_all t n) z))
 
-  pub where_noted : b ≡ true → (r : ℕ) (u : Bytes) → NotedAll t n (f ∷ []) r u → NotedAll t n (note_where b f) r u
-  where_noted e r u w = subst (λ (fs : List Finding). NotedAll t n fs r u) (sym (cond_true b (f ∷ []) [] e)) w
+  pub if_noted : b ≡ true → (r : ℕ) (u : Bytes) → NotedAll t n (f ∷ []) r u → NotedAll t n (note_if b f) r u
+  if_noted e r u w = subst (λ (fs : List Finding). NotedAll t n fs r u) (sym (cond_true b (f ∷ []) [] e)) w
 
 -- ---- the history's findings, copied and written
 

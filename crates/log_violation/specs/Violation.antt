@@ -50,8 +50,8 @@ abbrev pub NotedAll : Bytes → ℕ → List Finding → ℕ → Bytes → Type 
 NotedAll t n fs held after = (held ≡ held_all t n fs) × (after ≡ bytes_all t n fs)
 
 -- a finding that is noted where b is true
-abbrev pub note_where : Bool → Finding → List Finding
-note_where b f = cond b (f ∷ []) []
+abbrev pub note_if : Bool → Finding → List Finding
+note_if b f = cond b (f ∷ []) []
 
 -- whether n findings fit
 unfoldable pub fits_answer : ℕ → Result ⊤ FindingsFull

@@ -11,23 +11,23 @@ use borrow.Author.Tests.{ne_eqb}
 use Rattle.model.specs.Entry.{Entry, Prefix, same, last_term}
 use Rattle.model.specs.Record.{front_from}
 use Rattle.model.specs.History.{Finding}
-use Rattle.model.specs.View.{begun, remembered, unlike, mismatch, mismatches}
+use Rattle.model.specs.View.{prefixes_from, remembered, differing, mismatch, mismatches}
 use Rattle.model.specs.Sizes.{Bytes, content_limit}
 use Rattle.model.proofs.Tests.{no_same}
-use Rattle.record_entries.specs.Places.{Walk, next_at, shown_at, entries_at, items_at}
+use Rattle.record_entries.specs.BitLayout.{Walk, next_at, shown_at, entries_at, items_at}
 use Rattle.storage.specs.Tables.{PrefixRow}
 use Rattle.storage.specs.Decode.{prefix_at, resolve}
 use Rattle.storage.specs.Rules.{same_row}
 use Rattle.storage.proofs.RowFacts.{Facts, row_at, entry_after, nil≢snoc, snoc_injective}
 use Rattle.log_prefix.specs.Prefix.{row_of, search_from, find, first}
 use Rattle.log_prefix.specs.Comparison.{same_from}
-use Rattle.logical_log.specs.Judging.{differs, other, is_remembered, note_of, lack_notes, next_number, front_at, ends_at, place_from, stored_notes, notes_from}
-use Rattle.logical_log.specs.declared.judging.Place.{Place}
+use Rattle.logical_log.specs.Judging.{differs, other, is_remembered, note_of, lack_notes, next_number, front_at, ends_at, cursor_from, stored_notes, notes_from}
+use Rattle.logical_log.specs.declared.judging.FrontCursor.{FrontCursor}
 use Rattle.log_prefix.specs.Extension.{or_next}
 use Rattle.log_prefix.proofs.PrefixLaws.{Rows, found, missing, first_some, first_none, last_term_snoc}
 use Rattle.log_prefix.proofs.ComparisonLaws.{same_prefix}
 use Rattle.log_prefix.proofs.Extend.{extend_rows, extend_number, extend_all}
-use Rattle.logical_log.proofs.Places.{Turn, gap, lost, more, turn, next, ends_gap, ends_lost, goes_on, place_stays, place_goes, notes_stay, notes_go, front_suc, front_cut, front_zero, walk_more, content_short}
+use Rattle.logical_log.proofs.Cursors.{Turn, gap, lost, more, turn, next, ends_gap, ends_lost, goes_on, cursor_stays, cursor_goes, notes_stay, notes_go, front_suc, front_cut, front_zero, walk_more, content_short}
 
 -- ---- searches that see the same rows find the same
 
@@ -93,20 +93,20 @@ module _ (row : ℕ → PrefixRow) (rs : List PrefixRow) (rows : Rows row rs) wh
       ap (λ (x : ℕ). extend_all (cond (eqb x 0) (rs ++ (row_of p i e ∷ [])) rs) (or_next x (length rs)) (i + 1) es) (found_same p i e)
       ∙ (λ j. extend_all (cond (d j) (rs ++ (row_of p i e ∷ [])) rs) (cond (d j) (length rs + 1) k) (i + 1) es)
 
-  pub missing_made : (s : Bytes) (n at i p : ℕ) → length rs + length (front_at s (place_from row (length rs) s at n i p)) ≡ length (extend_all rs p i (front_from i (entries_at s at n)))
-  unfolding place_from extend_all
+  pub missing_made : (s : Bytes) (n at i p : ℕ) → length rs + length (front_at s (cursor_from row (length rs) s at n i p)) ≡ length (extend_all rs p i (front_from i (entries_at s at n)))
+  unfolding cursor_from extend_all
   missing_made s zero at i p = (let a = front_zero s at i in ap (λ (es : List Entry). length rs + length es) a ∙ (let z : length rs + 0 ≡ length rs = omega arith in z) ∙ sym (ap (λ (es : List Entry). length (extend_all rs p i es)) a))
   missing_made s (suc n) at i p = go (turn row (length rs) s at i p) (missing_made s n (next_at s at) (i + 1) (next row (length rs) s at i p))
     where
       ended : ends_at row (length rs) s at i p ≡ true
           → length rs + length (front_from i (entries_at s at (suc n))) ≡ length (extend_all rs p i (front_from i (entries_at s at (suc n))))
-          → length rs + length (front_at s (place_from row (length rs) s at (suc n) i p)) ≡ length (extend_all rs p i (front_from i (entries_at s at (suc n))))
-      ended e z = ap (λ (r : Place). length rs + length (front_at s r)) (place_stays row (length rs) s at i p n e) ∙ z
+          → length rs + length (front_at s (cursor_from row (length rs) s at (suc n) i p)) ≡ length (extend_all rs p i (front_from i (entries_at s at (suc n))))
+      ended e z = ap (λ (r : FrontCursor). length rs + length (front_at s r)) (cursor_stays row (length rs) s at i p n e) ∙ z
 
       go : Turn row (length rs) s at i p
-          → length rs + length (front_at s (place_from row (length rs) s (next_at s at) n (i + 1) (next row (length rs) s at i p)))
+          → length rs + length (front_at s (cursor_from row (length rs) s (next_at s at) n (i + 1) (next row (length rs) s at i p)))
           ≡ length (extend_all rs (next row (length rs) s at i p) (i + 1) (front_from (i + 1) (entries_at s (next_at s at) n)))
-          → length rs + length (front_at s (place_from row (length rs) s at (suc n) i p)) ≡ length (extend_all rs p i (front_from i (entries_at s at (suc n))))
+          → length rs + length (front_at s (cursor_from row (length rs) s at (suc n) i p)) ≡ length (extend_all rs p i (front_from i (entries_at s at (suc n))))
       go (gap g) ih =
           ended (ends_gap row (length rs) s at i p g)
           (subst (λ (es : List Entry). length rs + length es ≡ length (extend_all rs p i es)) (sym (front_cut s at n i g)) (let z : length rs + 0 ≡ length rs = omega arith in z))
@@ -114,7 +114,7 @@ module _ (row : ℕ → PrefixRow) (rs : List PrefixRow) (rows : Rows row rs) wh
           ended (ends_lost row (length rs) s at i p g z)
           (subst (λ (es : List Entry). length rs + length es ≡ length (extend_all rs p i es)) (sym (front_suc s at n i g)) (all_made p i (shown_at s at).entry (front_from (i + 1) (entries_at s (next_at s at) n)) z))
       go (more g z) ih =
-          ap (λ (r : Place). length rs + length (front_at s r)) (place_goes row (length rs) s at i p n (goes_on row (length rs) s at i p g z))
+          ap (λ (r : FrontCursor). length rs + length (front_at s r)) (cursor_goes row (length rs) s at i p n (goes_on row (length rs) s at i p g z))
           ∙ ih
           ∙ sym (ap length (ap (extend_all rs p i) (front_suc s at n i g) ∙ not_made p i (shown_at s at).entry (front_from (i + 1) (entries_at s (next_at s at) n)) z))
 
@@ -161,18 +161,18 @@ module _ (row : ℕ → PrefixRow) (rs : List PrefixRow) (f : Facts rs) (at : Ro
 
     -- a remembered prefix, of number suc x, and whether it differs from q
     by_same : (x : ℕ) (b : Bool) → first row (length rs) i t ≡ suc x → not (same (prefix_at (resolve rs) (suc x)) q) ≡ b
-        → note_of b n i t ≡ unlike n q (remembered (resolve rs) i t)
+        → note_of b n i t ≡ differing n q (remembered (resolve rs) i t)
     by_same x b z d =
         ap (λ (y : Bool). note_of y n i t) (sym d)
         ∙ sym (same_lg3 (same (prefix_at (resolve rs) (suc x)) q))
-        ∙ sym (ap (unlike n q) (first_some rs f row at i t x z).1)
+        ∙ sym (ap (differing n q) (first_some rs f row at i t x z).1)
 
-    by_none : first row (length rs) i t ≡ 0 → (b : Bool) → b ≡ false → note_of b n i t ≡ unlike n q (remembered (resolve rs) i t)
-    by_none z b w = ap (λ (y : Bool). note_of y n i t) w ∙ sym (ap (unlike n q) (first_none rs f row at i t z))
+    by_none : first row (length rs) i t ≡ 0 → (b : Bool) → b ≡ false → note_of b n i t ≡ differing n q (remembered (resolve rs) i t)
+    by_none z b w = ap (λ (y : Bool). note_of y n i t) w ∙ sym (ap (differing n q) (first_none rs f row at i t z))
 
-    is_mismatch : unlike n q (remembered (resolve rs) i t) ≡ mismatch (resolve rs) n q
+    is_mismatch : differing n q (remembered (resolve rs) i t) ≡ mismatch (resolve rs) n q
     unfolding mismatch
-    is_mismatch = (let a = sym long in let b = sym term in λ j. unlike n q (remembered (resolve rs) (a j) (b j)))
+    is_mismatch = (let a = sym long in let b = sym term in λ j. differing n q (remembered (resolve rs) (a j) (b j)))
 
     -- its prefix is stored
     noted_entry : (k : ℕ) → Numbers k q → note_of (other row (length rs) i t k) n i t ≡ mismatch (resolve rs) n q
@@ -180,7 +180,7 @@ module _ (row : ℕ → PrefixRow) (rs : List PrefixRow) (f : Facts rs) (at : Ro
     noted_entry k m = go (first row (length rs) i t) refl ∙ is_mismatch
       where
         go : (x : ℕ) → first row (length rs) i t ≡ x
-            → note_of (not (eqb (first row (length rs) i t) 0) && not (same_from row (first row (length rs) i t) (first row (length rs) i t) k)) n i t ≡ unlike n q (remembered (resolve rs) i t)
+            → note_of (not (eqb (first row (length rs) i t) 0) && not (same_from row (first row (length rs) i t) (first row (length rs) i t) k)) n i t ≡ differing n q (remembered (resolve rs) i t)
         go zero z =
             by_none z _ (ap (λ (x : ℕ). not (eqb x 0) && not (same_from row x x k)) z)
         go (suc x) z =
@@ -196,7 +196,7 @@ module _ (row : ℕ → PrefixRow) (rs : List PrefixRow) (f : Facts rs) (at : Ro
     unfolding is_remembered
     lacking_entry u = go (first row (length rs) i t) refl ∙ is_mismatch
       where
-        go : (x : ℕ) → first row (length rs) i t ≡ x → note_of (not (eqb (first row (length rs) i t) 0)) n i t ≡ unlike n q (remembered (resolve rs) i t)
+        go : (x : ℕ) → first row (length rs) i t ≡ x → note_of (not (eqb (first row (length rs) i t) 0)) n i t ≡ differing n q (remembered (resolve rs) i t)
         go zero z = by_none z _ (ap (λ (x : ℕ). not (eqb x 0)) z)
         go (suc x) z =
             let a : eqb (suc x) 0 ≡ false = ne_eqb (suc x) 0 (λ w. omega arith) in
@@ -212,8 +212,8 @@ module _ (row : ℕ → PrefixRow) (rs : List PrefixRow) (f : Facts rs) (at : Ro
 
   -- after a prefix that is not stored
   lack_are : (n : ℕ) (es : List Entry) (q : Prefix) (i : ℕ) → length q + 1 ≡ i → Unstored q
-      → lack_notes row (length rs) n i es ≡ mismatches (resolve rs) n (begun q es)
-  unfolding lack_notes mismatches begun
+      → lack_notes row (length rs) n i es ≡ mismatches (resolve rs) n (prefixes_from q es)
+  unfolding lack_notes mismatches prefixes_from
   lack_are n [] q i long u = refl
   lack_are n (e ∷ es) q i long u =
       let next = q ++ (e ∷ []) in
@@ -224,8 +224,8 @@ module _ (row : ℕ → PrefixRow) (rs : List PrefixRow) (f : Facts rs) (at : Ro
 
   -- from an entry on whose prefix is not stored
   lost_are : (n : ℕ) (e : Entry) (es : List Entry) (q : Prefix) (i : ℕ) → length q + 1 ≡ i → Unstored (q ++ (e ∷ []))
-      → lack_notes row (length rs) n i (e ∷ es) ≡ mismatches (resolve rs) n (begun q (e ∷ es))
-  unfolding lack_notes mismatches begun
+      → lack_notes row (length rs) n i (e ∷ es) ≡ mismatches (resolve rs) n (prefixes_from q (e ∷ es))
+  unfolding lack_notes mismatches prefixes_from
   lost_are n e es q i long u =
       let len = next_length q e i long in
       let a = lacking_entry n (q ++ (e ∷ [])) i e.term len (last_term_snoc q e) u in
@@ -234,16 +234,16 @@ module _ (row : ℕ → PrefixRow) (rs : List PrefixRow) (f : Facts rs) (at : Ro
 
   -- from an entry on whose prefix is stored
   stored_are : (n : ℕ) (e : Entry) (es : List Entry) (q : Prefix) (i k : ℕ) → length q + 1 ≡ i → Numbers k (q ++ (e ∷ [])) → (fs : List Finding)
-      → fs ≡ mismatches (resolve rs) n (begun (q ++ (e ∷ [])) es)
-      → note_of (other row (length rs) i e.term k) n i e.term ++ fs ≡ mismatches (resolve rs) n (begun q (e ∷ es))
-  unfolding mismatches begun
+      → fs ≡ mismatches (resolve rs) n (prefixes_from (q ++ (e ∷ [])) es)
+      → note_of (other row (length rs) i e.term k) n i e.term ++ fs ≡ mismatches (resolve rs) n (prefixes_from q (e ∷ es))
+  unfolding mismatches prefixes_from
   stored_are n e es q i k long m fs b =
       let a = noted_entry n (q ++ (e ∷ [])) i e.term (next_length q e i long) (last_term_snoc q e) k m in
       λ j. a j ++ b j
 
   pub notes_are : (n : ℕ) (s : Bytes) (m k i p : ℕ) (q : Prefix) → Walk s k m → length q + 1 ≡ i → Numbers p q
-      → notes_from row (length rs) n s k m i p ≡ mismatches (resolve rs) n (begun q (front_from i (entries_at s k m)))
-  unfolding stored_notes place_from mismatches begun lack_notes front_from items_at
+      → notes_from row (length rs) n s k m i p ≡ mismatches (resolve rs) n (prefixes_from q (front_from i (entries_at s k m)))
+  unfolding stored_notes cursor_from mismatches prefixes_from lack_notes front_from items_at
   notes_are n s zero k i p q w long y = refl
   notes_are n s (suc m) k i p q w long y =
       go (turn row (length rs) s k i p)
@@ -261,16 +261,16 @@ module _ (row : ℕ → PrefixRow) (rs : List PrefixRow) (f : Facts rs) (at : Ro
       go : Turn row (length rs) s k i p
           → ((next row (length rs) s k i p ≡ 0 → ⊥)
           → notes_from row (length rs) n s (next_at s k) m (i + 1) (next row (length rs) s k i p)
-          ≡ mismatches (resolve rs) n (begun (q ++ (e ∷ [])) es))
-          → notes_from row (length rs) n s k (suc m) i p ≡ mismatches (resolve rs) n (begun q (front_from i (entries_at s k (suc m))))
+          ≡ mismatches (resolve rs) n (prefixes_from (q ++ (e ∷ [])) es))
+          → notes_from row (length rs) n s k (suc m) i p ≡ mismatches (resolve rs) n (prefixes_from q (front_from i (entries_at s k (suc m))))
       go (gap g) ih =
           notes_stay row (length rs) s k i p m n (ends_gap row (length rs) s k i p g)
-          ∙ subst (λ (xs : List Entry). lack_notes row (length rs) n i xs ≡ mismatches (resolve rs) n (begun q xs)) (sym (front_cut s k m i g)) refl
+          ∙ subst (λ (xs : List Entry). lack_notes row (length rs) n i xs ≡ mismatches (resolve rs) n (prefixes_from q xs)) (sym (front_cut s k m i g)) refl
       go (lost g z) ih =
           notes_stay row (length rs) s k i p m n (ends_lost row (length rs) s k i p g z)
-          ∙ subst (λ (xs : List Entry). lack_notes row (length rs) n i xs ≡ mismatches (resolve rs) n (begun q xs)) (sym (front_suc s k m i g))
+          ∙ subst (λ (xs : List Entry). lack_notes row (length rs) n i xs ≡ mismatches (resolve rs) n (prefixes_from q xs)) (sym (front_suc s k m i g))
           (lost_are n e es q i long (next_none q p e short y z))
       go (more g z) ih =
           notes_go row (length rs) s k i p m n (goes_on row (length rs) s k i p g z)
           ∙ stored_are n e es q i (next row (length rs) s k i p) long (next_some q p e short y z) (notes_from row (length rs) n s (next_at s k) m (i + 1) (next row (length rs) s k i p)) (ih z)
-          ∙ sym (ap (λ (xs : List Entry). mismatches (resolve rs) n (begun q xs)) (front_suc s k m i g))
+          ∙ sym (ap (λ (xs : List Entry). mismatches (resolve rs) n (prefixes_from q xs)) (front_suc s k m i g))

@@ -2,7 +2,7 @@ pub mod Whole
 pub mod Stored
 pub mod Meaning
 pub mod Judge
-pub mod Places
+pub mod Cursors
 pub mod Turns
 pub mod Rest
 pub mod Judged

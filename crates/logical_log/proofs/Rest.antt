@@ -12,7 +12,7 @@ use borrow.Author.Tests.{ne_eqb}
 use Rattle.model.specs.Entry.{Entry}
 use Rattle.model.specs.Record.{front_from, front, last_from, last_index}
 use Rattle.model.specs.Sizes.{Bytes, content_limit}
-use Rattle.record_entries.specs.Places.{Walk, first_entry, index_at, next_at, shown_at, entries_at, items_at}
+use Rattle.record_entries.specs.BitLayout.{Walk, first_entry, index_at, next_at, shown_at, entries_at, items_at}
 use Rattle.storage.specs.Tables.{PrefixRow, prefix_row, rows_of_prefixes, prefixes_part}
 use Rattle.storage.specs.Values.{number_index}
 use Rattle.storage.specs.Decode.{prefix_at, resolve}
@@ -23,12 +23,12 @@ use Rattle.log_prefix.proofs.PrefixLaws.{found}
 use Rattle.log_prefix.proofs.TableLaws.{rows_length, rows_at}
 use Rattle.log_prefix.specs.Extension.{next_index, extension_in, written_bytes, written_count, written_number}
 use Rattle.log_prefix.proofs.Written.{number_found, count_found, bytes_found, written_cons}
-use Rattle.logical_log.specs.Judging.{next_number, place_at, front_at, last_at, Stand, place_in}
-use Rattle.logical_log.specs.declared.judging.Place.{Place}
-use Rattle.logical_log.proofs.Places.{next, place_keeps, front_suc, content_short, stand_next, first_stands}
+use Rattle.logical_log.specs.Judging.{next_number, cursor_at, front_at, last_at, Walkable, cursor_in}
+use Rattle.logical_log.specs.declared.judging.FrontCursor.{FrontCursor}
+use Rattle.logical_log.proofs.Cursors.{next, cursor_keeps, front_suc, content_short, walkable_next, first_walkable}
 
 -- a place of a view of m entries such that what is before it writes nothing
-pub record Rest (h s : Bytes) (m : ℕ) (r : Place) : Type 0 where
+pub record Rest (h s : Bytes) (m : ℕ) (r : FrontCursor) : Type 0 where
   pub bytes : written_bytes h (prefixes_held h) 0 1 (front (entries_at s first_entry m)) ≡ written_bytes h (prefixes_held h) r.prefix.0 r.index.0 (front_at s r)
   pub counts : written_count h (prefixes_held h) 0 1 (front (entries_at s first_entry m)) ≡ written_count h (prefixes_held h) r.prefix.0 r.index.0 (front_at s r)
   pub number : written_number h (prefixes_held h) 0 1 (front (entries_at s first_entry m)) ≡ written_number h (prefixes_held h) r.prefix.0 r.index.0 (front_at s r)
@@ -69,8 +69,8 @@ module _ (h : Bytes) (f : Formed h) (s : Bytes) (m : ℕ) where
   last_suc at n d = refl
 
   -- past an entry whose prefix is stored
-  rest_next : (n at i p : ℕ) → Stand s count (place_at at (suc n) i p) → Rest h s m (place_at at (suc n) i p) → index_at s at ≡ i → (number_at at i p ≡ 0 → ⊥)
-      → Rest h s m (place_at (next_at s at) n (i + 1) (number_at at i p))
+  rest_next : (n at i p : ℕ) → Walkable s count (cursor_at at (suc n) i p) → Rest h s m (cursor_at at (suc n) i p) → index_at s at ≡ i → (number_at at i p ≡ 0 → ⊥)
+      → Rest h s m (cursor_at (next_at s at) n (i + 1) (number_at at i p))
   rest_next n at i p st w g z =
       let e = (shown_at s at).entry in
       let R = front_from (i + 1) (entries_at s (next_at s at) n) in
@@ -89,12 +89,12 @@ module _ (h : Bytes) (f : Formed h) (s : Bytes) (m : ℕ) where
       }
 
   -- the walk's own place is one
-  pub rest_of : Walk s first_entry m → Rest h s m (place_in h s m)
-  unfolding place_in
+  pub rest_of : Walk s first_entry m → Rest h s m (cursor_in h s m)
+  unfolding cursor_in
   rest_of w =
-      (place_keeps row count s (λ (r : Place). Stand s count r × Rest h s m r)
-      (λ n at i p k g z. (stand_next row count s n at i p k.0 g, rest_next n at i p k.0 k.1 g z)) m first_entry 1 0
-      (first_stands s count m w, record { bytes = refl; counts = refl; number = refl; last = refl; next = first })).1
+      (cursor_keeps row count s (λ (r : FrontCursor). Walkable s count r × Rest h s m r)
+      (λ n at i p k g z. (walkable_next row count s n at i p k.0 g, rest_next n at i p k.0 k.1 g z)) m first_entry 1 0
+      (first_walkable s count m w, record { bytes = refl; counts = refl; number = refl; last = refl; next = first })).1
     where
       first : 1 ≡ next_index h 0
       first = (unfold number_index in refl)

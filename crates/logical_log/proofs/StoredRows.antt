@@ -21,7 +21,7 @@ use Rattle.storage.specs.Head.{prefixes_held}
 use Rattle.storage.proofs.RowFacts.{row_at, resolve_snoc, resolve_count}
 use Rattle.storage.proofs.DecodeLaws.{row_facts}
 use Rattle.storage.proofs.WellFormed.{rows_count}
-use Rattle.storage.proofs.Meanings.{Stands, prefix_written, prefixes_read, prefixes_is, kept}
+use Rattle.storage.proofs.Meanings.{Represents, prefix_written, prefixes_read, prefixes_is, kept}
 use Rattle.log_prefix.specs.Prefix.{row_of, find}
 use Rattle.log_prefix.specs.Extension.{extension_in, stored_content, extended_bytes, extended_count, extended_number}
 use Rattle.log_prefix.proofs.PrefixLaws.{Rows}
@@ -32,7 +32,7 @@ use Rattle.log_prefix.proofs.Written.{number_found, number_made, count_found, co
 
 -- ---- the rows of bytes that stand for a history
 
-module _ (h : Bytes) (x : History) (s : Stands h x) where
+module _ (h : Bytes) (x : History) (s : Represents h x) where
   pub rows_good : Good (tables_of h).rows
   rows_good = record { right = (kept h x s).rows; known = row_facts h (kept h x s) }
 
@@ -44,12 +44,12 @@ module _ (h : Bytes) (x : History) (s : Stands h x) where
 
 -- what the extension of p by e leads to
 pub record Step (h : Bytes) (x : History) (n p : ℕ) (e : Entry) (h' : Bytes) (n' p' : ℕ) : Type 0 where
-  pub stands : Stands h' (with_prefixes x (with prefixes x.prefixes (prefix_at x.prefixes p ++ (e ∷ []))))
+  pub represents : Represents h' (with_prefixes x (with prefixes x.prefixes (prefix_at x.prefixes p ++ (e ∷ []))))
   pub holds : n' ≡ prefixes_held h'
   pub within : p' ≤ n'
   pub is : prefix_at (with prefixes x.prefixes (prefix_at x.prefixes p ++ (e ∷ []))) p' ≡ prefix_at x.prefixes p ++ (e ∷ [])
 
-module _ (h : Bytes) (x : History) (s : Stands h x) (n p i : ℕ) (e : Entry) (en : n ≡ prefixes_held h) (hp : p ≤ n)
+module _ (h : Bytes) (x : History) (s : Represents h x) (n p i : ℕ) (e : Entry) (en : n ≡ prefixes_held h) (hp : p ≤ n)
     (next : length (prefix_at x.prefixes p) + 1 ≡ i) (small : i ≤ index_limit) (short : length e.content ≤ content_limit) (term : e.term < term_end)
     (room : extended_count h n p e ≤ prefix_limit) where
   same_prefixes : resolve (tables_of h).rows ≡ x.prefixes
@@ -93,8 +93,8 @@ module _ (h : Bytes) (x : History) (s : Stands h x) (n p i : ℕ) (e : Entry) (e
       let number : extended_number h n p e ≡ extend_number (tables_of h).rows p i e =
       number_found h n p e f ∙ same_search ∙ sym (cond_false _ (length (tables_of h).rows + 1) _ g) in
       record {
-        stands = subst (λ (u : Bytes). Stands u (with_prefixes x (with prefixes x.prefixes Q))) (sym (bytes_found h n p i e f))
-            (subst (λ (ps : List Prefix). Stands h (with_prefixes x ps)) list s);
+        represents = subst (λ (u : Bytes). Represents u (with_prefixes x (with prefixes x.prefixes Q))) (sym (bytes_found h n p i e f))
+            (subst (λ (ps : List Prefix). Represents h (with_prefixes x ps)) list s);
         holds = count_found h n p e f ∙ en ∙ sym (ap (λ (u : Bytes). prefixes_held u) (bytes_found h n p i e f));
         within =
             (let a = extended_rows.within in let b = ap length same_rows in let c = count in let d = number in let m = count_found h n p e f in omega arith);
@@ -134,9 +134,9 @@ module _ (h : Bytes) (x : History) (s : Stands h x) (n p i : ℕ) (e : Entry) (e
       let right = ap (prefix_right (tables_of h).rows) row_is
       ∙ right_row (tables_of h).rows (rows_good h x s) p i e (subst (λ (m : ℕ). p ≤ m) (sym count) hp)
       (ap (λ (ps : List Prefix). length (prefix_at ps p) + 1) same_prefixes ∙ next) small short (sym same_search ∙ z) in
-      let after : Stands (extended_bytes h n p i e) (with_prefixes x (with prefixes x.prefixes Q)) =
-      subst (λ (u : Bytes). Stands u (with_prefixes x (with prefixes x.prefixes Q))) (sym (bytes_made h n p i e t))
-      (subst (λ (ps : List Prefix). Stands (prefix_appended h p i e.term (length e.content) (stored_content e)) (with_prefixes x ps)) list
+      let after : Represents (extended_bytes h n p i e) (with_prefixes x (with prefixes x.prefixes Q)) =
+      subst (λ (u : Bytes). Represents u (with_prefixes x (with prefixes x.prefixes Q))) (sym (bytes_made h n p i e t))
+      (subst (λ (ps : List Prefix). Represents (prefix_appended h p i e.term (length e.content) (stored_content e)) (with_prefixes x ps)) list
       (prefix_written h x s p i e.term (length e.content) (stored_content e) (subst (λ (m : ℕ). m < prefix_limit) en l) (row_fits l) right)) in
       let number : extended_number h n p e ≡ extend_number (tables_of h).rows p i e =
       number_made h n p e t ∙ ap (λ (m : ℕ). m + 1) (sym count) ∙ sym (cond_true _ (length (tables_of h).rows + 1) _ g) in
@@ -144,7 +144,7 @@ module _ (h : Bytes) (x : History) (s : Stands h x) (n p i : ℕ) (e : Entry) (e
       ap length (sym list) ∙ length-append x.prefixes (extended x.prefixes row ∷ [])
       ∙ ap (λ (m : ℕ). m + 1) (ap length (sym same_prefixes) ∙ resolve_count (tables_of h).rows ∙ count) in
       record {
-        stands = after;
+        represents = after;
         holds = counts ∙ sym size ∙ sym (ap (λ (y : History). length y.prefixes) after.decodes) ∙ prefixes_read (extended_bytes h n p i e);
         within = (let a = number_made h n p e t in omega arith);
         is = ap (prefix_at (with prefixes x.prefixes Q)) number ∙ number_is;

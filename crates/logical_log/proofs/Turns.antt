@@ -13,7 +13,7 @@ use Rattle.model.specs.Record.{front_from}
 use Rattle.model.specs.History.{Finding}
 use Rattle.model.specs.Sizes.{Bytes, index_limit, content_limit}
 use Rattle.record_entries.specs.declared.walk.ShownEntry.{ShownEntry}
-use Rattle.record_entries.specs.Places.{Walk, first_entry, index_at, term_at, length_at, content_at, next_at, shown_at, entries_at}
+use Rattle.record_entries.specs.BitLayout.{Walk, first_entry, index_at, term_at, length_at, content_at, next_at, shown_at, entries_at}
 use Rattle.record_entries.specs.Values.{shown_entry}
 use Rattle.record_bits.proofs.Widths.{bytes_length}
 use Rattle.record_entries.proofs.Walks.{next_walk, walk_entered, here, entry_content}
@@ -23,15 +23,15 @@ use Rattle.log_prefix.specs.Table.{entry_value}
 use Rattle.storage_rows.specs.declared.findings.Found.{Found}
 use Rattle.storage_rows.specs.Rows.{finding_value}
 use Rattle.log_violation.specs.declared.violation.Notes.{Notes}
-use Rattle.log_violation.specs.Violation.{held_all, bytes_all, NotedAll, note_where}
+use Rattle.log_violation.specs.Violation.{held_all, bytes_all, NotedAll, note_if}
 use Rattle.log_prefix.specs.Prefix.{witness, stored_of, first}
 use Rattle.units.specs.declared.LogPrefixWitness.{LogPrefixWitness}
 use Rattle.log_prefix.specs.Comparison.{same_from}
-use Rattle.logical_log.specs.Judging.{differs, other, is_remembered, note_of, lack_notes, next_number, place_at, front_at, Stand, ends_at, place_from, stored_notes, ReachedAs, LackingAs}
-use Rattle.logical_log.specs.declared.judging.Place.{Place}
+use Rattle.logical_log.specs.Judging.{differs, other, is_remembered, note_of, lack_notes, next_number, cursor_at, front_at, Walkable, ends_at, cursor_from, stored_notes, ReachedAs, LackingAs}
+use Rattle.logical_log.specs.declared.judging.FrontCursor.{FrontCursor}
 use Rattle.log_prefix.proofs.StoredLaws.{stored_number, stored_nothing}
-use Rattle.log_violation.proofs.ViolationLaws.{where_not, where_noted, held_then, bytes_then}
-use Rattle.logical_log.proofs.Places.{front_suc, front_cut, front_zero, ends_gap, ends_lost, goes_on, place_stays, place_goes, stored_stays, stored_goes, stand_next, first_stands}
+use Rattle.log_violation.proofs.ViolationLaws.{if_not, if_noted, held_then, bytes_then}
+use Rattle.logical_log.proofs.Cursors.{front_suc, front_cut, front_zero, ends_gap, ends_lost, goes_on, cursor_stays, cursor_goes, stored_stays, stored_goes, walkable_next, first_walkable}
 use Rattle.std.specs.Prelude.{Option, Some, None, is_some}
 
 -- ---- whether another prefix is remembered
@@ -125,54 +125,54 @@ module _ (s : Bytes) (at left i : ℕ) (w : Walk s at left) (h : 0 < left) (e : 
 
 module _ (b : Bool) (f : Finding) (old new : Notes) where
   pub told : b ≡ true → (x : Found) → finding_value x ≡ f → (u : Notes) → new ≡ u → NotedAll old.rows old.held (finding_value x ∷ []) u.held u.rows
-      → NotedAll old.rows old.held (note_where b f) new.held new.rows
+      → NotedAll old.rows old.held (note_if b f) new.held new.rows
   told t x e u s w =
-      subst (λ (v : Notes). NotedAll old.rows old.held (note_where b f) v.held v.rows) (sym s)
-      (where_noted b f old.rows old.held t _ _ (subst (λ (g : Finding). NotedAll old.rows old.held (g ∷ []) u.held u.rows) e w))
+      subst (λ (v : Notes). NotedAll old.rows old.held (note_if b f) v.held v.rows) (sym s)
+      (if_noted b f old.rows old.held t _ _ (subst (λ (g : Finding). NotedAll old.rows old.held (g ∷ []) u.held u.rows) e w))
 
-  pub untold : b ≡ false → new ≡ old → NotedAll old.rows old.held (note_where b f) new.held new.rows
+  pub untold : b ≡ false → new ≡ old → NotedAll old.rows old.held (note_if b f) new.held new.rows
   untold t s =
-      subst (λ (v : Notes). NotedAll old.rows old.held (note_where b f) v.held v.rows) (sym s) (where_not b f old.rows old.held t)
+      subst (λ (v : Notes). NotedAll old.rows old.held (note_if b f) v.held v.rows) (sym s) (if_not b f old.rows old.held t)
 
 -- ---- the walk along the stored prefixes
 
 module _ (ps : Bytes) (count : ℕ) (s : Bytes) where
   -- the place where it ends, and its LG-03, from a place on
-  abbrev End : Place → Place
-  End x = place_from (prefix_row ps) count s x.at x.left x.index.0 x.prefix.0
+  abbrev End : FrontCursor → FrontCursor
+  End x = cursor_from (prefix_row ps) count s x.at x.left x.index.0 x.prefix.0
 
-  abbrev Noted : ℕ → Place → List Finding
+  abbrev Noted : ℕ → FrontCursor → List Finding
   Noted node x = stored_notes (prefix_row ps) count node s x.at x.left x.index.0 x.prefix.0
 
-pub record Judging (ps : Bytes) (count : ℕ) (s : Bytes) (entries node : ℕ) (t₀ : Bytes) (held : ℕ) (t : Bytes) (x : Place) (n : ℕ) : Type 0 where
-  pub place : End ps count s (place_at first_entry entries 1 0) ≡ End ps count s x
-  pub holds : held_all t₀ held (Noted ps count s node (place_at first_entry entries 1 0)) ≡ held_all t n (Noted ps count s node x)
-  pub table : bytes_all t₀ held (Noted ps count s node (place_at first_entry entries 1 0)) ≡ bytes_all t n (Noted ps count s node x)
-  pub stands : Stand s count x
+pub record Judging (ps : Bytes) (count : ℕ) (s : Bytes) (entries node : ℕ) (t₀ : Bytes) (held : ℕ) (t : Bytes) (x : FrontCursor) (n : ℕ) : Type 0 where
+  pub cursor : End ps count s (cursor_at first_entry entries 1 0) ≡ End ps count s x
+  pub holds : held_all t₀ held (Noted ps count s node (cursor_at first_entry entries 1 0)) ≡ held_all t n (Noted ps count s node x)
+  pub table : bytes_all t₀ held (Noted ps count s node (cursor_at first_entry entries 1 0)) ≡ bytes_all t n (Noted ps count s node x)
+  pub walkable : Walkable s count x
 
 module _ (ps : Bytes) (count : ℕ) (s : Bytes) (entries node : ℕ) (t₀ : Bytes) (held : ℕ) where
-  pub judging_starts : Walk s first_entry entries → (x : Place) → x ≡ place_at first_entry entries 1 0
+  pub judging_starts : Walk s first_entry entries → (x : FrontCursor) → x ≡ cursor_at first_entry entries 1 0
       → Judging ps count s entries node t₀ held t₀ x held
   judging_starts w x ex =
-      subst (λ (y : Place). Judging ps count s entries node t₀ held t₀ y held) (sym ex)
-      (record { place = refl; holds = refl; table = refl; stands = first_stands s count entries w })
+      subst (λ (y : FrontCursor). Judging ps count s entries node t₀ held t₀ y held) (sym ex)
+      (record { cursor = refl; holds = refl; table = refl; walkable = first_walkable s count entries w })
 
-  module _ (t : Bytes) (x : Place) (n : ℕ) (j : Judging ps count s entries node t₀ held t x n) where
+  module _ (t : Bytes) (x : FrontCursor) (n : ℕ) (j : Judging ps count s entries node t₀ held t x n) where
     ends : End ps count s x ≡ x → Noted ps count s node x ≡ [] → ReachedAs ps count s entries node t₀ held n x t
     unfolding held_all bytes_all
     ends e z =
         record {
-          place = sym (j.place ∙ e);
+          cursor = sym (j.cursor ∙ e);
           holds = sym (j.holds ∙ ap (held_all t n) z);
           table = sym (j.table ∙ ap (bytes_all t n) z);
         }
 
     -- the place with so many entries left
-    abbrev With : ℕ → Place
-    With m = place_at x.at m x.index.0 x.prefix.0
+    abbrev With : ℕ → FrontCursor
+    With m = cursor_at x.at m x.index.0 x.prefix.0
 
     pub judging_none : x.left ≤ 0 → ReachedAs ps count s entries node t₀ held n x t
-    unfolding place_from stored_notes
+    unfolding cursor_from stored_notes
     judging_none l =
         let z : x ≡ With 0 = ap With (let y : x.left ≡ 0 = omega arith in y) in
         ends (ap (End ps count s) z ∙ sym z) (ap (Noted ps count s node) z)
@@ -184,7 +184,7 @@ module _ (ps : Bytes) (count : ℕ) (s : Bytes) (entries node : ℕ) (t₀ : Byt
       ends_here : ends_at (prefix_row ps) count s x.at x.index.0 x.prefix.0 ≡ true → ReachedAs ps count s entries node t₀ held n x t
       ends_here e =
           ends
-          (ap (End ps count s) one_left ∙ place_stays (prefix_row ps) count s x.at x.index.0 x.prefix.0 (x.left - 1) e ∙ sym one_left)
+          (ap (End ps count s) one_left ∙ cursor_stays (prefix_row ps) count s x.at x.index.0 x.prefix.0 (x.left - 1) e ∙ sym one_left)
           (ap (Noted ps count s node) one_left ∙ stored_stays (prefix_row ps) count s x.at x.index.0 x.prefix.0 (x.left - 1) node e)
 
       module _ (e : ShownEntry) (q : e ≡ shown_entry s x.at) where
@@ -199,7 +199,7 @@ module _ (ps : Bytes) (count : ℕ) (s : Bytes) (entries node : ℕ) (t₀ : Byt
           here_index = sym index_read ∙ g
 
           value : entry_value e ≡ (shown_at s x.at).entry
-          value = entry_read s x.at e q (here s x.at x.left j.stands.walk h).short
+          value = entry_read s x.at e q (here s x.at x.left j.walkable.walk h).short
 
           pub judging_lost : next_number (prefix_row ps) count x.prefix.0 (entry_value e) ≡ 0 → ReachedAs ps count s entries node t₀ held n x t
           judging_lost z =
@@ -208,15 +208,15 @@ module _ (ps : Bytes) (count : ℕ) (s : Bytes) (entries node : ℕ) (t₀ : Byt
           pub judging_next : (k : ℕ) → k ≡ next_number (prefix_row ps) count x.prefix.0 (entry_value e) → (next_number (prefix_row ps) count x.prefix.0 (entry_value e) ≡ 0 → ⊥)
               → (b : Bool) → b ≡ other (prefix_row ps) count e.index.0 e.term.0 k
               → (n' : ℕ) (t' : Bytes) → NotedAll t n (note_of b node e.index.0 e.term.0) n' t'
-              → (y : Place) → y ≡ place_at e.next (x.left - 1) (x.index.0 + 1) k
+              → (y : FrontCursor) → y ≡ cursor_at e.next (x.left - 1) (x.index.0 + 1) k
               → Judging ps count s entries node t₀ held t' y n'
           judging_next k ek z b eb n' t' en y ey =
               record {
-                place = j.place ∙ ap (End ps count s) one_left ∙ place_goes (prefix_row ps) count s x.at x.index.0 x.prefix.0 (x.left - 1) goes ∙ ap (End ps count s) after;
+                cursor = j.cursor ∙ ap (End ps count s) one_left ∙ cursor_goes (prefix_row ps) count s x.at x.index.0 x.prefix.0 (x.left - 1) goes ∙ ap (End ps count s) after;
                 holds = j.holds ∙ ap (held_all t n) noted ∙ held_then t n _ n' t' en _;
                 table = j.table ∙ ap (bytes_all t n) noted ∙ bytes_then t n _ n' t' en _;
-                stands = subst (Stand s count) after
-                    (stand_next (prefix_row ps) count s (x.left - 1) x.at x.index.0 x.prefix.0 (subst (Stand s count) one_left j.stands) here_index);
+                walkable = subst (Walkable s count) after
+                    (walkable_next (prefix_row ps) count s (x.left - 1) x.at x.index.0 x.prefix.0 (subst (Walkable s count) one_left j.walkable) here_index);
               }
             where
               number : next_number (prefix_row ps) count x.prefix.0 (shown_at s x.at).entry ≡ k
@@ -225,8 +225,8 @@ module _ (ps : Bytes) (count : ℕ) (s : Bytes) (entries node : ℕ) (t₀ : Byt
               next : next_at s x.at ≡ e.next
               next = sym (ap (λ (v : ShownEntry). v.next) q)
 
-              after : place_at (next_at s x.at) (x.left - 1) (x.index.0 + 1) (next_number (prefix_row ps) count x.prefix.0 (shown_at s x.at).entry) ≡ y
-              after = (λ i. place_at (next i) (x.left - 1) (x.index.0 + 1) (number i)) ∙ sym ey
+              after : cursor_at (next_at s x.at) (x.left - 1) (x.index.0 + 1) (next_number (prefix_row ps) count x.prefix.0 (shown_at s x.at).entry) ≡ y
+              after = (λ i. cursor_at (next i) (x.left - 1) (x.index.0 + 1) (number i)) ∙ sym ey
 
               goes : ends_at (prefix_row ps) count s x.at x.index.0 x.prefix.0 ≡ false
               goes = goes_on (prefix_row ps) count s x.at x.index.0 x.prefix.0 here_index (λ v. z (ap (next_number (prefix_row ps) count x.prefix.0) value ∙ v))
@@ -246,10 +246,10 @@ unfolding lack_notes
 lack_cons row n node i e es = refl
 
 -- its LG-03, from a place on
-abbrev Lacked : Bytes → ℕ → Bytes → ℕ → Place → List Finding
+abbrev Lacked : Bytes → ℕ → Bytes → ℕ → FrontCursor → List Finding
 Lacked ps count s node x = lack_notes (prefix_row ps) count node x.index.0 (front_at s x)
 
-pub record Lacking (ps : Bytes) (count : ℕ) (s : Bytes) (r : Place) (node : ℕ) (t₀ : Bytes) (held : ℕ) (t : Bytes) (x : Place) (missing n : ℕ) : Type 0 where
+pub record Lacking (ps : Bytes) (count : ℕ) (s : Bytes) (r : FrontCursor) (node : ℕ) (t₀ : Bytes) (held : ℕ) (t : Bytes) (x : FrontCursor) (missing n : ℕ) : Type 0 where
   pub lacks : length (front_at s r) ≡ missing + length (front_at s x)
   pub holds : held_all t₀ held (Lacked ps count s node r) ≡ held_all t n (Lacked ps count s node x)
   pub table : bytes_all t₀ held (Lacked ps count s node r) ≡ bytes_all t n (Lacked ps count s node x)
@@ -257,8 +257,8 @@ pub record Lacking (ps : Bytes) (count : ℕ) (s : Bytes) (r : Place) (node : �
   pub small : x.index.0 ≤ 257
   pub below : missing < x.index.0
 
-module _ (ps : Bytes) (count : ℕ) (s : Bytes) (r : Place) (node : ℕ) (t₀ : Bytes) (held : ℕ) where
-  module _ (t : Bytes) (x : Place) (missing n : ℕ) (j : Lacking ps count s r node t₀ held t x missing n) where
+module _ (ps : Bytes) (count : ℕ) (s : Bytes) (r : FrontCursor) (node : ℕ) (t₀ : Bytes) (held : ℕ) where
+  module _ (t : Bytes) (x : FrontCursor) (missing n : ℕ) (j : Lacking ps count s r node t₀ held t x missing n) where
     pub lacking_ends : front_at s x ≡ [] → LackingAs ps count s r.at r.left r.index.0 node t₀ held missing n t
     unfolding lack_notes held_all bytes_all
     lacking_ends e =
@@ -271,10 +271,10 @@ module _ (ps : Bytes) (count : ℕ) (s : Bytes) (r : Place) (node : ℕ) (t₀ :
     pub lacking_next : 0 < x.left → (e : ShownEntry) → e ≡ shown_entry s x.at → e.index.0 ≡ x.index.0
         → (b : Bool) → b ≡ is_remembered (prefix_row ps) count e.index.0 e.term.0
         → (n' : ℕ) (t' : Bytes) → NotedAll t n (note_of b node e.index.0 e.term.0) n' t'
-        → (y : Place) → y ≡ place_at e.next (x.left - 1) (x.index.0 + 1) x.prefix.0
+        → (y : FrontCursor) → y ≡ cursor_at e.next (x.left - 1) (x.index.0 + 1) x.prefix.0
         → Lacking ps count s r node t₀ held t' y (missing + 1) n'
     lacking_next h e q g b eb n' t' en y ey =
-        subst (λ (v : Place). Lacking ps count s r node t₀ held t' v (missing + 1) n') (sym ey)
+        subst (λ (v : FrontCursor). Lacking ps count s r node t₀ held t' v (missing + 1) n') (sym ey)
         (record {
           lacks = (let a = j.lacks in let c = ap length steps in omega arith);
           holds = j.holds ∙ ap (held_all t n) noted ∙ held_then t n _ n' t' en _;
@@ -284,8 +284,8 @@ module _ (ps : Bytes) (count : ℕ) (s : Bytes) (r : Place) (node : ℕ) (t₀ :
           below = (let v = j.below in omega arith);
         })
       where
-        after : Place
-        after = place_at e.next (x.left - 1) (x.index.0 + 1) x.prefix.0
+        after : FrontCursor
+        after = cursor_at e.next (x.left - 1) (x.index.0 + 1) x.prefix.0
 
         steps : front_at s x ≡ entry_value e ∷ front_at s after
         steps = front_shown s x.at x.left x.index.0 e j.walk h q g

@@ -5,13 +5,13 @@ use Rattle.model.specs.Entry.{Entry}
 use Rattle.model.specs.History.{Finding}
 use Rattle.model.specs.Sizes.{Bytes}
 use Rattle.model.specs.Record.{front_from, last_from}
-use Rattle.record_entries.specs.Places.{Walk, first_entry, index_at, next_at, shown_at, entries_at}
+use Rattle.record_entries.specs.BitLayout.{Walk, first_entry, index_at, next_at, shown_at, entries_at}
 use Rattle.storage.specs.Tables.{PrefixRow, prefix_row, prefixes_part, findings_part}
 use Rattle.storage.specs.Head.{prefixes_held, findings_held}
-use Rattle.logical_log.specs.declared.judging.Place.{Place}
+use Rattle.logical_log.specs.declared.judging.FrontCursor.{FrontCursor}
 use Rattle.log_prefix.specs.Prefix.{row_of, find, first}
 use Rattle.log_prefix.specs.Comparison.{same_from}
-use Rattle.log_violation.specs.Violation.{held_all, bytes_all, note_where}
+use Rattle.log_violation.specs.Violation.{held_all, bytes_all, note_if}
 
 -- the remembered prefix of number r, if there is one, is another than that of number k
 unfoldable pub differs : (ℕ → PrefixRow) → ℕ → ℕ → Bool
@@ -33,7 +33,7 @@ lg03 n i t = record { name = 3; node = n; index = i; term = t }
 
 -- noted where another prefix is remembered for it
 abbrev pub note_of : Bool → ℕ → ℕ → ℕ → List Finding
-note_of b n i t = note_where b (lg03 n i t)
+note_of b n i t = note_if b (lg03 n i t)
 
 -- LG-03 of entries whose prefixes are not stored, from index i on
 unfoldable pub lack_notes : (ℕ → PrefixRow) → ℕ → ℕ → ℕ → List Entry → List Finding
@@ -48,22 +48,22 @@ next_number row count p e = find row count (row_of p 0 e)
 
 -- ---- a place along a front
 
-abbrev pub place_at : ℕ → ℕ → ℕ → ℕ → Place
-place_at at left i p = record { at = at; left = left; index = record { 0 = i }; prefix = record { 0 = p } }
+abbrev pub cursor_at : ℕ → ℕ → ℕ → ℕ → FrontCursor
+cursor_at at left i p = record { at = at; left = left; index = record { 0 = i }; prefix = record { 0 = p } }
 
 -- the front from a place on
-abbrev pub front_at : Bytes → Place → List Entry
+abbrev pub front_at : Bytes → FrontCursor → List Entry
 front_at s r = front_from r.index.0 (entries_at s r.at r.left)
 
 -- a place whose entries can be walked, after a prefix that has a number
-pub record Stand (s : Bytes) (count : ℕ) (r : Place) : Type 0 where
+pub record Walkable (s : Bytes) (count : ℕ) (r : FrontCursor) : Type 0 where
   pub walk : Walk s r.at r.left
   pub number : r.prefix.0 ≤ count
   pub positive : 1 ≤ r.index.0
   pub small : r.index.0 ≤ 257
 
 -- the last index of what is left; where nothing is, the index before the place
-abbrev pub last_at : Bytes → Place → ℕ
+abbrev pub last_at : Bytes → FrontCursor → ℕ
 last_at s r = last_from (r.index.0 - 1) (entries_at s r.at r.left)
 
 -- ---- the walk along the stored prefixes
@@ -74,12 +74,12 @@ abbrev pub ends_at : (ℕ → PrefixRow) → ℕ → Bytes → ℕ → ℕ → �
 ends_at row count s at i p = not (eqb (index_at s at) i) || eqb (next_number row count p (shown_at s at).entry) 0
 
 -- the place where it ends
-unfoldable pub place_from : (ℕ → PrefixRow) → ℕ → Bytes → ℕ → ℕ → ℕ → ℕ → Place
+unfoldable pub cursor_from : (ℕ → PrefixRow) → ℕ → Bytes → ℕ → ℕ → ℕ → ℕ → FrontCursor
 unfolding find
-place_from row count s at zero i p = place_at at zero i p
-place_from row count s at (suc n) i p =
-    cond (ends_at row count s at i p) (place_at at (suc n) i p)
-    (place_from row count s (next_at s at) n (i + 1) (next_number row count p (shown_at s at).entry))
+cursor_from row count s at zero i p = cursor_at at zero i p
+cursor_from row count s at (suc n) i p =
+    cond (ends_at row count s at i p) (cursor_at at (suc n) i p)
+    (cursor_from row count s (next_at s at) n (i + 1) (next_number row count p (shown_at s at).entry))
 
 -- its LG-03
 unfoldable pub stored_notes : (ℕ → PrefixRow) → ℕ → ℕ → Bytes → ℕ → ℕ → ℕ → ℕ → List Finding
@@ -93,14 +93,14 @@ stored_notes row count node s at (suc n) i p =
 -- and those of the rest, from the place on
 abbrev pub notes_from : (ℕ → PrefixRow) → ℕ → ℕ → Bytes → ℕ → ℕ → ℕ → ℕ → List Finding
 notes_from row count node s at n i p =
-    let r = place_from row count s at n i p in
+    let r = cursor_from row count s at n i p in
     stored_notes row count node s at n i p ++ lack_notes row count node r.index.0 (front_at s r)
 
 -- ---- what the walks come to
 
 -- the walk along the stored prefixes of a view of n entries
-pub record ReachedAs (ps : Bytes) (count : ℕ) (s : Bytes) (n node : ℕ) (t : Bytes) (held held' : ℕ) (r : Place) (t' : Bytes) : Type 0 where
-  pub place : r ≡ place_from (prefix_row ps) count s first_entry n 1 0
+pub record ReachedAs (ps : Bytes) (count : ℕ) (s : Bytes) (n node : ℕ) (t : Bytes) (held held' : ℕ) (r : FrontCursor) (t' : Bytes) : Type 0 where
+  pub cursor : r ≡ cursor_from (prefix_row ps) count s first_entry n 1 0
   pub holds : held' ≡ held_all t held (stored_notes (prefix_row ps) count node s first_entry n 1 0)
   pub table : t' ≡ bytes_all t held (stored_notes (prefix_row ps) count node s first_entry n 1 0)
 
@@ -113,18 +113,18 @@ pub record LackingAs (ps : Bytes) (count : ℕ) (s : Bytes) (at left i node : �
 -- ---- a view of m entries against a history
 
 -- the place before the first prefix that is not stored
-unfoldable pub place_in : Bytes → Bytes → ℕ → Place
-unfolding place_from
-place_in h s m = place_from (prefix_row (prefixes_part h)) (prefixes_held h) s first_entry m 1 0
+unfoldable pub cursor_in : Bytes → Bytes → ℕ → FrontCursor
+unfolding cursor_from
+cursor_in h s m = cursor_from (prefix_row (prefixes_part h)) (prefixes_held h) s first_entry m 1 0
 
 -- how many prefixes of its front are not stored
 unfoldable pub missing_in : Bytes → Bytes → ℕ → ℕ
-unfolding place_in
-missing_in h s m = length (front_at s (place_in h s m))
+unfolding cursor_in
+missing_in h s m = length (front_at s (cursor_in h s m))
 
 -- its LG-03
 unfoldable pub notes_in : Bytes → Bytes → ℕ → ℕ → List Finding
-unfolding stored_notes lack_notes place_from
+unfolding stored_notes lack_notes cursor_from
 notes_in h s m node = notes_from (prefix_row (prefixes_part h)) (prefixes_held h) node s first_entry m 1 0
 
 -- the findings with them: how many, and the table
@@ -137,8 +137,8 @@ unfolding bytes_all notes_in
 table_in h s m node = bytes_all (findings_part h) (findings_held h) (notes_in h s m node)
 
 -- what judging a view comes to
-pub record ViewJudged (h s : Bytes) (m node missing held : ℕ) (r : Place) (t : Bytes) : Type 0 where
-  pub place : r ≡ place_in h s m
+pub record ViewJudged (h s : Bytes) (m node missing held : ℕ) (r : FrontCursor) (t : Bytes) : Type 0 where
+  pub cursor : r ≡ cursor_in h s m
   pub lack : missing ≡ missing_in h s m
   pub holds : held ≡ held_in h s m node
   pub table : t ≡ table_in h s m node

@@ -1,12 +1,12 @@
 -- Observation of a view: what a judged view is answered, and the bytes after it.
 -- Assumes nothing.
-use Rattle.std.specs.Prelude.{ℕ, ◌+◌, cond, ltb}
+use Rattle.std.specs.Prelude.{ℕ, ◌+◌, ◌-◌, cond, ltb}
 use Rattle.model.specs.Sizes.{Bytes, finding_limit}
 use Rattle.model.specs.Record.{front, last_index}
-use Rattle.record_entries.specs.Places.{first_entry, entries_at}
+use Rattle.record_entries.specs.BitLayout.{first_entry, entries_at}
 use Rattle.answers.specs.declared.answer.Refusal.{Refusal}
 use Rattle.answers.specs.Step.{Step, accepting, refusing}
-use Rattle.log_prefix.specs.Extension.{written_bytes, written_number}
+use Rattle.log_prefix.specs.Extension.{written_bytes, written_count, written_number}
 use Rattle.logical_log.specs.Judging.{missing_in, held_in, table_in}
 use Rattle.log_violation.specs.Violation.{findings_kept}
 use Rattle.logical_log.specs.Writing.{view_replaced}
@@ -21,10 +21,15 @@ view_written h n s m node t held =
     let es = entries_at s first_entry m in
     findings_kept (view_replaced (written_bytes h n 0 1 (front es)) node (written_number h n 0 1 (front es)) (last_index es)) t held
 
--- 6 before 7, each before anything is written
+-- how many of its front's prefixes are made
+unfoldable pub made_in : Bytes → Bytes → ℕ → ℕ
+unfolding written_count
+made_in h s m = written_count h (prefixes_held h) 0 1 (front (entries_at s first_entry m)) - prefixes_held h
+
+-- 6 before 7, each before anything is written; its value is the number made
 unfoldable pub view_step : ℕ → Bytes → Bytes → ℕ → ℕ → Step
-unfolding missing_in held_in table_in view_written
+unfolding missing_in held_in table_in made_in view_written
 view_step limit h s m node =
     cond (ltb limit (prefixes_held h + missing_in h s m)) (refusing Refusal.PrefixesFull h)
     (cond (ltb finding_limit (held_in h s m node)) (refusing Refusal.FindingsFull h)
-    (accepting 0 (view_written h (prefixes_held h) s m node (table_in h s m node) (held_in h s m node))))
+    (accepting (made_in h s m) (view_written h (prefixes_held h) s m node (table_in h s m node) (held_in h s m node))))

@@ -1,11 +1,11 @@
 // A view judged along its front (`observe_entries` of observation.rs), with nothing written: first as far as its prefixes are
 // stored, then the rest, where none is.
 ghost use Rattle.std.specs.Prelude.{◌≡◌, ◌+◌, ◌-◌, ◌≤◌};
-ghost use Rattle.record_entries.specs.Places.{first_entry};
+ghost use Rattle.record_entries.specs.BitLayout.{first_entry};
 ghost use Rattle.storage.specs.Tables.{prefix_row};
 ghost use Rattle.log_prefix.specs.Table.{Table};
 ghost use Rattle.storage_rows.specs.Rows.{finding_value};
-ghost use Rattle.logical_log.specs.Judging.{other, lg03, place_at, Stand, ReachedAs, LackingAs, ViewJudged};
+ghost use Rattle.logical_log.specs.Judging.{other, lg03, cursor_at, Walkable, ReachedAs, LackingAs, ViewJudged};
 
 use log_prefix::comparison::same_prefix;
 use log_prefix::table::Prefixes;
@@ -19,7 +19,7 @@ use units::{LogIndex, LogPrefixWitness, NodeId, Term};
 // A place along a front: the bit where its next entry begins, how many entries are left, the index that is next, and the
 // last prefix before it that is stored.
 #[derive(Clone, Copy)]
-pub struct Place {
+pub struct FrontCursor {
     pub at: usize,
     pub left: usize,
     pub index: LogIndex,
@@ -30,15 +30,15 @@ pub struct Place {
 #[derive(Drop)]
 pub struct JudgedView {
     pub missing: usize,
-    pub rest: Place,
+    pub rest: FrontCursor,
     pub notes: Notes,
 }
 
 // The place before the first of `entries` entries.
-fn first_place(entries: usize) -> Place
-    ensures { result ≡ place_at first_entry entries 1 0 }
+fn first_cursor(entries: usize) -> FrontCursor
+    ensures { result ≡ cursor_at first_entry entries 1 0 }
 {
-    Place {
+    FrontCursor {
         at: FIRST_ENTRY,
         left: entries,
         index: LogIndex(1),
@@ -47,11 +47,11 @@ fn first_place(entries: usize) -> Place
 }
 
 // The place one entry further, where the next one begins at bit `at` and `prefix` is the last stored one before it.
-fn place_after(here: Place, at: usize, prefix: LogPrefixWitness) -> Place
+fn cursor_after(here: FrontCursor, at: usize, prefix: LogPrefixWitness) -> FrontCursor
     requires { (1 ≤ here.left) × (here.index.0 ≤ 257) }
-    ensures { result ≡ place_at at (here.left - 1) (here.index.0 + 1) prefix.0 }
+    ensures { result ≡ cursor_at at (here.left - 1) (here.index.0 + 1) prefix.0 }
 {
-    Place {
+    FrontCursor {
         at,
         left: here.left - 1,
         index: LogIndex(here.index.0 + 1),
@@ -84,11 +84,11 @@ fn lg03(node: NodeId, e: ShownEntry) -> Found
 
 // The walk along the front of a view as far as its prefixes are stored: the place where it ends. LG-03 is noted where another prefix
 // is remembered for an entry (`reconcile_prefix`).
-fn judge_stored(prefixes: Prefixes<'_>, view: View<'_>, notes: &mut Notes) -> Place
+fn judge_stored(prefixes: Prefixes<'_>, view: View<'_>, notes: &mut Notes) -> FrontCursor
     requires { Table prefixes.rows.now prefixes.count }
     ensures { ReachedAs prefixes.entry.rows.now prefixes.entry.count view.entry.bytes.now view.entry.entries view.entry.node.0 notes.old.rows notes.old.held notes.new.held result notes.new.rows }
 {
-    let mut here = first_place(view.entries);
+    let mut here = first_cursor(view.entries);
     // the place is the answer: the second walk and the writing begin there, by its bit, its index and what is left, and a `Peekable` tells none
     while 0 < here.left {
         let e = entry_at(view.bytes, here.at);
@@ -101,15 +101,20 @@ fn judge_stored(prefixes: Prefixes<'_>, view: View<'_>, notes: &mut Notes) -> Pl
         if is_other(prefixes, e.index, e.term, next) {
             notes.note(lg03(view.node, e));
         }
-        here = place_after(here, e.next, next);
+        here = cursor_after(here, e.next, next);
     }
     here
 }
 
 // The walk along the rest of the front, whose prefixes are not stored: how many they are. LG-03 is noted where a prefix is
 // remembered for an entry: it is another one than any that is not stored.
-fn judge_missing(prefixes: Prefixes<'_>, view: View<'_>, rest: Place, notes: &mut Notes) -> usize
-    requires { Table prefixes.rows.now prefixes.count × Stand view.bytes.now prefixes.count rest }
+fn judge_missing(
+    prefixes: Prefixes<'_>,
+    view: View<'_>,
+    rest: FrontCursor,
+    notes: &mut Notes,
+) -> usize
+    requires { Table prefixes.rows.now prefixes.count × Walkable view.bytes.now prefixes.count rest }
     ensures { LackingAs prefixes.entry.rows.now prefixes.entry.count view.entry.bytes.now rest.at rest.left rest.index.0 view.entry.node.0 notes.old.rows notes.old.held result notes.new.held notes.new.rows }
 {
     let entries = Entries {

@@ -15,7 +15,8 @@ use storage_bytes::layout::History;
 use units::PREFIX_LIMIT;
 
 // A view (kind 1): 6 when the stored prefixes would exceed `limit`, 7 when the findings would exceed 128; else each prefix of its front
-// is stored, its LG-03 noted, and the node's front and last index replaced. A refused one leaves every byte.
+// is stored, its LG-03 noted, and the node's front and last index replaced; its value is how many prefixes were made. A refused one
+// leaves every byte.
 pub fn observe_prefixes(
     history: &mut History,
     view: View<'_>,
@@ -33,6 +34,6 @@ pub fn observe_prefixes(
     }
     judged.notes.fits()?;
     let rest = judged.rest;
-    write_view(history, count, view.bytes, rest, view.node, &judged.notes);
-    Ok(Accepted::with(0))
+    let made = write_view(history, count, view.bytes, rest, view.node, &judged.notes);
+    Ok(Accepted::with(made))
 }

@@ -1,10 +1,10 @@
 // An accepted view is written: its prefixes, the node's row, the findings.
 ghost use Rattle.std.specs.Prelude.{◌≡◌, ◌<◌};
-ghost use Rattle.logical_log.specs.Writing.{Storing, StoredAs, view_replaced, rest_written};
+ghost use Rattle.logical_log.specs.Writing.{Storing, StoredAs, view_replaced, rest_made, rest_written};
 ghost use Rattle.model.specs.Sizes.{node_count};
 
-use crate::judging::Place;
-use log_prefix::prefix::extend;
+use crate::judging::FrontCursor;
+use log_prefix::prefix::{Extended, extend};
 use log_violation::violation::Notes;
 use record_entries::walk::{Entries, last_index};
 use storage::rows::set;
@@ -12,10 +12,17 @@ use storage_bytes::layout::History;
 use storage_rows::nodes::{Node, node_of};
 use units::{LogIndex, LogPrefixWitness, NodeId};
 
-// Each prefix of the front, from a place on, is stored once; the front.
-fn store(history: &mut History, count: usize, view: &[u8], rest: Place) -> LogPrefixWitness
+// A front as it is stored, and how many of its prefixes were made for it.
+#[derive(Clone, Copy)]
+struct StoredFront {
+    front: LogPrefixWitness,
+    made: usize,
+}
+
+// Each prefix of the front, from a place on, is stored once.
+fn store(history: &mut History, count: usize, view: &[u8], rest: FrontCursor) -> StoredFront
     requires { Storing history.old count view.now rest }
-    ensures { StoredAs history.old count view.now rest result.0 history.new }
+    ensures { StoredAs history.old count view.now rest result.front.0 result.made history.new }
 {
     let entries = Entries {
         bytes: view,
@@ -23,15 +30,18 @@ fn store(history: &mut History, count: usize, view: &[u8], rest: Place) -> LogPr
         left: rest.left,
     };
     let mut front = rest.prefix;
-    let mut n = count;
+    let mut made = 0;
     for e in entries {
-        let Some(x) = extend(history, n, front, e) else {
-            break;
-        };
-        front = x.prefix;
-        n = x.count;
+        match extend(history, count + made, front, e) {
+            Extended::Found(p) => front = p,
+            Extended::Made(p) => {
+                front = p;
+                made += 1;
+            }
+            Extended::NotNext => break,
+        }
     }
-    front
+    StoredFront { front, made }
 }
 
 // The node's front and last index are replaced; its unseen mark stays.
@@ -44,22 +54,23 @@ fn replace_view(history: &mut History, node: NodeId, front: LogPrefixWitness, la
     set(history, usize::from(node.0), Node { front, last, ..x });
 }
 
-// An accepted view is written: its prefixes from a place on, the node's row, the findings. Its bytes and its node stand apart: a `View`
-// would ask for more, that its entries can be walked from the first.
+// An accepted view is written: its prefixes from a place on, the node's row, the findings; how many prefixes were made. Its bytes and
+// its node stand apart: a `View` would ask for more, that its entries can be walked from the first.
 pub fn write_view(
     history: &mut History,
     count: usize,
     view: &[u8],
-    rest: Place,
+    rest: FrontCursor,
     node: NodeId,
     notes: &Notes,
-)
+) -> usize
     requires { Storing history.old count view.now rest × (node.0 < node_count) }
-    ensures { history.new ≡ rest_written history.old count view.now rest node.0 notes.now.rows notes.now.held }
+    ensures { (result ≡ rest_made history.old count view.now rest) × (history.new ≡ rest_written history.old count view.now rest node.0 notes.now.rows notes.now.held) }
 {
-    let front = store(history, count, view, rest);
+    let stored = store(history, count, view, rest);
     let before = LogIndex(rest.index.0 - 1);
     let last = last_index(view, rest.at, rest.left, before);
-    replace_view(history, node, front, last);
+    replace_view(history, node, stored.front, last);
     notes.keep(history);
+    stored.made
 }

@@ -14,7 +14,7 @@ use Rattle.model.specs.Sizes.{Bytes}
 use Rattle.model.specs.Entry.{Prefix, agree}
 use Rattle.model.specs.Record.{Record, view, commit, terms, election, check, rows, front}
 use Rattle.model.specs.History.{Finding, History, front_of}
-use Rattle.model.specs.View.{begun_by, view_effect}
+use Rattle.model.specs.View.{prefixes_of, view_effect}
 use Rattle.model.specs.Commit.{through, seen, replaces, differences, commit_effect}
 use Rattle.model.specs.Terms.{terms_effect}
 use Rattle.model.specs.Election.{election_effect}
@@ -214,7 +214,7 @@ module _ (h : History) (g : Ledger) (same-fronts : h.fronts ≡ g.fronts) (ps : 
   unfolding view_effect commit_effect terms_effect election_effect check_effect
   keep (view n xs) v =
       subst (Inv h.committed (effect h (view n xs)).findings) (sym (append-nil ps))
-      (inv_other h (view n xs) ps (mismatches_name 4 n h.prefixes (begun_by (front xs)) (λ e. omega arith)) v)
+      (inv_other h (view n xs) ps (mismatches_name 4 n h.prefixes (prefixes_of (front xs)) (λ e. omega arith)) v)
   keep (commit n i) v =
       let front-h : shown_by (get_or g.fronts n []) i ≡ shown_by (front_of h n) i =
       ap (λ (l : List Prefix). shown_by (get_or l n []) i) (sym same-fronts) in

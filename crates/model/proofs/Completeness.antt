@@ -5,22 +5,19 @@
 use Prim.Native.Nat.{ℕ}
 use mathlib.Core.Path.{◌≡◌, refl, sym, ◌∙◌, ap, subst}
 use mathlib.Core.Bool.{true}
-use mathlib.Core.List.Memᴰ
-use mathlib.Core.List.{List, [], ◌∷◌, ◌++◌, Memᴰ}
-use mathlib.Core.Option.{none}
+use mathlib.Core.List.{List, [], ◌∷◌, ◌++◌}
 use Rattle.model.specs.Sizes.{Bytes}
 use Rattle.model.specs.Record.{Record, view, commit, terms, election, check, rows}
 use Rattle.model.specs.Reading.{readable, read}
 use Rattle.model.specs.History.{History}
-use Rattle.model.specs.Answer.{is_accepted, answer, refusal, effect}
+use Rattle.model.specs.Answer.{is_accepted, answer, effect}
 use Rattle.model.specs.Leaders.{Leader}
 use Rattle.model.specs.Ledger.{Ledger, entered, ledger_leaders}
 use Rattle.model.specs.Lists.{leader_list}
-use Rattle.model.specs.Run.{history_from, history_of, ledger_from, ledger_of, Event, events_from, events_of}
-use Rattle.model.specs.Statements.{Known, KnownAtChecks, LeaderCompleteness}
+use Rattle.model.specs.Run.{history_from, history_of, ledger_from, ledger_of}
+use Rattle.model.specs.Statements.{LeaderCompleteness}
 use Rattle.model.proofs.Run.{by_events}
 use Rattle.model.proofs.Last.{history_last, ledger_last}
-use Rattle.model.proofs.CompletenessKnown.{known_to, known_to_lem, known_all, known_all_lem}
 use Rattle.model.proofs.CompletenessInvariant.{Invariant, at_first}
 use Rattle.model.proofs.CompletenessView.{keeps_view}
 use Rattle.model.proofs.CompletenessCommit.{keeps_commit}
@@ -38,7 +35,7 @@ leader t l = record { term = t; leader = l }
 unfoldable pub checked : Bytes
 checked = 0x50 ∷ []
 
--- the premises of the theorem but the last, for a list and then a check
+-- the premises of the theorem, for a list and then a check
 abbrev CheckedAfter : List Bytes → Type 0
 CheckedAfter ss = (read checked ≡ readable check) × (is_accepted (answer (history_of ss) checked) ≡ true)
 
@@ -60,14 +57,10 @@ late =
     ∷ (0x30 ∷ 0x00 ∷ 0x01 ∷ 0x00 ∷ 0x00 ∷ 0x00 ∷ 0x03 ∷ [])
     ∷ []
 
--- All premises hold, and the list is not empty.
+-- The premises hold, and the list is not empty.
 late_checked : CheckedAfter late
 unfolding late checked read answer history_from
 late_checked = (refl, refl)
-
-late_known : KnownAtChecks (late ++ (checked ∷ []))
-unfolding late checked known_all events_from
-late_known = known_all_lem (events_of (late ++ (checked ∷ []))) refl
 
 pub late_leaders : LeadersAfter late (leader 4 1 ∷ []) (leader 4 1 ∷ [])
 unfolding late checked history_from ledger_from leader_list ledger_leaders
@@ -82,70 +75,62 @@ zero_term =
     ∷ (0x40 ∷ 0x80 ∷ 0x00 ∷ 0x00 ∷ 0x01 ∷ 0x00 ∷ 0x00 ∷ [])
     ∷ []
 
--- The last premise is needed: a recorded zero is below every nonzero term for the history, and no term for the ledger.
+-- A recorded zero is earlier than nothing, for the history as for the ledger.
 zero_checked : CheckedAfter zero_term
 unfolding zero_term checked read answer history_from
 zero_checked = (refl, refl)
 
-pub zero_differs : LeadersAfter zero_term (leader 4 2 ∷ []) []
+pub zero_leaders : LeadersAfter zero_term [] []
 unfolding zero_term checked history_from ledger_from leader_list ledger_leaders
-zero_differs = (refl, refl)
+zero_leaders = (refl, refl)
 
--- the same and a check; then its commit term is 9
+-- the same and a check; then its commit term is 9, which is not before the election's
 unfoldable pub told_later : List Bytes
 unfolding zero_term checked
 told_later = zero_term ++ (checked ∷ (0x30 ∷ 0x00 ∷ 0x01 ∷ 0x00 ∷ 0x00 ∷ 0x00 ∷ 0x09 ∷ []) ∷ [])
 
--- It is needed at every check: at the last one each committed entry has its commit term, and the history keeps a leader
--- that the ledger does not have.
 later_checked : CheckedAfter told_later
 unfolding told_later zero_term checked read answer history_from
 later_checked = (refl, refl)
 
-later_known : Known (ledger_of told_later)
-unfolding told_later zero_term checked ledger_from known_to
-later_known i p l = known_to_lem (ledger_of told_later) 1 i refl p l
-
-pub later_differs : LeadersAfter told_later (leader 4 2 ∷ []) []
+pub later_leaders : LeadersAfter told_later [] []
 unfolding told_later zero_term checked history_from ledger_from leader_list ledger_leaders
-later_differs = (refl, refl)
+later_leaders = (refl, refl)
+
+-- the same and a check; then its commit term is 3: the check behind it judges the index like any other
+unfoldable pub told_early : List Bytes
+unfolding zero_term checked
+told_early = zero_term ++ (checked ∷ (0x30 ∷ 0x00 ∷ 0x01 ∷ 0x00 ∷ 0x00 ∷ 0x00 ∷ 0x03 ∷ []) ∷ [])
+
+early_checked : CheckedAfter told_early
+unfolding told_early zero_term checked read answer history_from
+early_checked = (refl, refl)
+
+pub early_leaders : LeadersAfter told_early (leader 4 2 ∷ []) (leader 4 2 ∷ [])
+unfolding told_early zero_term checked history_from ledger_from leader_list ledger_leaders
+early_leaders = (refl, refl)
 
 -- ---- the invariant after every list
 
--- each kind keeps it; a check, where each committed entry has its commit term
-keeps : (h : History) (g : Ledger) (r : Record) → (r ≡ check → Known g) → Invariant h g → Invariant (effect h r) (entered g r)
-keeps h g (view n es) k v = keeps_view h g n es v
-keeps h g (commit n i) k v = keeps_commit h g n i v
-keeps h g (terms old new t) k v = keeps_terms h g old new t v
-keeps h g (election l t p n) k v = keeps_election h g l t p n v
-keeps h g check k v = keeps_check h g (k refl) v
-keeps h g (rows rs) k v = v
+-- each kind keeps it
+keeps : (h : History) (g : Ledger) (r : Record) → Invariant h g → Invariant (effect h r) (entered g r)
+keeps h g (view n es) v = keeps_view h g n es v
+keeps h g (commit n i) v = keeps_commit h g n i v
+keeps h g (terms old new t) v = keeps_terms h g old new t v
+keeps h g (election l t p n) v = keeps_election h g l t p n v
+keeps h g check v = keeps_check h g v
+keeps h g (rows rs) v = v
 
--- the premise, of the events so far
-KnownIn : List Event → Type 0
-KnownIn es = (e : Event) → Memᴰ e es → e.event ≡ check → Known e.ledger
-
-Kept : History → Ledger → List Event → Type 0
-Kept h g es = KnownIn es → Invariant h g
-
-keeps_event : (h : History) (g : Ledger) (es : List Event) (r : Record) → refusal h r ≡ none → Kept h g es
-    → Kept (effect h r) (entered g r) (es ++ (record { history = h; ledger = g; event = r } ∷ []))
-unfolding Kept KnownIn
-keeps_event h g es r a p k =
-    keeps h g r (λ c. k (record { history = h; ledger = g; event = r }) (Memᴰ.append_right es (Memᴰ.head refl)) c)
-    (p (λ e m c. k e (Memᴰ.append_left (record { history = h; ledger = g; event = r } ∷ []) m) c))
-
-pub always : (ss : List Bytes) → KnownAtChecks ss → Invariant (history_of ss) (ledger_of ss)
-unfolding Kept KnownIn
-always ss k = by_events Kept (λ _. at_first) keeps_event ss k
+pub always : (ss : List Bytes) → Invariant (history_of ss) (ledger_of ss)
+always ss = by_events (λ h g es. Invariant h g) at_first (λ h g es r _ v. keeps h g r v) ss
 
 -- ---- the theorem
 
 pub leader_completeness : LeaderCompleteness
-leader_completeness ss s e a k =
+leader_completeness ss s e a =
     let v : Invariant (effect (history_of ss) check) (entered (ledger_of ss) check) =
     subst (λ (h : History). Invariant h (entered (ledger_of ss) check)) (history_last ss s check e a)
-    (subst (λ (g : Ledger). Invariant (history_of (ss ++ (s ∷ []))) g) (ledger_last ss s check e a) (always (ss ++ (s ∷ [])) k)) in
+    (subst (λ (g : Ledger). Invariant (history_of (ss ++ (s ∷ []))) g) (ledger_last ss s check e a) (always (ss ++ (s ∷ [])))) in
     ap leader_list (history_last ss s check e a)
     ∙ same_leaders (effect (history_of ss) check) (entered (ledger_of ss) check) v (check_reaches (history_of ss))
     ∙ ap ledger_leaders (sym (ledger_last ss s check e a))

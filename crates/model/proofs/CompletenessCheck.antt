@@ -1,5 +1,5 @@
 -- Demand 3, an accepted check. What a log lacks through an index it lacks through every later one, so the last relevant
--- index decides. Where each committed entry has its commit term, an LG-05 of the check is one that the ledger blames.
+-- index decides. It has a commit term, so an LG-05 of the check is in the ledger's list.
 -- Assumes nothing.
 use Prim.Native.Nat.{ℕ, zero, suc, ◌+◌, ◌<◌, ◌≤◌, max}
 use native.Mathlib.Omega.{arith}
@@ -16,36 +16,38 @@ use borrow.Author.Tests.{leb-true, ltb-true, ltb-false, eqb-true, eqb-false, lt-
 use Rattle.model.specs.Entry.{Prefix}
 use Rattle.model.specs.Record.{check}
 use Rattle.model.specs.History.{Finding, Certificate, History, noted}
-use Rattle.model.specs.Check.{last_below, relevant, lacks, lacking, moved, lackings, check_findings, check_effect}
+use Rattle.model.specs.Check.{is_earlier, last_below, relevant, lacks, lacking, moved, lackings, check_findings, check_effect}
 use Rattle.model.specs.Answer.{effect}
 use Rattle.model.specs.Ledger.{Elected, Ledger, entered, earlier}
 use Rattle.model.specs.Statements.{Named, pair_of}
 use Rattle.model.proofs.Tests.{either, cond_cases, cond_true, and_left, and_right, and_both, begins_no, no_begins}
-use Rattle.model.proofs.CompletenessInvariant.{elected_of, known, leads, EachKnown, BlamedAt, Sound, Owes, Complete, MarksWithin, SameTerms, SameElections, Invariant, lacks_without, named_noted, named_new, sound_noted, same_elections}
+use Rattle.model.proofs.CompletenessInvariant.{elected_of, known, leads, LacksAt, Sound, Owes, Complete, MarksWithin, SameTerms, SameElections, Invariant, lacks_without, named_noted, named_new, sound_noted, same_elections}
 
 -- ---- the relevant index
 
--- index r is that of a place of the recorded terms, which start at index k, within the end and with a term below t
+-- index r is that of a place of the recorded terms, which start at index k, within the end and with a term earlier than t
 pub record LastAt (end t k : ℕ) (xs : List ℕ) (r : ℕ) : Type 0 where
   pub place : ℕ
   pub index : r ≡ k + place
   pub within : r ≤ end
+  pub recorded : 0 < get_or xs place 0
   pub early : get_or xs place 0 < t
 
 module _ (mark end t : ℕ) where
-  counts_here : (k x : ℕ) (xs : List ℕ) → ltb mark k && leb k end && ltb x t ≡ true → LastAt end t k (x ∷ xs) k
+  counts_here : (k x : ℕ) (xs : List ℕ) → ltb mark k && leb k end && is_earlier x t ≡ true → LastAt end t k (x ∷ xs) k
   counts_here k x xs e =
       record {
         place = 0;
         index = omega arith;
         within = leb-true _ _ (and_right (ltb mark k) _ (and_left _ _ e));
-        early = ltb-true _ _ (and_right (ltb mark k && leb k end) _ e);
+        recorded = ltb-true _ _ (and_left (ltb 0 x) _ (and_right (ltb mark k && leb k end) _ e));
+        early = ltb-true _ _ (and_right (ltb 0 x) _ (and_right (ltb mark k && leb k end) _ e));
       }
 
   counts_later : (k x : ℕ) (xs : List ℕ) (r : ℕ) → LastAt end t (k + 1) xs r → LastAt end t k (x ∷ xs) r
   counts_later k x xs r w =
       let i : r ≡ k + 1 + w.place = w.index in
-      record { place = suc w.place; index = omega arith; within = w.within; early = w.early }
+      record { place = suc w.place; index = omega arith; within = w.within; recorded = w.recorded; early = w.early }
 
   last_counts : (k : ℕ) (xs : List ℕ) → 0 < last_below mark end t k xs → LastAt end t k xs (last_below mark end t k xs)
   unfolding last_below
@@ -56,14 +58,14 @@ module _ (mark end t : ℕ) where
       (λ e _. counts_here k x xs e) (λ _ p. absurd (omega arith)))
       (λ _ p. counts_later k x xs (last_below mark end t (k + 1) xs) (last_counts (k + 1) xs p))
 
-  -- a place after the mark and within the end, with a term below t, is not past it
-  last_reaches : (k : ℕ) (xs : List ℕ) (j : ℕ) → j < length xs → mark < k + j → k + j ≤ end → get_or xs j 0 < t
+  -- a place after the mark and within the end, with a term earlier than t, is not past it
+  last_reaches : (k : ℕ) (xs : List ℕ) (j : ℕ) → j < length xs → mark < k + j → k + j ≤ end → 0 < get_or xs j 0 → get_or xs j 0 < t
       → k + j ≤ last_below mark end t k xs
   unfolding last_below
-  last_reaches k [] j h m n e = absurd (omega arith)
-  last_reaches k (x ∷ xs) zero h m n e =
-      let c : ltb mark k && leb k end && ltb x t ≡ true =
-      and_both _ _ (and_both _ _ (lt-ltb mark k (omega arith)) (le-leb k end (omega arith))) (lt-ltb x t e) in
+  last_reaches k [] j h m n z e = absurd (omega arith)
+  last_reaches k (x ∷ xs) zero h m n z e =
+      let c : ltb mark k && leb k end && is_earlier x t ≡ true =
+      and_both _ _ (and_both _ _ (lt-ltb mark k (omega arith)) (le-leb k end (omega arith))) (and_both _ _ (lt-ltb 0 x z) (lt-ltb x t e)) in
       cond_cases (λ (r : ℕ). k + 0 ≤ r) _ _ _
       (λ _. omega (arith, cond_true _ k 0 c))
       (λ f. let w : LastAt end t (k + 1) xs (last_below mark end t (k + 1) xs) = last_counts (k + 1) xs (positive _ f) in
@@ -72,9 +74,9 @@ module _ (mark end t : ℕ) where
       positive : (r : ℕ) → eqb r 0 ≡ false → 0 < r
       positive zero f = absurd (eqb-false 0 0 f refl)
       positive (suc r) f = omega arith
-  last_reaches k (x ∷ xs) (suc j) h m n e =
+  last_reaches k (x ∷ xs) (suc j) h m n z e =
       let w : k + 1 + j ≤ last_below mark end t (k + 1) xs =
-      last_reaches (k + 1) xs j (omega arith) (omega arith) (omega arith) e in
+      last_reaches (k + 1) xs j (omega arith) (omega arith) (omega arith) z e in
       cond_cases (λ (r : ℕ). k + suc j ≤ r) _ _ _
       (λ f. absurd (let z : last_below mark end t (k + 1) xs ≡ 0 = eqb-true _ _ f in omega arith))
       (λ _. omega arith)
@@ -176,7 +178,7 @@ module _ (p : Prefix) (ts : List ℕ) where
   relevant_reaches : (c : Certificate) (i : ℕ) → c.mark ≤ i → i < length p → Owes p ts c i → suc i ≤ relevant p ts c
   unfolding relevant
   relevant_reaches c i m l o =
-      omega (arith, last_reaches c.mark (length p) c.term 1 ts i (inside ts i o.nonzero) (omega arith) (omega arith) o.early)
+      omega (arith, last_reaches c.mark (length p) c.term 1 ts i (inside ts i o.nonzero) (omega arith) (omega arith) o.nonzero o.early)
     where
       inside : (xs : List ℕ) (j : ℕ) → 0 < get_or xs j 0 → j < length xs
       inside xs j n =
@@ -194,24 +196,22 @@ pub moved_mark : (p : Prefix) (c : Certificate) → (moved p c).mark ≡ max c.m
 unfolding moved
 moved_mark p c = refl
 
--- ---- sound: each committed entry has its commit term
+-- ---- sound
 
--- a recorded term that the ledger has is not zero, so "below" says the same on both sides
-known_early : (x s : ℕ) (o : Option ℕ) → o ≡ known x → (o ≡ none → ⊥) → x < s → earlier s o ≡ true
-known_early zero s o e n h = absurd (n e)
+-- a recorded term that is not zero is the ledger's, so "earlier" says the same on both sides
+known_early : (x s : ℕ) (o : Option ℕ) → o ≡ known x → 0 < x → x < s → earlier s o ≡ true
+known_early zero s o e n h = absurd (omega arith)
 known_early (suc x) s o e n h = rw e (lt-ltb (suc x) s h)
 
-module _ (p : Prefix) (ts : List ℕ) (us : ℕ → Option ℕ) (terms : SameTerms ts us) (each : EachKnown p us) where
-  blamed_relevant : (c : Certificate) (r : ℕ) → lacks c.log (take r p) ≡ true
-      → (w : LastAt (length p) c.term 1 ts r) → BlamedAt p us (elected_of c) w.place
-  blamed_relevant c r l w =
+module _ (p : Prefix) (ts : List ℕ) (us : ℕ → Option ℕ) (terms : SameTerms ts us) where
+  lacks_relevant : (c : Certificate) (r : ℕ) → lacks c.log (take r p) ≡ true
+      → (w : LastAt (length p) c.term 1 ts r) → LacksAt p us (elected_of c) w.place
+  lacks_relevant c r l w =
       let n : r ≤ length p = w.within in
       let x : r ≡ suc w.place = omega (arith, w.index) in
       record {
         within = omega arith;
-        early =
-            known_early (get_or ts w.place 0) c.term (us (suc w.place)) (terms w.place)
-            (each (suc w.place) (omega arith) (omega arith)) w.early;
+        early = known_early (get_or ts w.place 0) c.term (us (suc w.place)) (terms w.place) w.recorded w.early;
         lacking =
             sym (lacks_without c.log (take (suc w.place) p))
             ∙ subst (λ (m : ℕ). lacks c.log (take m p) ≡ true) x l;
@@ -227,7 +227,7 @@ module _ (p : Prefix) (ts : List ℕ) (us : ℕ → Option ℕ) (terms : SameTer
         among = s.recorded c w.among;
         pair = sym (ap pair_of w.finding);
         place = a.place;
-        blamed = blamed_relevant c (relevant p ts c) w.lacked a;
+        lacks_committed = lacks_relevant c (relevant p ts c) w.lacked a;
       }
 
 -- ---- complete: what is owed within the new mark
@@ -280,14 +280,13 @@ marks_reach p cs d m =
     let e : (moved p a.0).mark ≡ d.mark = ap (λ (x : Certificate). x.mark) a.2 in
     omega (arith, moved_mark p a.0)
 
-sound_check : (h : History) (g : Ledger) → EachKnown g.committed g.terms → Invariant h g
+sound_check : (h : History) (g : Ledger) → Invariant h g
     → Sound (check_findings h) h.committed g.terms g.elections
 unfolding check_findings
-sound_check h g each v =
+sound_check h g v =
     sound_noted h.findings (lackings h.committed h.terms h.certificates) h.committed g.terms g.elections
     v.sound
-    (sound_lackings h.committed h.terms g.terms v.terms
-    (λ i p l. each i p (rw (← v.committed) l)) h.certificates g.elections v.elections)
+    (sound_lackings h.committed h.terms g.terms v.terms h.certificates g.elections v.elections)
 
 complete_after : (h : History) (g : Ledger) → Invariant h g
     → Complete (check_findings h) h.committed h.terms (map (moved h.committed) h.certificates)
@@ -295,11 +294,9 @@ unfolding check_findings
 complete_after h g v =
     complete_check h.committed h.terms h.findings h.certificates v.marks v.complete
 
--- the only record that asks something of the ledger: each committed entry has its commit term
-pub keeps_check : (h : History) (g : Ledger) → EachKnown g.committed g.terms
-    → Invariant h g → Invariant (effect h check) (entered g check)
+pub keeps_check : (h : History) (g : Ledger) → Invariant h g → Invariant (effect h check) (entered g check)
 unfolding check_effect
-keeps_check h g each v =
+keeps_check h g v =
     record {
       fronts = v.fronts;
       committed = v.committed;
@@ -307,7 +304,7 @@ keeps_check h g each v =
       elections =
           same_elections (moved h.committed) (moved_same h.committed) h.certificates g.elections v.elections;
       marks = marks_check h.committed h.certificates v.marks;
-      sound = sound_check h g each v;
+      sound = sound_check h g v;
       complete = complete_after h g v;
     }
 

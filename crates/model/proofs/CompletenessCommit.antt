@@ -21,7 +21,7 @@ use Rattle.model.specs.Ledger.{Elected, Ledger, entered, extended}
 use Rattle.model.proofs.Tests.{tf, either, cond_cases, cond_true, cond_false, and_left, and_right, and_both, test_ext, begins_yes, agree_short}
 use Rattle.model.proofs.Matching.{differences_name}
 use Rattle.model.proofs.Committed.{replaced_agrees, agreeing_replaces}
-use Rattle.model.proofs.CompletenessInvariant.{BlamedAt, Justified, Sound, Complete, MarksWithin, Invariant, named_noted, sound_noted, sound_others}
+use Rattle.model.proofs.CompletenessInvariant.{LacksAt, Justified, Sound, Complete, MarksWithin, Invariant, named_noted, sound_noted, sound_others}
 
 -- ---- the same committed entries
 
@@ -101,8 +101,8 @@ module _ (p q : Prefix) (x : Extends p q) where
   marks_extended : (cs : List Certificate) → MarksWithin p cs → MarksWithin q cs
   marks_extended cs w c m = let a : c.mark ≤ length p = w c m in let b : length p ≤ length q = x.longer in omega arith
 
-  blamed_extended : (ts : ℕ → Option ℕ) (e : Elected) (i : ℕ) → BlamedAt p ts e i → BlamedAt q ts e i
-  blamed_extended ts e i b =
+  lacks_extended : (ts : ℕ → Option ℕ) (e : Elected) (i : ℕ) → LacksAt p ts e i → LacksAt q ts e i
+  lacks_extended ts e i b =
       let w : i < length p = b.within in
       let l : length p ≤ length q = x.longer in
       record { within = omega arith; early = b.early; lacking = rw (x.first (suc i) w) b.lacking }
@@ -115,7 +115,7 @@ module _ (p q : Prefix) (x : Extends p q) where
         among = j.among;
         pair = j.pair;
         place = j.place;
-        blamed = blamed_extended ts j.election j.place j.blamed;
+        lacks_committed = lacks_extended ts j.election j.place j.lacks_committed;
       }
 
   complete_extended : (fs : List Finding) (ts : List ℕ) (cs : List Certificate) → MarksWithin p cs → Complete fs p ts cs

@@ -86,7 +86,7 @@ module _ (c : Certificate) (e : Elected) (same : elected_of c ≡ e) (unchecked 
         among = Memᴰ.append_left (e ∷ []) j.among;
         pair = j.pair;
         place = j.place;
-        blamed = j.blamed;
+        lacks_committed = j.lacks_committed;
       }
 
 -- ---- the same log

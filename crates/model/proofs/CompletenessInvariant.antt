@@ -1,6 +1,6 @@
 -- Demand 3, what holds between the history and the ledger after every accepted record.
 -- *Sound* and *complete* are the two halves of "the leader list equals the plain ledger's": every LG-05 names an election
--- that the ledger blames, and every certificate that owes an entry within its mark is named by an LG-05.
+-- in the ledger's list, and every certificate that owes an entry within its mark is named by an LG-05.
 -- Assumes nothing.
 use Prim.Native.Nat.{ℕ, zero, suc, ◌<◌, ◌≤◌}
 use mathlib.Core.Path.{◌≡◌, refl, sym, ◌∙◌, ap}
@@ -34,14 +34,10 @@ known (suc t) = some (suc t)
 abbrev pub leads : Elected → Leader
 leads e = record { term = e.term; leader = e.leader }
 
--- each of the committed entries p has a commit term
-abbrev pub EachKnown : Prefix → (ℕ → Option ℕ) → Type 0
-EachKnown p ts = (i : ℕ) → 0 < i → i ≤ length p → ts i ≡ none → ⊥
-
 -- ---- what the invariant says
 
 -- place i (index i + 1) of the committed entries p has a commit term below the election's, and its log lacks p through it
-pub record BlamedAt (p : Prefix) (ts : ℕ → Option ℕ) (e : Elected) (i : ℕ) : Type 0 where
+pub record LacksAt (p : Prefix) (ts : ℕ → Option ℕ) (e : Elected) (i : ℕ) : Type 0 where
   pub within : i < length p
   pub early : earlier e.term (ts (suc i)) ≡ true
   pub lacking : without e.log (take (suc i) p) ≡ true
@@ -52,7 +48,7 @@ pub record Justified (p : Prefix) (ts : ℕ → Option ℕ) (es : List Elected) 
   pub among : Memᴰ election es
   pub pair : leads election ≡ pair_of f
   pub place : ℕ
-  pub blamed : BlamedAt p ts election place
+  pub lacks_committed : LacksAt p ts election place
 
 abbrev pub Sound : List Finding → Prefix → (ℕ → Option ℕ) → List Elected → Type 0
 Sound fs p ts es = (f : Finding) → Memᴰ f fs → f.name ≡ 5 → Justified p ts es f

@@ -1,107 +1,30 @@
 -- Demand 3, accepted commit terms: both sides record the same terms, and a place that changed is past every mark that
 -- matters.
 -- Assumes nothing.
-use Prim.Native.Nat.{ℕ, zero, suc, ◌+◌, ◌-◌, ◌<◌, ◌≤◌}
+use Prim.Native.Nat.{ℕ, zero, suc, ◌+◌, ◌<◌, ◌≤◌}
 use native.Mathlib.Omega.{arith}
 use mathlib.Core.Path.{◌≡◌, refl, sym, ◌∙◌, ap, subst}
 use mathlib.Core.Bool.{Bool, true, false, cond, ◌&&◌, ◌||◌}
 use mathlib.Core.Logic.{◌⊎◌, inl, inr, ⊎_elim}
 use mathlib.Core.List.Memᴰ
-use mathlib.Core.List.{List, [], ◌∷◌, ◌++◌, map, Memᴰ}
+use mathlib.Core.List.{List, [], ◌∷◌, map, Memᴰ}
 use mathlib.Core.Option.{Option, none, some}
 use lib.Dec.{leb, ltb, eqb, eqb-suc-zero}
-use lib.ListN.{length, get_or, take, replicate, length-append, length-replicate, get_or-eq_default}
-use borrow.Author.Tests.{leb-true, leb-false, ltb-true, ltb-false, lt-ltb}
+use lib.ListN.{length, get_or, take}
+use borrow.Author.Tests.{leb-true, leb-false, ltb-true, lt-ltb}
 use Rattle.model.specs.Entry.{Prefix}
 use Rattle.model.specs.Record.{terms}
 use Rattle.model.specs.History.{Finding, Certificate, History}
 use Rattle.model.specs.Check.{lacks}
-use Rattle.model.specs.Terms.{lengthened, changes, replaced_from, recorded, first_from, first_changed, lowered, terms_effect}
+use Rattle.model.specs.Terms.{lengthened, changes, recorded, first_from, first_changed, lowered, terms_effect}
 use Rattle.model.specs.Answer.{effect}
 use Rattle.model.specs.Ledger.{Elected, Ledger, entered, open', set_terms, earlier}
 use Rattle.model.specs.Statements.{Named}
-use Rattle.model.proofs.Tests.{tf, either, cond_cases, cond_true, cond_false, and_left, and_right, and_both, and_false}
-use Rattle.model.proofs.CompletenessInvariant.{elected_of, known, leads, BlamedAt, Justified, Sound, Owes, Complete, MarksWithin, SameTerms, Invariant, same_elections}
-
--- ---- the places
-
--- zeros after a list are what is read there anyway
-zeros : (n i : ℕ) → ◌≡◌ {A = ℕ} (get_or (replicate n 0) i 0) 0
-zeros zero i = refl
-zeros (suc n) zero = refl
-zeros (suc n) (suc i) = zeros n i
-
-with_zeros : (ts : List ℕ) (n i : ℕ) → get_or (ts ++ replicate n 0) i 0 ≡ get_or ts i 0
-with_zeros [] n i = zeros n i
-with_zeros (t ∷ ts) n zero = refl
-with_zeros (t ∷ ts) n (suc i) = with_zeros ts n i
-
-lengthened_at : (new : ℕ) (ts : List ℕ) (i : ℕ) → get_or (lengthened new ts) i 0 ≡ get_or ts i 0
-unfolding lengthened
-lengthened_at new ts i = with_zeros ts (new - length ts) i
-
-lengthened_reaches : (new : ℕ) (ts : List ℕ) → new ≤ length (lengthened new ts)
-unfolding lengthened
-lengthened_reaches new ts = simp (length-append, length-replicate) (omega arith)
+use Rattle.model.proofs.Tests.{tf, either, cond_cases, cond_true, cond_false, and_right, and_both, and_false}
+use Rattle.model.proofs.TermPlaces.{lengthened_at, lengthened_reaches, changes_yes, recorded_at}
+use Rattle.model.proofs.CompletenessInvariant.{elected_of, known, leads, LacksAt, Justified, Sound, Owes, Complete, MarksWithin, SameTerms, Invariant, same_elections}
 
 module _ (old new t : ℕ) where
-  -- what is known of a place that changes
-  pub record Changed (i : ℕ) : Type 0 where
-    pub within_new : i ≤ new
-    pub nonzero : 0 < t
-
-  changes_yes : (i x : ℕ) → changes old new t i x ≡ true → Changed i
-  unfolding changes
-  changes_yes i x e =
-      let a : ltb old i && leb i new && ltb 0 t ≡ true = and_left _ _ e in
-      let b : ltb old i && leb i new ≡ true = and_left _ _ a in
-      record {
-        within_new = leb-true _ _ (and_right (ltb old i) _ b);
-        nonzero = ltb-true _ _ (and_right (ltb old i && leb i new) _ a);
-      }
-
-  replaced_at : (k i : ℕ) (l : List ℕ) → i < length l
-      → get_or (replaced_from old new t k l) i 0 ≡ cond (changes old new t (k + i) (get_or l i 0)) t (get_or l i 0)
-  unfolding replaced_from
-  replaced_at k i [] h = absurd (omega arith)
-  replaced_at k zero (x ∷ l) h =
-      let e : k ≡ k + 0 = omega arith in ap (λ (n : ℕ). cond (changes old new t n x) t x) e
-  replaced_at k (suc i) (x ∷ l) h =
-      let e : k + 1 + i ≡ k + suc i = omega arith in
-      replaced_at (k + 1) i l (omega arith)
-      ∙ ap (λ (n : ℕ). cond (changes old new t n (get_or l i 0)) t (get_or l i 0)) e
-
-  replaced_past : (k i : ℕ) (l : List ℕ) → length l ≤ i → get_or (replaced_from old new t k l) i 0 ≡ 0
-  unfolding replaced_from
-  replaced_past k i [] h = refl
-  replaced_past k zero (x ∷ l) h = absurd (omega arith)
-  replaced_past k (suc i) (x ∷ l) h = replaced_past (k + 1) i l (omega arith)
-
-  -- past the list nothing changes
-  unchanged_past : (i : ℕ) (l : List ℕ) → new ≤ length l → length l ≤ i
-      → cond (changes old new t (1 + i) (get_or l i 0)) t (get_or l i 0) ≡ 0
-  unchanged_past i l r h =
-      cond_cases (λ (z : ℕ). z ≡ 0) _ _ _
-      (λ e. absurd (let w : 1 + i ≤ new = (changes_yes (1 + i) (get_or l i 0) e).within_new in omega arith))
-      (λ _. get_or-eq_default l 0 h)
-
-  replaced_all : (i : ℕ) (l : List ℕ) → new ≤ length l → (i < length l) ⊎ (length l ≤ i)
-      → get_or (replaced_from old new t 1 l) i 0 ≡ cond (changes old new t (1 + i) (get_or l i 0)) t (get_or l i 0)
-  replaced_all i l r (inl h) = replaced_at 1 i l h
-  replaced_all i l r (inr h) = replaced_past 1 i l h ∙ sym (unchanged_past i l r h)
-
-  -- each place has the term where it changes, and else what it had
-  pub recorded_at : (ts : List ℕ) (i : ℕ)
-      → get_or (recorded old new t ts) i 0 ≡ cond (changes old new t (suc i) (get_or ts i 0)) t (get_or ts i 0)
-  unfolding recorded
-  recorded_at ts i =
-      let e : 1 + i ≡ suc i = omega arith in
-      replaced_all i (lengthened new ts) (lengthened_reaches new ts) (split i (length (lengthened new ts)))
-      ∙ (λ j. cond (changes old new t (e j) (lengthened_at new ts i j)) t (lengthened_at new ts i j))
-    where
-      split : (a b : ℕ) → (a < b) ⊎ (b ≤ a)
-      split a b = ⊎_elim (λ p. inl (ltb-true a b p)) (λ p. inr (ltb-false a b p)) (either (ltb a b))
-
   -- ---- the first changed index
 
   first_from_lem : (k i : ℕ) (l : List ℕ) → 0 < k → i < length l → changes old new t (k + i) (get_or l i 0) ≡ true
@@ -125,7 +48,7 @@ module _ (old new t : ℕ) where
       → (0 < first_changed old new t ts) × (first_changed old new t ts ≤ suc i)
   unfolding first_changed
   first_changed_lem ts i e =
-      let w : suc i ≤ new = (changes_yes (suc i) (get_or ts i 0) e).within_new in
+      let w : suc i ≤ new = (changes_yes old new t (suc i) (get_or ts i 0) e).within_new in
       let r : new ≤ length (lengthened new ts) = lengthened_reaches new ts in
       let q : 1 + i ≡ suc i = omega arith in
       let f : (0 < first_from old new t 1 (lengthened new ts)) × (first_from old new t 1 (lengthened new ts) ≤ 1 + i) =
@@ -170,10 +93,10 @@ module _ (old new t : ℕ) where
       let x = get_or ts i 0 in
       ap (λ (o : Option ℕ). cond (ltb 0 t && ltb old (suc i) && leb (suc i) new && open' t o) (some t) o) (s i)
       ∙ ap (λ (b : Bool). cond b (some t) (known x)) (same_test (suc i) x)
-      ∙ set_known (changes old new t (suc i) x) x (λ e. known_nonzero (changes_yes (suc i) x e).nonzero)
-      ∙ ap known (sym (recorded_at ts i))
+      ∙ set_known (changes old new t (suc i) x) x (λ e. known_nonzero (changes_yes old new t (suc i) x e).nonzero)
+      ∙ ap known (sym (recorded_at old new t ts i))
 
-  -- ---- what the ledger blames it goes on blaming
+  -- ---- an election that lacks a committed entry goes on lacking it
 
   sooner : (s : ℕ) (o : Option ℕ) → open' t o ≡ true → earlier s o ≡ true → earlier s (some t) ≡ true
   sooner s none p e = absurd (tf (sym e))
@@ -189,13 +112,13 @@ module _ (old new t : ℕ) where
       → Sound fs p (set_terms old new t us) es
   sound_terms fs p us es s f m e =
       let j : Justified p us es f = s f m e in
-      let b : BlamedAt p us j.election j.place = j.blamed in
+      let b : LacksAt p us j.election j.place = j.lacks_committed in
       record {
         election = j.election;
         among = j.among;
         pair = j.pair;
         place = j.place;
-        blamed =
+        lacks_committed =
             record {
               within = b.within;
               early = still_early us j.election.term (suc j.place) b.early;
@@ -245,7 +168,7 @@ module _ (old new t : ℕ) where
 
     not_changed : changes old new t (suc i) (get_or ts i 0) ≡ true → ⊥
     not_changed e =
-        let r : get_or (recorded old new t ts) i 0 ≡ t = recorded_at ts i ∙ cond_true _ _ _ e in
+        let r : get_or (recorded old new t ts) i 0 ≡ t = recorded_at old new t ts i ∙ cond_true _ _ _ e in
         let s : get_or (recorded old new t ts) i 0 < (lowered t (first_changed old new t ts) c).term = o.early in
         let f : (0 < first_changed old new t ts) × (first_changed old new t ts ≤ suc i) = first_changed_lem ts i e in
         let g : t < c.term = omega (arith, same_term) in
@@ -256,7 +179,7 @@ module _ (old new t : ℕ) where
     owed_before : Owes p ts c i
     owed_before =
         ⊎_elim (λ e. absurd (not_changed e))
-        (λ e. let r : get_or (recorded old new t ts) i 0 ≡ get_or ts i 0 = recorded_at ts i ∙ cond_false _ _ _ e in
+        (λ e. let r : get_or (recorded old new t ts) i 0 ≡ get_or ts i 0 = recorded_at old new t ts i ∙ cond_false _ _ _ e in
         let n : 0 < get_or (recorded old new t ts) i 0 = o.nonzero in
         let s : get_or (recorded old new t ts) i 0 < (lowered t (first_changed old new t ts) c).term = o.early in
         record {

@@ -8,7 +8,7 @@ use lib.ListN.{set}
 use Rattle.model.specs.Entry.{Prefix}
 use Rattle.model.specs.Record.{Shown, view, front}
 use Rattle.model.specs.History.{History}
-use Rattle.model.specs.View.{begun_by, mismatches, view_findings, view_effect}
+use Rattle.model.specs.View.{prefixes_of, mismatches, view_findings, view_effect}
 use Rattle.model.specs.Answer.{effect}
 use Rattle.model.specs.Ledger.{Ledger, entered}
 use Rattle.model.proofs.Matching.{mismatches_name}
@@ -18,15 +18,15 @@ sound_view : (h : History) (g : Ledger) (n : ℕ) (p : Prefix) → Invariant h g
     → Sound (view_findings h n p) h.committed g.terms g.elections
 unfolding view_findings
 sound_view h g n p v =
-    sound_noted h.findings (mismatches h.prefixes n (begun_by p)) h.committed g.terms g.elections v.sound
-    (sound_others (mismatches h.prefixes n (begun_by p)) h.committed g.terms g.elections
-    (mismatches_name 5 n h.prefixes (begun_by p) (λ e. omega arith)))
+    sound_noted h.findings (mismatches h.prefixes n (prefixes_of p)) h.committed g.terms g.elections v.sound
+    (sound_others (mismatches h.prefixes n (prefixes_of p)) h.committed g.terms g.elections
+    (mismatches_name 5 n h.prefixes (prefixes_of p) (λ e. omega arith)))
 
 complete_view : (h : History) (g : Ledger) (n : ℕ) (p : Prefix) → Invariant h g
     → Complete (view_findings h n p) h.committed h.terms h.certificates
 unfolding view_findings
 complete_view h g n p v c m i l o =
-    named_noted h.findings (mismatches h.prefixes n (begun_by p)) _ (v.complete c m i l o)
+    named_noted h.findings (mismatches h.prefixes n (prefixes_of p)) _ (v.complete c m i l o)
 
 pub keeps_view : (h : History) (g : Ledger) (n : ℕ) (es : List Shown) → Invariant h g
     → Invariant (effect h (view n es)) (entered g (view n es))

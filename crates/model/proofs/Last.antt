@@ -9,7 +9,7 @@ use Rattle.model.specs.Refusal.{Refusal}
 use Rattle.model.specs.Record.{Record}
 use Rattle.model.specs.Reading.{readable, read}
 use Rattle.model.specs.History.{History, fresh}
-use Rattle.model.specs.Answer.{is_accepted, refusal, effect, answer_unless, answer_read, answer, after_unless, after_read, after}
+use Rattle.model.specs.Answer.{accepted, is_accepted, refusal, value, failing_node, effect, answer_unless, answer_read, answer, after_unless, after_read, after}
 use Rattle.model.specs.Ledger.{Ledger, empty, entered, entered_read, fed}
 use Rattle.model.specs.Run.{history_from, history_of, told, ledger_from, ledger_of}
 use Rattle.model.proofs.Tests.{tf}
@@ -41,6 +41,10 @@ module _ (h : History) (g : Ledger) (s : Bytes) (r : Record) (e : read s ≡ rea
   -- an accepted record was not refused
   pub accepted_refusal : is_accepted (answer h s) ≡ true → refusal h r ≡ none
   accepted_refusal a = unless_accepted (refusal h r) (ap is_accepted (sym answer_readable) ∙ a)
+
+  -- it is answered with its value
+  pub accepted_answer : is_accepted (answer h s) ≡ true → answer h s ≡ accepted (value h r) (failing_node r)
+  accepted_answer a = answer_readable ∙ ap (answer_unless h r) (accepted_refusal a)
 
   pub accepted_after : is_accepted (answer h s) ≡ true → after h s ≡ effect h r
   unfolding after

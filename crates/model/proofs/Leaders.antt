@@ -11,7 +11,7 @@ use lib.Dec.{ltb, eqb}
 use borrow.Author.Tests.{ltb-true, ltb-false, eqb-true, eqb-false}
 use Rattle.model.specs.History.{Finding}
 use Rattle.model.specs.Leaders.{Leader, below, placed, ascending}
-use Rattle.model.specs.Ledger.{blames, ledger_leaders}
+use Rattle.model.specs.Ledger.{lacking_leaders, ledger_leaders}
 use Rattle.model.specs.Lists.{leader_of, leaders_of, leader_list}
 use Rattle.model.specs.Statements.{Before, Ascending, LeaderListAscends, LedgerLeadersAscend, pair_of, Named, LeaderListNames}
 use Rattle.model.proofs.Tests.{cond_cases, and_left, and_right, and_false, or_cases, or_false_left, or_false_right}
@@ -175,7 +175,7 @@ leader_list_ascends h = ascending_ascends (leaders_of h.findings)
 
 pub ledger_leaders_ascend : LedgerLeadersAscend
 unfolding ledger_leaders
-ledger_leaders_ascend g = ascending_ascends (blames g g.elections)
+ledger_leaders_ascend g = ascending_ascends (lacking_leaders g g.elections)
 
 named_tail : (f : Finding) (fs : List Finding) (a : Leader) → Named fs a → Named (f ∷ fs) a
 named_tail f fs a n =

@@ -3,9 +3,12 @@ pub mod Members
 pub mod Run
 pub mod Last
 pub mod Stored
+pub mod Growth
 pub mod Matching
 pub mod Committed
 pub mod Leaders
+pub mod TermPlaces
+pub mod TermOrder
 pub mod CompletenessInvariant
 pub mod CompletenessView
 pub mod CompletenessCommit
@@ -13,7 +16,7 @@ pub mod CompletenessTerms
 pub mod CompletenessElection
 pub mod CompletenessCheck
 pub mod CompletenessLedger
-pub mod CompletenessKnown
 pub mod Completeness
 pub mod Bridge
 pub mod Marked
+pub mod Arrival

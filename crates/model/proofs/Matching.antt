@@ -1,7 +1,8 @@
 -- Log Matching, as in the Raft paper: if two logs contain an entry with the same index and term, then the logs are identical
--- in all entries up through that index. From fresh, the LG-03 list is empty exactly if the accepted views match so.
+-- in all entries up through that index. From fresh, the LG-03 list has an index and term exactly if two accepted fronts do not
+-- match there (`which_pairs`), so it is empty exactly if the accepted views match.
 -- Assumes nothing.
-use Prim.Native.Nat.{ℕ, ◌≤◌, min}
+use Prim.Native.Nat.{ℕ, zero, suc, ◌<◌, ◌≤◌, min}
 use native.Mathlib.Omega.{arith}
 use mathlib.Core.Path.{◌≡◌, refl, sym, ◌∙◌, ap, subst}
 use mathlib.Core.Bool.{Bool, true, false, cond, ◌&&◌}
@@ -17,7 +18,7 @@ use Rattle.model.specs.Sizes.{Bytes}
 use Rattle.model.specs.Entry.{Prefix, same, agree, last_term}
 use Rattle.model.specs.Record.{Shown, Record, view, commit, terms, election, check, rows, front}
 use Rattle.model.specs.History.{Finding, Certificate, History}
-use Rattle.model.specs.View.{begun_by, remembered, unlike, mismatch, mismatches, stored, view_effect}
+use Rattle.model.specs.View.{prefixes_of, remembered, differing, mismatch, mismatches, stored, view_effect}
 use Rattle.model.specs.Commit.{seen, differences, commit_effect}
 use Rattle.model.specs.Terms.{terms_effect}
 use Rattle.model.specs.Election.{election_effect}
@@ -25,8 +26,8 @@ use Rattle.model.specs.Check.{relevant, lacks, lacking, lackings, check_effect}
 use Rattle.model.specs.Answer.{effect}
 use Rattle.model.specs.Lists.{before, insert, ordered, finding_list}
 use Rattle.model.specs.Run.{history_of}
-use Rattle.model.specs.Statements.{accepted_fronts, PrefixOf, brought_by, NoFinding, Matching, LogMatching, EachEntryJudged}
-use Rattle.model.proofs.Tests.{tf, either, cond_cases, cond_true, cond_false, and_left, and_right, and_both, same_yes, yes_same}
+use Rattle.model.specs.Statements.{accepted_fronts, PrefixOf, brought_by, NoFinding, term_at, Matching, LogMatching, Tells, Clashing, WhichPairs, EachEntryJudged}
+use Rattle.model.proofs.Tests.{tf, either, cond_cases, cond_true, cond_false, and_left, and_right, and_both, same_yes, same_no, no_same}
 use Rattle.model.proofs.Run.{by_events}
 use Rattle.model.proofs.Stored.{stored_exactly, stored_mem, begun_prefix, findings_after}
 
@@ -120,16 +121,16 @@ lackings_name name p ts (c ∷ cs) u =
     (without_then name (record { name = 5; node = c.leader; index = i; term = c.term }) (ltb 0 i && lacks c.log (take i p)) u)
     (lackings_name name p ts cs u)
 
-unlike_name : (name n : ℕ) (q : Prefix) (o : Option Prefix) → (3 ≡ name → ⊥) → Without name (unlike n q o)
-unlike_name name n q none u = without_nil name
-unlike_name name n q (some p) u =
-    without_else name (record { name = 3; node = n; index = length q; term = last_term q }) (same p q) u
+differing_name : (name n : ℕ) (q : Prefix) (o : Option Prefix) → (3 ≡ name → ⊥) → Without name (differing n q o)
+differing_name name n q none u = without_nil name
+differing_name name n q (some p) u =
+    without_else name (record { name = 3; node = n; index = length q; term = last_term q }) _ u
 
 pub mismatches_name : (name n : ℕ) (ps qs : List Prefix) → (3 ≡ name → ⊥) → Without name (mismatches ps n qs)
 unfolding mismatch
 mismatches_name name n ps qs u f m =
     let r = (mismatches_mem ps n qs f).0 m in
-    unlike_name name n r.0 (remembered ps (length r.0) (last_term r.0)) u f r.2
+    differing_name name n r.0 (remembered ps (length r.0) (last_term r.0)) u f r.2
 
 -- ---- the remembered prefix
 
@@ -163,42 +164,45 @@ remembered_none (x ∷ ps) i t p =
     tf (sym (and_both _ _ (eq-eqb (length x) i (sym (ap length px) ∙ k.0)) (eq-eqb (last_term x) t (sym (ap last_term px) ∙ k.1))) ∙ f))
     (λ j. remembered_none ps i t p e j k) (Memᴰ.cases_cons m))
 
--- ---- a view brings no LG-03 exactly if each of its prefixes is the one stored for its index and term, if any
+-- ---- the LG-03 of an index and a term that a view brings
 
--- no prefix of ps of q's index and term differs from q: the first one, at least
-abbrev FirstIs : List Prefix → Prefix → Type 0
-FirstIs ps q = (p : Prefix) → remembered ps (length q) (last_term q) ≡ some p → p ≡ q
+-- two stored prefixes have the index and the term, and differ
+pub record Apart (ps : List Prefix) (i t : ℕ) : Type 0 where
+  pub one : Prefix
+  pub other : Prefix
+  pub one_stored : Memᴰ one ps
+  pub other_stored : Memᴰ other ps
+  pub one_keyed : Keyed one i t
+  pub other_keyed : Keyed other i t
+  pub differ : one ≡ other → ⊥
 
-unlike_first : (n : ℕ) (q : Prefix) (o : Option Prefix) → Without 3 (unlike n q o) ↔ ((p : Prefix) → o ≡ some p → p ≡ q)
-unlike_first n q none = (λ _ p e. absurd (let z : ◌≡◌ {A = ℕ} 0 1 = cc in omega arith), λ _. without_nil 3)
-unlike_first n q (some x) =
-    (λ w p e. let xp : x ≡ p = cc in sym xp ∙ found w (either (same x q)), back)
+lg03 : ℕ → Prefix → Finding
+lg03 n q = record { name = 3; node = n; index = length q; term = last_term q }
+
+-- where another is remembered, the prefix brings it
+unlike_lg03 : (n : ℕ) (q p : Prefix) → (p ≡ q → ⊥) → Memᴰ (lg03 n q) (differing n q (some p))
+unfolding lg03
+unlike_lg03 n q p d =
+    subst (λ (l : List Finding). Memᴰ (lg03 n q) l) (sym (cond_false (same p q) [] (lg03 n q ∷ []) (no_same p q d)))
+    (Memᴰ.head refl)
+
+-- what a prefix brings has its index and term, and another is remembered for them
+unlike_tells : (n : ℕ) (q : Prefix) (o : Option Prefix) (i t : ℕ) → Tells (differing n q o) i t
+    → Keyed q i t × ((p : Prefix) × (o ≡ some p) × (p ≡ q → ⊥))
+unfolding lg03
+unlike_tells n q none i t w = absurd (Memᴰ.not-nil w.among)
+unlike_tells n q (some x) i t w = ⊎_elim alike apart (either (same x q))
   where
-    lg3 : Finding
-    lg3 = record { name = 3; node = n; index = length q; term = last_term q }
+    Among : List Finding → Type 0
+    Among l = Memᴰ w.finding l
 
-    found : Without 3 (cond (same x q) [] (lg3 ∷ [])) → (same x q ≡ true) ⊎ (same x q ≡ false) → x ≡ q
-    found w (inl t) = same_yes x q t
-    found w (inr t) =
-        absurd (w lg3 (subst (λ (l : List Finding). Memᴰ lg3 l) (sym (cond_false (same x q) [] (lg3 ∷ []) t)) (Memᴰ.head refl)) refl)
+    alike : same x q ≡ true → Keyed q i t × ((p : Prefix) × (some x ≡ some p) × (p ≡ q → ⊥))
+    alike e = absurd (Memᴰ.not-nil (subst Among (cond_true (same x q) [] (lg03 n q ∷ []) e) w.among))
 
-    back : ((p : Prefix) → some x ≡ some p → p ≡ q) → Without 3 (cond (same x q) [] (lg3 ∷ []))
-    back f = subst (λ (l : List Finding). Without 3 l) (sym (cond_true (same x q) [] (lg3 ∷ []) (yes_same x q (f x refl)))) (without_nil 3)
-
-mismatches_first : (n : ℕ) (ps qs : List Prefix) → Without 3 (mismatches ps n qs) ↔ ((q : Prefix) → Memᴰ q qs → FirstIs ps q)
-unfolding mismatch
-mismatches_first n ps qs = (
-  λ w q m. (here q).0 (λ f k. w f ((mismatches_mem ps n qs f).1 (q, m, k))),
-  λ first f m. let r = (mismatches_mem ps n qs f).0 m in (here r.0).1 (first r.0 r.1) f r.2,
-)
-  where
-    here : (q : Prefix) → Without 3 (unlike n q (remembered ps (length q) (last_term q))) ↔ FirstIs ps q
-    here q = unlike_first n q (remembered ps (length q) (last_term q))
-
--- ---- stored prefixes of one index and term are one prefix
-
-abbrev Unique : List Prefix → Type 0
-Unique ps = (p q : Prefix) → Memᴰ p ps → Memᴰ q ps → length p ≡ length q → last_term p ≡ last_term q → p ≡ q
+    apart : same x q ≡ false → Keyed q i t × ((p : Prefix) × (some x ≡ some p) × (p ≡ q → ⊥))
+    apart e =
+        let m = sym (Memᴰ.eq_of_singleton (subst Among (cond_false (same x q) [] (lg03 n q ∷ []) e) w.among)) in
+        ((ap (λ (f : Finding). f.index) m ∙ w.index, ap (λ (f : Finding). f.term) m ∙ w.term), (x, refl, same_no x q e))
 
 -- one front has each length once
 once : (f p q : Prefix) → PrefixOf f p → PrefixOf f q → length p ≡ length q → p ≡ q
@@ -207,52 +211,128 @@ once f p q x y e =
     let lq : length q ≡ y.0 = ap length y.3 ∙ length-take-le y.0 f y.2 in
     x.3 ∙ ap (λ (i : ℕ). take i f) (sym lp ∙ e ∙ lq) ∙ sym y.3
 
-unique_view : (n : ℕ) (ps : List Prefix) (f : Prefix)
-    → (Unique ps × Without 3 (mismatches ps n (begun_by f))) ↔ Unique (stored ps f)
-unique_view n ps f = (grow, shrink)
-  where
-    -- an old one and a new one of the same index and term
-    across : Unique ps → ((q : Prefix) → Memᴰ q (begun_by f) → FirstIs ps q)
-        → (p q : Prefix) → Memᴰ p ps → PrefixOf f q → length p ≡ length q → last_term p ≡ last_term q → p ≡ q
-    across u first p q m x a b = go (remembered ps (length q) (last_term q)) refl
-      where
-        go : (o : Option Prefix) → remembered ps (length q) (last_term q) ≡ o → p ≡ q
-        go none e = absurd (remembered_none ps (length q) (last_term q) p e m (a, b))
-        go (some r) e =
-            let s = remembered_some ps (length q) (last_term q) r e in
-            u p r m s.0 (a ∙ sym s.1.0) (b ∙ sym s.1.1) ∙ first q ((begun_prefix f q).1 x) r e
+-- a view of front f after the prefixes ps
+module _ (ps : List Prefix) (n : ℕ) (f : Prefix) (i t : ℕ) where
+  Brought : Type 0
+  Brought = Tells (mismatches ps n (prefixes_of f)) i t
 
-    grow : Unique ps × Without 3 (mismatches ps n (begun_by f)) → Unique (stored ps f)
-    grow c p q mp mq a b =
-        let first = (mismatches_first n ps (begun_by f)).0 c.1 in
-        ⊎_elim
-        (λ op. ⊎_elim (λ oq. c.0 p q op oq a b) (λ nq. across c.0 first p q op nq a b) ((stored_mem ps f q).0 mq))
-        (λ np. ⊎_elim (λ oq. sym (across c.0 first q p oq np (sym a) (sym b))) (λ nq. once f p q np nq a) ((stored_mem ps f q).0 mq))
-        ((stored_mem ps f p).0 mp)
+  view_tells : Brought → Apart (stored ps f) i t
+  unfolding Brought mismatch
+  view_tells w =
+      let r = (mismatches_mem ps n (prefixes_of f) w.finding).0 w.among in
+      let u = unlike_tells n r.0 (remembered ps (length r.0) (last_term r.0)) i t
+      (record { finding = w.finding; among = r.2; lg03 = w.lg03; index = w.index; term = w.term }) in
+      let s = remembered_some ps (length r.0) (last_term r.0) u.1.0 u.1.1 in
+      record {
+        one = u.1.0;
+        other = r.0;
+        one_stored = (stored_mem ps f u.1.0).1 (inl s.0);
+        other_stored = (stored_mem ps f r.0).1 (inr ((begun_prefix f r.0).0 r.1));
+        one_keyed = (s.1.0 ∙ u.0.0, s.1.1 ∙ u.0.1);
+        other_keyed = u.0;
+        differ = u.1.2;
+      }
 
-    shrink : Unique (stored ps f) → Unique ps × Without 3 (mismatches ps n (begun_by f))
-    shrink u = (
-      λ p q mp mq. u p q ((stored_mem ps f p).1 (inl mp)) ((stored_mem ps f q).1 (inl mq)),
-      (mismatches_first n ps (begun_by f)).1 (λ q m p e.
-          let s = remembered_some ps (length q) (last_term q) p e in
-          u p q ((stored_mem ps f p).1 (inl s.0)) ((stored_mem ps f q).1 (inr ((begun_prefix f q).0 m))) s.1.0 s.1.1),
-    )
+  -- an old one and a new one: the new one is not the remembered one, or that is another old one
+  across : (p q : Prefix) → Memᴰ p ps → PrefixOf f q → Keyed p i t → Keyed q i t → (p ≡ q → ⊥) → Apart ps i t ⊎ Brought
+  unfolding Brought mismatch lg03
+  across p q m x a b d = go (remembered ps (length q) (last_term q)) refl
+    where
+      go : (o : Option Prefix) → remembered ps (length q) (last_term q) ≡ o → Apart ps i t ⊎ Brought
+      go none e = absurd (remembered_none ps (length q) (last_term q) p e m (a.0 ∙ sym b.0, a.1 ∙ sym b.1))
+      go (some r) e =
+          let s = remembered_some ps (length q) (last_term q) r e in
+          ⊎_elim
+          (λ k. inl (record {
+            one = p;
+            other = r;
+            one_stored = m;
+            other_stored = s.0;
+            one_keyed = a;
+            other_keyed = (s.1.0 ∙ b.0, s.1.1 ∙ b.1);
+            differ = λ z. d (z ∙ same_yes r q k);
+          }))
+          (λ k. inr (record {
+            finding = lg03 n q;
+            among =
+                (mismatches_mem ps n (prefixes_of f) (lg03 n q)).1 (
+                  q,
+                  (begun_prefix f q).1 x,
+                  subst (λ (v : Option Prefix). Memᴰ (lg03 n q) (differing n q v)) (sym e) (unlike_lg03 n q r (same_no r q k)),
+                );
+            lg03 = refl;
+            index = b.0;
+            term = b.1;
+          }))
+          (either (same r q))
+
+  apart_view : Apart (stored ps f) i t → Apart ps i t ⊎ Brought
+  apart_view c =
+      ⊎_elim
+      (λ po. ⊎_elim
+      (λ qo. inl (record {
+        one = c.one;
+        other = c.other;
+        one_stored = po;
+        other_stored = qo;
+        one_keyed = c.one_keyed;
+        other_keyed = c.other_keyed;
+        differ = c.differ;
+      }))
+      (λ qn. across c.one c.other po qn c.one_keyed c.other_keyed c.differ)
+      ((stored_mem ps f c.other).0 c.other_stored))
+      (λ pn. ⊎_elim
+      (λ qo. across c.other c.one qo pn c.other_keyed c.one_keyed (λ e. c.differ (sym e)))
+      (λ qn. absurd (c.differ (once f c.one c.other pn qn (c.one_keyed.0 ∙ sym c.other_keyed.0))))
+      ((stored_mem ps f c.other).0 c.other_stored))
+      ((stored_mem ps f c.one).0 c.one_stored)
+
+  apart_old : Apart ps i t → Apart (stored ps f) i t
+  apart_old c =
+      record {
+        one = c.one;
+        other = c.other;
+        one_stored = (stored_mem ps f c.one).1 (inl c.one_stored);
+        other_stored = (stored_mem ps f c.other).1 (inl c.other_stored);
+        one_keyed = c.one_keyed;
+        other_keyed = c.other_keyed;
+        differ = c.differ;
+      }
 
 -- ---- kept by each accepted record
 
 abbrev Inv : History → Type 0
-Inv h = Without 3 h.findings ↔ Unique h.prefixes
+Inv h = (i t : ℕ) → Tells h.findings i t ↔ Apart h.prefixes i t
+
+tells_among : (fs gs : List Finding) (i t : ℕ) (w : Tells fs i t) → Memᴰ w.finding gs → Tells gs i t
+tells_among fs gs i t w m = record { finding = w.finding; among = m; lg03 = w.lg03; index = w.index; term = w.term }
+
+-- told after the record, exactly if told before or by what it brings
+tells_after : (h : History) (r : Record) (i t : ℕ)
+    → Tells (effect h r).findings i t ↔ (Tells h.findings i t ⊎ Tells (brought_by h r) i t)
+tells_after h r i t = (
+  λ w. ⊎_elim (λ m. inl (tells_among (effect h r).findings h.findings i t w m))
+      (λ m. inr (tells_among (effect h r).findings (brought_by h r) i t w m)) ((findings_after h r w.finding).0 w.among),
+  ⊎_elim (λ w. tells_among h.findings (effect h r).findings i t w ((findings_after h r w.finding).1 (inl w.among)))
+      (λ w. tells_among (brought_by h r) (effect h r).findings i t w ((findings_after h r w.finding).1 (inr w.among))),
+)
 
 -- a record that brings no LG-03 and stores nothing
-inv_other : (h : History) (r : Record) → Without 3 (brought_by h r) → Inv h → Without 3 (effect h r).findings ↔ Unique h.prefixes
-inv_other h r b v = (λ w. v.0 ((without_after 3 h r).0 w).0, λ u. (without_after 3 h r).1 (v.1 u, b))
+inv_other : (h : History) (r : Record) → Without 3 (brought_by h r) → Inv h
+    → (i t : ℕ) → Tells (effect h r).findings i t ↔ Apart h.prefixes i t
+inv_other h r b v i t = (
+  λ w. ⊎_elim (λ k. (v i t).0 k) (λ k. absurd (b k.finding k.among k.lg03)) ((tells_after h r i t).0 w),
+  λ c. (tells_after h r i t).1 (inl ((v i t).1 c)),
+)
 
 inv_view : (h : History) (n : ℕ) (xs : List Shown) → Inv h
-    → Without 3 (effect h (view n xs)).findings ↔ Unique (stored h.prefixes (front xs))
-inv_view h n xs v = (
-  λ w. let c = (without_after 3 h (view n xs)).0 w in (unique_view n h.prefixes (front xs)).0 (v.0 c.0, c.1),
-  λ u. let c = (unique_view n h.prefixes (front xs)).1 u in (without_after 3 h (view n xs)).1 (v.1 c.0, c.1),
-)
+    → (i t : ℕ) → Tells (effect h (view n xs)).findings i t ↔ Apart (stored h.prefixes (front xs)) i t
+unfolding Brought
+inv_view h n xs v i t =
+    let ps = h.prefixes in let f = front xs in (
+      λ w. ⊎_elim (λ k. apart_old ps n f i t ((v i t).0 k)) (λ k. view_tells ps n f i t k) ((tells_after h (view n xs) i t).0 w),
+      λ c. (tells_after h (view n xs) i t).1 (⊎_elim (λ k. inl ((v i t).1 k)) (λ k. inr k) (apart_view ps n f i t c)),
+    )
 
 keep : (h : History) (r : Record) → Inv h → Inv (effect h r)
 unfolding view_effect commit_effect terms_effect election_effect check_effect
@@ -264,46 +344,103 @@ keep h check v = inv_other h check (lackings_name 3 h.committed h.terms h.certif
 keep h (rows rs) v = inv_other h (rows rs) (without_nil 3) v
 
 inv : (ss : List Bytes) → Inv (history_of ss)
-inv = by_events (λ h g es. Inv h) (λ _ p q m. absurd (Memᴰ.not-nil m), λ _. without_nil 3) (λ h g es r _ v. keep h r v)
+inv =
+    by_events (λ h g es. Inv h) (λ i t. (λ w. absurd (Memᴰ.not-nil w.among), λ c. absurd (Memᴰ.not-nil c.one_stored)))
+    (λ h g es r _ v. keep h r v)
 
--- ---- log matching
+-- ---- which pairs
 
--- the stored prefixes are those of the accepted fronts, so they are unique exactly if the fronts match
-unique_matching : (ss : List Bytes) → Unique (history_of ss).prefixes ↔ Matching (accepted_fronts ss)
-unique_matching ss = (to, from)
+-- the stored prefixes are those of the accepted fronts: two of them differ at an index and term exactly if two fronts clash there
+above_zero : (i : ℕ) (p q : Prefix) → (take i p ≡ take i q → ⊥) → 0 < i
+above_zero zero p q d = absurd (d refl)
+above_zero (suc i) p q d = omega arith
+
+-- of the length of a prefix of the front
+reached : (i : ℕ) (x p : Prefix) → PrefixOf p x → length x ≡ i → (i ≤ length p) × (x ≡ take i p)
+reached i x p o e =
+    let l : o.0 ≡ i = sym (ap length o.3 ∙ length-take-le o.0 p o.2) ∙ e in
+    (subst (λ (k : ℕ). k ≤ length p) l o.2, o.3 ∙ ap (λ (k : ℕ). take k p) l)
+
+apart_clashing : (ss : List Bytes) (i t : ℕ) → Apart (history_of ss).prefixes i t ↔ Clashing (accepted_fronts ss) i t
+apart_clashing ss i t = (to, from)
   where
-    to : Unique (history_of ss).prefixes → Matching (accepted_fronts ss)
-    to u p q mp mq i z hp hq e =
-        u (take i p) (take i q) ((stored_exactly ss (take i p)).1 (p, mp, (i, z, hp, refl)))
-        ((stored_exactly ss (take i q)).1 (q, mq, (i, z, hq, refl)))
-        (length-take-le i p hp ∙ sym (length-take-le i q hq)) e
+    to : Apart (history_of ss).prefixes i t → Clashing (accepted_fronts ss) i t
+    to c =
+        let x = (stored_exactly ss c.one).0 c.one_stored in
+        let y = (stored_exactly ss c.other).0 c.other_stored in
+        let a = reached i c.one x.0 x.2 c.one_keyed.0 in
+        let b = reached i c.other y.0 y.2 c.other_keyed.0 in
+        record {
+          one = x.0;
+          other = y.0;
+          one_among = x.1;
+          other_among = y.1;
+          one_reaches = a.0;
+          other_reaches = b.0;
+          one_term = sym (ap last_term a.1) ∙ c.one_keyed.1;
+          other_term = sym (ap last_term b.1) ∙ c.other_keyed.1;
+          differ = λ e. c.differ (a.1 ∙ e ∙ sym b.1);
+        }
 
-    from : Matching (accepted_fronts ss) → Unique (history_of ss).prefixes
-    from f x y mx my a b =
-        let sx = (stored_exactly ss x).0 mx in
-        let sy = (stored_exactly ss y).0 my in
-        let p = sx.0 in let px = sx.2 in
-        let q = sy.0 in let qy = sy.2 in
-        let lx : length x ≡ px.0 = ap length px.3 ∙ length-take-le px.0 p px.2 in
-        let ly : length y ≡ qy.0 = ap length qy.3 ∙ length-take-le qy.0 q qy.2 in
-        let ij : qy.0 ≡ px.0 = sym ly ∙ sym a ∙ lx in
-        let yq : y ≡ take px.0 q = qy.3 ∙ ap (λ (k : ℕ). take k q) ij in
-        px.3
-        ∙ f p q sx.1 sy.1 px.0 px.1 px.2 (subst (λ (k : ℕ). k ≤ length q) ij qy.2)
-        (sym (ap last_term px.3) ∙ b ∙ ap last_term yq)
-        ∙ sym yq
+    from : Clashing (accepted_fronts ss) i t → Apart (history_of ss).prefixes i t
+    from c =
+        let z = above_zero i c.one c.other c.differ in
+        record {
+          one = take i c.one;
+          other = take i c.other;
+          one_stored = (stored_exactly ss (take i c.one)).1 (c.one, c.one_among, (i, z, c.one_reaches, refl));
+          other_stored = (stored_exactly ss (take i c.other)).1 (c.other, c.other_among, (i, z, c.other_reaches, refl));
+          one_keyed = (length-take-le i c.one c.one_reaches, c.one_term);
+          other_keyed = (length-take-le i c.other c.other_reaches, c.other_term);
+          differ = c.differ;
+        }
+
+pub which_pairs : WhichPairs
+which_pairs ss i t =
+    let h = history_of ss in (
+      λ w.
+          let held = tells_among (finding_list h) h.findings i t w ((printed h w.finding).0 w.among) in
+          (apart_clashing ss i t).0 ((inv ss i t).0 held),
+      λ c.
+          let w = (inv ss i t).1 ((apart_clashing ss i t).1 c) in
+          tells_among h.findings (finding_list h) i t w ((printed h w.finding).1 w.among),
+    )
+
+-- ---- log matching: no pair is told exactly if no two fronts clash
 
 pub log_matching : LogMatching
-log_matching ss = (
-  λ n. (unique_matching ss).0 ((inv ss).0 ((none_printed 3 (history_of ss)).0 n)),
-  λ f. (none_printed 3 (history_of ss)).1 ((inv ss).1 ((unique_matching ss).1 f)),
-)
+log_matching ss = (matches, silent)
+  where
+    matches : NoFinding 3 (history_of ss) → Matching (accepted_fronts ss)
+    matches n p q mp mq i z hp hq e =
+        ⊎_elim (λ s. same_yes (take i p) (take i q) s) (λ s. absurd (told s)) (either (same (take i p) (take i q)))
+      where
+        told : same (take i p) (take i q) ≡ false → ⊥
+        told s =
+            let w = (which_pairs ss i (term_at p i)).1 (record {
+              one = p;
+              other = q;
+              one_among = mp;
+              other_among = mq;
+              one_reaches = hp;
+              other_reaches = hq;
+              one_term = refl;
+              other_term = sym e;
+              differ = same_no (take i p) (take i q) s;
+            }) in
+            n w.finding w.among w.lg03
+
+    silent : Matching (accepted_fronts ss) → NoFinding 3 (history_of ss)
+    silent m f k e =
+        let c = (which_pairs ss f.index f.term).0 (record { finding = f; among = k; lg03 = e; index = refl; term = refl }) in
+        let z = above_zero f.index c.one c.other c.differ in
+        c.differ (m c.one c.other c.one_among c.other_among f.index z c.one_reaches c.other_reaches (c.one_term ∙ sym c.other_term))
 
 pub each_entry_judged : EachEntryJudged
 each_entry_judged ps n p f = (
   λ m.
-      let r = (mismatches_mem ps n (begun_by p) f).0 m in
+      let r = (mismatches_mem ps n (prefixes_of p) f).0 m in
       let b = (begun_prefix p r.0).0 r.1 in
       (b.0, b.1, b.2, subst (λ (q : Prefix). Memᴰ f (mismatch ps n q)) b.3 r.2),
-  λ x. (mismatches_mem ps n (begun_by p) f).1 (take x.0 p, (begun_prefix p (take x.0 p)).1 (x.0, x.1, x.2, refl), x.3),
+  λ x. (mismatches_mem ps n (prefixes_of p) f).1 (take x.0 p, (begun_prefix p (take x.0 p)).1 (x.0, x.1, x.2, refl), x.3),
 )

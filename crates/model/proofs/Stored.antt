@@ -17,7 +17,7 @@ use Rattle.model.specs.Entry.{Prefix, prefixes}
 use Rattle.model.specs.Refusal.{Refusal, number, prefixesFull, findingsFull, old_exceeds_new, lengthExceedsFront, certificatesFull}
 use Rattle.model.specs.Record.{Record, view, commit, terms, election, check, rows, front}
 use Rattle.model.specs.History.{Finding, Certificate, History, front_of, same_finding, noted}
-use Rattle.model.specs.View.{begun, begun_by, stored, view_findings, view_refusal, view_effect}
+use Rattle.model.specs.View.{prefixes_from, prefixes_of, stored, view_findings, view_refusal, view_effect}
 use Rattle.model.specs.Commit.{commit_findings, commit_refusal, commit_effect}
 use Rattle.model.specs.Terms.{first_changed, lowered, terms_effect}
 use Rattle.model.specs.Election.{in_order, election_refusal, certificate, election_effect}
@@ -33,8 +33,8 @@ use Rattle.model.proofs.Run.{by_events}
 
 -- ---- the prefixes that a front goes through
 
-pub begun_yes : (p es q : Prefix) → Memᴰ q (begun p es) → (i : ℕ) × (0 < i) × (i ≤ length es) × (q ≡ p ++ take i es)
-unfolding begun
+pub begun_yes : (p es q : Prefix) → Memᴰ q (prefixes_from p es) → (i : ℕ) × (0 < i) × (i ≤ length es) × (q ≡ p ++ take i es)
+unfolding prefixes_from
 begun_yes p [] q m = absurd (Memᴰ.not-nil m)
 begun_yes p (e ∷ es) q m = ⊎_elim here (λ k. there (begun_yes (p ++ (e ∷ [])) es q k)) (Memᴰ.cases_cons m)
   where
@@ -45,8 +45,8 @@ begun_yes p (e ∷ es) q m = ⊎_elim here (λ k. there (begun_yes (p ++ (e ∷ 
         → (i : ℕ) × (0 < i) × (i ≤ suc (length es)) × (q ≡ p ++ take i (e ∷ es))
     there x = (suc x.0, omega arith, omega (arith, x.2), x.3 ∙ append_assoc p (e ∷ []) (take x.0 es))
 
-pub yes_begun : (p es : Prefix) (i : ℕ) → 0 < i → i ≤ length es → Memᴰ (p ++ take i es) (begun p es)
-unfolding begun
+pub yes_begun : (p es : Prefix) (i : ℕ) → 0 < i → i ≤ length es → Memᴰ (p ++ take i es) (prefixes_from p es)
+unfolding prefixes_from
 yes_begun p es zero z h = absurd (not-suc-le-zero z)
 yes_begun p [] (suc i) z h = absurd (not-suc-le-zero h)
 yes_begun p (e ∷ es) (suc zero) z h = Memᴰ.head refl
@@ -54,26 +54,30 @@ yes_begun p (e ∷ es) (suc (suc i)) z h =
     Memᴰ.tail (Memᴰ.cast (sym (append_assoc p (e ∷ []) (take (suc i) es)))
     (yes_begun (p ++ (e ∷ [])) es (suc i) (omega arith) (le_of_suc-le-suc h)))
 
-pub begun_prefix : (p q : Prefix) → Memᴰ q (begun_by p) ↔ PrefixOf p q
+pub begun_prefix : (p q : Prefix) → Memᴰ q (prefixes_of p) ↔ PrefixOf p q
 begun_prefix p q = (λ m. begun_yes [] p q m, λ x. Memᴰ.cast x.3 (yes_begun [] p x.0 x.1 x.2))
 
 pub stored_mem : (ps : List Prefix) (p q : Prefix) → Memᴰ q (stored ps p) ↔ (Memᴰ q ps ⊎ PrefixOf p q)
 unfolding stored
 stored_mem ps p q = (
-  λ m. ⊎_elim (λ k. inl k) (λ k. inr ((begun_prefix p q).0 k)) (all_cases prefixes ps (begun_by p) q m),
-  ⊎_elim (λ k. all_old prefixes ps (begun_by p) q k) (λ x. all_new prefixes ps (begun_by p) q ((begun_prefix p q).1 x)),
+  λ m. ⊎_elim (λ k. inl k) (λ k. inr ((begun_prefix p q).0 k)) (all_cases prefixes ps (prefixes_of p) q m),
+  ⊎_elim (λ k. all_old prefixes ps (prefixes_of p) q k) (λ x. all_new prefixes ps (prefixes_of p) q ((begun_prefix p q).1 x)),
 )
 
 pub stored_distinct : (ps : List Prefix) (p : Prefix) → Distinct ps → Distinct (stored ps p)
 unfolding stored
-stored_distinct ps p u = all_distinct prefixes ps (begun_by p) u
+stored_distinct ps p u = all_distinct prefixes ps (prefixes_of p) u
+
+pub fronts_both : (es fs : List Event) → fronts_in (es ++ fs) ≡ fronts_in es ++ fronts_in fs
+unfolding fronts_in
+fronts_both [] fs = refl
+fronts_both (x ∷ es) fs =
+    ap (λ (l : List Prefix). front_in x.event ++ l) (fronts_both es fs)
+    ∙ sym (append_assoc (front_in x.event) (fronts_in es) (fronts_in fs))
 
 pub fronts_append : (es : List Event) (e : Event) → fronts_in (es ++ (e ∷ [])) ≡ fronts_in es ++ front_in e.event
 unfolding fronts_in
-fronts_append [] e = append-nil (front_in e.event)
-fronts_append (x ∷ es) e =
-    ap (λ (l : List Prefix). front_in x.event ++ l) (fronts_append es e)
-    ∙ sym (append_assoc (front_in x.event) (fronts_in es) (front_in e.event))
+fronts_append es e = fronts_both es (e ∷ []) ∙ ap (λ (l : List Prefix). fronts_in es ++ l) (append-nil (front_in e.event))
 
 -- ---- kept by each accepted record
 
@@ -138,7 +142,7 @@ stored_exactly ss = (inv ss).1
 -- ---- refusals 6 and 7
 
 -- a list without doubles has as many members as are counted
-counted : {A : Type 0} (d : Discrete A) (P : A → Type 0) (xs : List A) → Distinct xs → ((x : A) → Memᴰ x xs ↔ P x)
+pub counted : {A : Type 0} (d : Discrete A) (P : A → Type 0) (xs : List A) → Distinct xs → ((x : A) → Memᴰ x xs ↔ P x)
     → (n : ℕ) → Counts n P → length xs ≡ n
 counted d P xs u f n c =
     equally_long d xs c.0 u c.1 (λ x m. (c.3 x).1 ((f x).0 m)) (λ x m. (f x).1 ((c.3 x).0 m)) ∙ c.2

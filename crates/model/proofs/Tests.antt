@@ -6,7 +6,7 @@ use mathlib.Core.Path.{◌≡◌, refl, sym, ◌∙◌, ap}
 use mathlib.Core.Bool.{Bool, true, false, cond, not, ◌&&◌, ◌||◌}
 use mathlib.Core.Logic.{◌⊎◌, inl, inr}
 use lib.Dec.{eqb}
-use borrow.Author.Tests.{eqb-true, eqb-false}
+use borrow.Author.Tests.{eq-eqb, ne_eqb, eqb-true, eqb-false}
 use lib.ListN.{length, take}
 use lib.Seq.{take_all}
 use Rattle.std.specs.Bool.{then_some}
@@ -42,6 +42,12 @@ unless_zero n b x e = ap (λ (v : Bool). then_some v x) e ∙ told (eqb n 0)
     told : (z : Bool) → then_some (not z) x ≡ cond z None (Some x)
     told true = refl
     told false = refl
+
+pub zero_none : {A : Type 0} (n : ℕ) (x : A) → n ≡ 0 → None ≡ cond (eqb n 0) None (Some x)
+zero_none n x e = sym (cond_true (eqb n 0) None (Some x) (eq-eqb n 0 e))
+
+pub above_some : {A : Type 0} (n : ℕ) (x : A) → (n ≡ 0 → ⊥) → Some x ≡ cond (eqb n 0) None (Some x)
+above_some n x z = sym (cond_false (eqb n 0) None (Some x) (ne_eqb n 0 z))
 
 -- and what such an answer tells of the number
 module _ {A : Type 0} (n : ℕ) (x : A) {r : Option A} (e : r ≡ cond (eqb n 0) None (Some x)) where

@@ -1,5 +1,6 @@
 -- The answer to any byte string, and the history after it: for each kind what refuses it, its value and its effect.
 -- A refused record changes nothing.
+-- docs/SCOPE.md, "Answers".
 -- Assumes nothing.
 use Rattle.std.specs.Prelude.{ℕ, Bool, true, false}
 use Rattle.std.proofs.Math.Option.{Option, none, some}
@@ -8,7 +9,7 @@ use Rattle.model.specs.Refusal.{Refusal}
 use Rattle.model.specs.Record.{Record, view, commit, terms, election, check, rows}
 use Rattle.model.specs.Reading.{Reading, readable, unreadable, read}
 use Rattle.model.specs.History.{History}
-use Rattle.model.specs.View.{view_refusal, view_effect}
+use Rattle.model.specs.View.{view_refusal, view_value, view_effect}
 use Rattle.model.specs.Commit.{commit_refusal, commit_value, commit_effect}
 use Rattle.model.specs.Terms.{terms_refusal, terms_effect}
 use Rattle.model.specs.Election.{election_refusal, election_effect}
@@ -24,9 +25,9 @@ refusal h (election l t p n) = election_refusal h l n
 refusal h check = check_refusal h
 refusal h (rows rs) = none
 
--- "the sum of its flags; the rule for kind 6"
+-- the number of prefixes that a view made; "the sum of its flags; the rule for kind 6"
 abbrev pub value : History → Record → ℕ
-value h (view n es) = 0
+value h (view n es) = view_value h es
 value h (commit n i) = commit_value h n i
 value h (terms old new t) = 0
 value h (election l t p n) = 0
@@ -70,7 +71,7 @@ answer_read h (unreadable e) = refused e
 
 -- the first refusal in document 01's order, or acceptance
 unfoldable pub answer : History → Bytes → Answer
-unfolding read view_refusal commit_refusal election_refusal check_refusal commit_value check_value verdict
+unfolding read view_refusal commit_refusal election_refusal check_refusal view_value commit_value check_value verdict
 answer h s = answer_read h (read s)
 
 abbrev pub after_unless : History → Record → Option Refusal → History

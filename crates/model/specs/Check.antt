@@ -1,5 +1,6 @@
 -- Document 01, "Election and check", the completeness check: each certificate is judged against the committed prefix.
 -- What is said of one certificate stands by itself: its relevant index, its finding, its mark.
+-- docs/SCOPE.md, "The check".
 -- Assumes nothing.
 use Rattle.std.specs.Prelude.{ℕ, ◌+◌, max, Bool, true, false, cond, not, ◌&&◌, ◌||◌, List, [], ◌∷◌, ◌++◌, map, leb, ltb, eqb, length, take}
 use Rattle.std.proofs.Math.Option.{Option, none, some}
@@ -11,13 +12,17 @@ use Rattle.model.specs.Terms.{with_mark}
 
 -- ---- one certificate
 
+-- "a committed index whose commit term is zero is earlier than nothing" (T-03): a recorded term x is earlier than t
+abbrev pub is_earlier : ℕ → ℕ → Bool
+is_earlier x t = ltb 0 x && ltb x t
+
 -- the last index of the recorded terms, from i on, that is after the mark, within the committed prefix and has a term
--- below the certificate's; 0 where none has. A recorded zero is below every nonzero term.
+-- earlier than the certificate's; 0 where none has
 unfoldable pub last_below : ℕ → ℕ → ℕ → ℕ → List ℕ → ℕ
 last_below mark end t i [] = 0
 last_below mark end t i (x ∷ xs) =
     let later = last_below mark end t (i + 1) xs in
-    cond (eqb later 0) (cond (ltb mark i && leb i end && ltb x t) i 0) later
+    cond (eqb later 0) (cond (ltb mark i && leb i end && is_earlier x t) i 0) later
 
 -- the relevant index, 0 where there is none. If the committed prefix does not pass the mark there is none.
 unfoldable pub relevant : Prefix → List ℕ → Certificate → ℕ

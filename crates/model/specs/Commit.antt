@@ -1,4 +1,5 @@
 -- Document 01, "Commit": a commit record shows a committed prefix, which is kept, compared, or unseen.
+-- docs/SCOPE.md, "Commits".
 -- Assumes nothing.
 use Rattle.std.specs.Prelude.{ℕ, min, Bool, cond, ◌&&◌, List, [], ◌∷◌, leb, ltb, eqb, length, take, set}
 use Rattle.std.proofs.Math.Option.{Option, none, some}

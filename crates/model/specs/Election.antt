@@ -1,4 +1,5 @@
 -- Document 01, "Election and check", the election: it keeps a certificate.
+-- docs/SCOPE.md, "Elections".
 -- Assumes nothing.
 use Rattle.std.specs.Prelude.{ℕ, ◌+◌, Bool, true, false, cond, List, [], ◌∷◌, leb, ltb, eqb, length, take}
 use Rattle.std.proofs.Math.Option.{Option, none, some}

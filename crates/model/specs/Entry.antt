@@ -1,5 +1,6 @@
 -- Document 01, "Prefix": a prefix is the entries 1 to n, and equality covers term and content at each index.
 -- So a prefix is a list of entries, its end is its length, and equality is equality of lists.
+-- docs/SCOPE.md, "Prefixes".
 -- Assumes nothing.
 use Rattle.std.specs.Prelude.{ℕ, min, ◌≡◌, refl, Bool, true, false, cond, ◌||◌, length, take}
 use Rattle.std.proofs.Math.Decide.{ℕ_discrete}

@@ -1,4 +1,5 @@
 -- The history: what it holds, and the fresh one.
+-- docs/SCOPE.md, "The history".
 -- Assumes nothing.
 use Rattle.std.specs.Prelude.{ℕ, ◌≡◌, List, [], ◌∷◌, get_or, set, replicate}
 use Rattle.std.proofs.Math.Decide.{ℕ_discrete}

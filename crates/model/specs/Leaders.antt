@@ -1,4 +1,5 @@
 -- A leader list has each (term, leader) once, ascending: by term, then leader.
+-- docs/SCOPE.md, "The check".
 -- Assumes nothing.
 use Rattle.std.specs.Prelude.{ℕ, Bool, cond, ◌&&◌, ◌||◌, List, [], ◌∷◌, ltb, eqb}
 

@@ -1,5 +1,6 @@
 -- Document 01, "The plain ledger". It is fed the same records in the same order, and told of each only whether it was
 -- accepted. It takes nothing from the history: this file stands on records, their reading, entries and the order of leaders.
+-- docs/SCOPE.md, "The plain ledger".
 -- Assumes nothing.
 use Rattle.std.specs.Prelude.{ℕ, zero, suc, Bool, true, false, cond, not, ◌&&◌, ◌||◌, List, [], ◌∷◌, ◌++◌, leb, ltb, length, get_or, take, set, replicate}
 use Rattle.std.proofs.Math.Option.{Option, none, some}
@@ -96,23 +97,23 @@ without none p = true
 without (some q) p = not (begins q p)
 
 -- some index of the committed entries, among the first n, is such an index for the election
-unfoldable pub blamed : Ledger → Elected → ℕ → Bool
+unfoldable pub lacks_committed : Ledger → Elected → ℕ → Bool
 unfolding begins
-blamed g e zero = false
-blamed g e (suc i) =
-    (earlier e.term (g.terms (suc i)) && without e.log (take (suc i) g.committed)) || blamed g e i
+lacks_committed g e zero = false
+lacks_committed g e (suc i) =
+    (earlier e.term (g.terms (suc i)) && without e.log (take (suc i) g.committed)) || lacks_committed g e i
 
 -- the (term, leader) of each such election, in the order recorded
-unfoldable pub blame : Ledger → Elected → List Leader
-unfolding blamed
-blame g e = cond (blamed g e (length g.committed)) (record { term = e.term; leader = e.leader } ∷ []) []
+unfoldable pub lacking_leader : Ledger → Elected → List Leader
+unfolding lacks_committed
+lacking_leader g e = cond (lacks_committed g e (length g.committed)) (record { term = e.term; leader = e.leader } ∷ []) []
 
-unfoldable pub blames : Ledger → List Elected → List Leader
-unfolding blame
-blames g [] = []
-blames g (e ∷ es) = blame g e ++ blames g es
+unfoldable pub lacking_leaders : Ledger → List Elected → List Leader
+unfolding lacking_leader
+lacking_leaders g [] = []
+lacking_leaders g (e ∷ es) = lacking_leader g e ++ lacking_leaders g es
 
 -- "once, ascending"
 unfoldable pub ledger_leaders : Ledger → List Leader
-unfolding blames ascending
-ledger_leaders g = ascending (blames g g.elections)
+unfolding lacking_leaders ascending
+ledger_leaders g = ascending (lacking_leaders g g.elections)

@@ -16,3 +16,4 @@ pub mod Ledger
 pub mod Lists
 pub mod Run
 pub mod Statements
+pub mod TermOrder

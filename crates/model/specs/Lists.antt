@@ -1,4 +1,5 @@
 -- Document 01, "The printed sheet": the lists of a history, in printed order.
+-- docs/SCOPE.md, "The sheet".
 -- Assumes nothing.
 use Rattle.std.specs.Prelude.{ℕ, zero, suc, ◌+◌, Bool, cond, ◌&&◌, ◌||◌, List, [], ◌∷◌, ◌++◌, ltb, eqb, length, get_or}
 use Rattle.model.specs.History.{Finding, History}

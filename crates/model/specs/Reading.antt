@@ -4,6 +4,7 @@
 -- A field's own faults come in this order: its bits are missing, its value is out of limit, it is not above the one before.
 -- So each field has one reader with all its faults, and a record is a chain of fields. What follows the last field is
 -- looked at last.
+-- docs/SCOPE.md, "Records".
 -- Assumes nothing.
 use Rattle.std.specs.Prelude.{ℕ, zero, suc, ◌+◌, ◌-◌, ◌*◌, ◌/◌, ◌%◌, ◌^◌, Bool, cond, ◌&&◌, List, [], ◌∷◌, leb, ltb, eqb, length, get_or}
 use Rattle.model.specs.Sizes.{Bytes, index_limit, content_limit}

@@ -1,4 +1,5 @@
 -- Document 01, "Record bits": the six kinds of records with their fields, and the front of a view.
+-- docs/SCOPE.md, "Records".
 -- Assumes nothing.
 use Rattle.std.specs.Prelude.{ℕ, ◌+◌, Bool, cond, List, [], ◌∷◌, eqb}
 use Rattle.model.specs.Entry.{Entry, Prefix}

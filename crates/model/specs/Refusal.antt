@@ -1,4 +1,5 @@
 -- Document 01, "Refused records": each refusal and its number. 12 belongs to the storage of a history in bytes.
+-- docs/SCOPE.md, "Refusals".
 -- Assumes nothing.
 use Rattle.std.specs.Prelude.{ℕ}
 

@@ -1,4 +1,5 @@
 -- Document 01, "Rows": the first failing row of the first failing rule. The history is not changed.
+-- docs/SCOPE.md, "Rows".
 -- Assumes nothing.
 use Rattle.std.specs.Prelude.{ℕ, Bool, cond, not, ◌&&◌, ◌||◌, List, [], ◌∷◌, ltb, eqb}
 use Rattle.std.proofs.Math.Option.{Option, none, some}

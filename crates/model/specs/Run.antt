@@ -1,6 +1,7 @@
 -- "For every list of byte strings handed in turn to one fresh history": the history, the ledger and the answers after a
 -- list of records. Each record is handed the history as the one before it left it, and the ledger is told of each only
 -- whether it was accepted.
+-- docs/SCOPE.md, "Promises".
 -- Assumes nothing.
 use Rattle.std.specs.Prelude.{List, [], ◌∷◌, ◌++◌}
 use Rattle.std.proofs.Math.Option.{Option, none, some}

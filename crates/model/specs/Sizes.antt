@@ -1,6 +1,7 @@
 -- Document 01, "Sizes of things".
 -- Node 0 to 63, index, count and length 0 to 256, term 32 bits, content 0 to 32 bytes. A history holds 512 distinct
 -- nonempty prefixes, 64 certificates and 128 distinct findings. Here each is a number; the code keeps them apart as units.
+-- docs/SCOPE.md, "Sizes".
 -- Assumes nothing.
 use Rattle.std.specs.Prelude.{ℕ, ◌+◌, List}
 

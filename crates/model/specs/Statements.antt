@@ -1,9 +1,10 @@
 -- What is proved of the model, and the words that it is said in: what a list of records shows, that the findings say of it
 -- exactly what document 01 promises, and what a history holds. The theorems are in proofs/, each in the file that a heading
 -- here names; `crates/promises/specs` says the three demands of the library in the same words.
+-- docs/SCOPE.md, "Promises".
 -- Assumes nothing.
-use Rattle.std.specs.Prelude.{ℕ, min, ◌<◌, ◌≤◌, ◌≡◌, ◌↔◌, true, cond, ◌&&◌, List, [], ◌∷◌, ◌++◌, leb, ltb, length, get_or, take}
-use Rattle.std.proofs.Math.Option.{none, some}
+use Rattle.std.specs.Prelude.{ℕ, ◌+◌, min, ◌<◌, ◌≤◌, ◌≡◌, ◌↔◌, true, cond, ◌&&◌, List, [], ◌∷◌, ◌++◌, leb, ltb, length, get_or, take}
+use Rattle.std.proofs.Math.Option.{some}
 use mathlib.Core.Logic.{◌⊎◌}
 use mathlib.Core.List.{Memᴰ}
 use Rattle.model.specs.Entry.{Prefix, last_term}
@@ -11,10 +12,10 @@ use Rattle.model.specs.Refusal.{Refusal, prefixesFull, findingsFull}
 use Rattle.model.specs.Record.{Shown, Record, view, commit, terms, election, check, rows, front}
 use Rattle.model.specs.Reading.{readable, read}
 use Rattle.model.specs.History.{Finding, History}
-use Rattle.model.specs.View.{begun_by, mismatch, mismatches}
+use Rattle.model.specs.View.{prefixes_of, mismatch, mismatches}
 use Rattle.model.specs.Commit.{seen, differences}
 use Rattle.model.specs.Check.{lackings}
-use Rattle.model.specs.Answer.{refused, is_accepted, answer, refusal, after}
+use Rattle.model.specs.Answer.{refused, is_accepted, answer, refusal, value, effect, after}
 use Rattle.model.specs.Leaders.{Leader}
 use Rattle.model.specs.Ledger.{Ledger, ledger_leaders}
 use Rattle.model.specs.Lists.{finding_list, leader_list}
@@ -77,9 +78,23 @@ SixExactly =
     → Counts count (λ q. PrefixIn (accepted_fronts ss) q ⊎ PrefixOf (front xs) q)
     → (refusal (history_of ss) (view n xs) ≡ some prefixesFull) ↔ (prefix_limit < count)
 
+-- The value of a view is the stored prefixes after it less those before it.
+abbrev pub ValueIsStored : Type 0
+ValueIsStored =
+    (h : History) (n : ℕ) (xs : List Shown) → length h.prefixes + value h (view n xs) ≡ length (effect h (view n xs)).prefixes
+
+-- From fresh, the value of an accepted view is the distinct nonempty prefixes of the accepted fronts with its own, less those
+-- before it.
+abbrev pub ValueIsGrowth : Type 0
+ValueIsGrowth =
+    (ss : List Bytes) (s : Bytes) (n : ℕ) (xs : List Shown) (before with_it : ℕ)
+    → read s ≡ readable (view n xs) → is_accepted (answer (history_of ss) s) ≡ true
+    → Counts before (PrefixIn (accepted_fronts ss)) → Counts with_it (PrefixIn (accepted_fronts (ss ++ (s ∷ []))))
+    → before + value (history_of ss) (view n xs) ≡ with_it
+
 -- the findings that a record brings, whether new or held already
 abbrev pub brought_by : History → Record → List Finding
-brought_by h (view n xs) = mismatches h.prefixes n (begun_by (front xs))
+brought_by h (view n xs) = mismatches h.prefixes n (prefixes_of (front xs))
 brought_by h (commit n i) = differences n h.committed (seen h n i)
 brought_by h (terms old new t) = []
 brought_by h (election l t p n) = []
@@ -123,12 +138,78 @@ Matching fronts =
 abbrev pub LogMatching : Type 0
 LogMatching = (ss : List Bytes) → NoFinding 3 (history_of ss) ↔ Matching (accepted_fronts ss)
 
+-- the list has an LG-03 of this index and term, for some node
+pub record Tells (fs : List Finding) (i t : ℕ) : Type 0 where
+  pub finding : Finding
+  pub among : Memᴰ finding fs
+  pub lg03 : finding.name ≡ 3
+  pub index : finding.index ≡ i
+  pub term : finding.term ≡ t
+
+-- two of the fronts reach the index, have the term there, and differ through it
+pub record Clashing (fronts : List Prefix) (i t : ℕ) : Type 0 where
+  pub one : Prefix
+  pub other : Prefix
+  pub one_among : Memᴰ one fronts
+  pub other_among : Memᴰ other fronts
+  pub one_reaches : i ≤ length one
+  pub other_reaches : i ≤ length other
+  pub one_term : term_at one i ≡ t
+  pub other_term : term_at other i ≡ t
+  pub differ : take i one ≡ take i other → ⊥
+
+-- Which pairs: from fresh, the LG-03 list has an index and term exactly if two accepted fronts clash there.
+abbrev pub WhichPairs : Type 0
+WhichPairs = (ss : List Bytes) (i t : ℕ) → Tells (finding_list (history_of ss)) i t ↔ Clashing (accepted_fronts ss) i t
+
+-- the two LG-03 lists name the same pairs of index and term
+abbrev pub SamePairs : List Bytes → List Bytes → Type 0
+SamePairs ss rs = (i t : ℕ) → Tells (finding_list (history_of ss)) i t ↔ Tells (finding_list (history_of rs)) i t
+
+-- the lists have the same members, in whatever order and however often
+abbrev pub SameMembers : {A : Type 0} → List A → List A → Type 0
+SameMembers {A} xs ys = (x : A) → Memᴰ x xs ↔ Memᴰ x ys
+
+-- the same byte strings of a sort stand in both lists, in whatever order and whatever stands between them
+abbrev pub SameSent : (Bytes → Type 0) → List Bytes → List Bytes → Type 0
+SameSent P ss rs = (s : Bytes) → P s → Memᴰ s ss ↔ Memᴰ s rs
+
+-- each byte string of a sort is accepted where it stands
+abbrev pub EachAccepted : (Bytes → Type 0) → List Bytes → Type 0
+EachAccepted P ss =
+    (before : List Bytes) (s : Bytes) (later : List Bytes) → ss ≡ before ++ (s ∷ later)
+    → P s → is_accepted (answer (history_of before) s) ≡ true
+
+-- the accepted fronts are the same set
+abbrev pub SameFronts : List Bytes → List Bytes → Type 0
+SameFronts ss rs = SameMembers (accepted_fronts ss) (accepted_fronts rs)
+
+-- So where the accepted fronts are the same set, the pairs are the same.
+abbrev pub PairsByFronts : Type 0
+PairsByFronts = (ss rs : List Bytes) → SameFronts ss rs → SamePairs ss rs
+
+-- s is read as a view
+pub record IsView (s : Bytes) : Type 0 where
+  pub node : ℕ
+  pub shown : List Shown
+  pub reads : read s ≡ readable (view node shown)
+
+abbrev pub SameViews : List Bytes → List Bytes → Type 0
+SameViews ss rs = SameSent IsView ss rs
+
+abbrev pub ViewsAccepted : List Bytes → Type 0
+ViewsAccepted ss = EachAccepted IsView ss
+
+-- Any arrival: where the same views are accepted throughout in two orders, the pairs are the same, whichever the nodes.
+abbrev pub AnyArrival : Type 0
+AnyArrival = (ss rs : List Bytes) → SameViews ss rs → ViewsAccepted ss → ViewsAccepted rs → SamePairs ss rs
+
 -- The walk goes on along the view's own front: a view brings LG-03 for each of its prefixes that differs from the one
 -- remembered for its index and term, and no other.
 abbrev pub EachEntryJudged : Type 0
 EachEntryJudged =
     (ps : List Prefix) (n : ℕ) (p : Prefix) (f : Finding)
-    → Memᴰ f (mismatches ps n (begun_by p))
+    → Memᴰ f (mismatches ps n (prefixes_of p))
     ↔ ((i : ℕ) × (0 < i) × (i ≤ length p) × Memᴰ f (mismatch ps n (take i p)))
 
 -- ---- committed prefixes (Committed)
@@ -165,21 +246,12 @@ CommittedPrefixes = (ss : List Bytes) → NoFinding 4 (history_of ss) ↔ Agreei
 
 -- ---- Leader Completeness (Completeness)
 
--- each committed entry has a commit term
-abbrev pub Known : Ledger → Type 0
-Known g = (i : ℕ) → 0 < i → i ≤ length g.committed → g.terms i ≡ none → ⊥
-
--- at every accepted check each committed entry has its commit term
-abbrev pub KnownAtChecks : List Bytes → Type 0
-KnownAtChecks ss = (e : Event) → Memᴰ e (events_of ss) → e.event ≡ check → Known e.ledger
-
--- Demand 3: for every list of byte strings handed in turn to one fresh history and ending with an accepted check, if each
--- committed entry has its commit term at every accepted check, the leader list equals the plain ledger's.
+-- Demand 3: for every list of byte strings handed in turn to one fresh history and ending with an accepted check, the leader
+-- list equals the plain ledger's.
 abbrev pub LeaderCompleteness : Type 0
 LeaderCompleteness =
     (ss : List Bytes) (s : Bytes)
     → read s ≡ readable check → is_accepted (answer (history_of ss) s) ≡ true
-    → KnownAtChecks (ss ++ (s ∷ []))
     → leader_list (history_of (ss ++ (s ∷ []))) ≡ ledger_leaders (ledger_of (ss ++ (s ∷ [])))
 
 -- ---- leader lists (Leaders)

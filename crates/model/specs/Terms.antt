@@ -1,4 +1,5 @@
 -- Document 01, "Commit terms": the list of commit terms, and the marks that a late term lowers.
+-- docs/SCOPE.md, "Commit terms".
 -- Assumes nothing.
 use Rattle.std.specs.Prelude.{ℕ, ◌+◌, ◌-◌, Bool, cond, ◌&&◌, ◌||◌, List, [], ◌∷◌, ◌++◌, map, leb, ltb, eqb, length, replicate}
 use Rattle.std.proofs.Math.Option.{Option, none, some}

@@ -1,24 +1,33 @@
--- The three demands about what `history` exports, by the model's bridge.
+-- The three demands and log matching for any arrival, about what `history` exports, by the model's bridge.
 -- Assumes nothing.
-use Prim.Native.Nat.{ℕ, zero, suc}
+use Prim.Native.Nat.{ℕ, zero, suc, ◌+◌}
 use native.Mathlib.Omega.{arith}
 use mathlib.Core.Path.{◌≡◌, refl, sym, ◌∙◌, ap, subst}
+use mathlib.Core.Bool.{true}
 use mathlib.Core.List.Memᴰ
 use mathlib.Core.List.{List, [], ◌∷◌, ◌++◌, Memᴰ}
 use mathlib.Core.Logic.{◌↔◌, ⊎_elim}
 use Rattle.model.specs.Sizes.{Bytes}
-use Rattle.model.specs.History.{Finding}
-use Rattle.model.specs.Answer.{is_accepted, answer}
+use Rattle.model.specs.History.{Finding, History}
+use Rattle.model.specs.Record.{view}
+use Rattle.model.specs.Answer.{is_accepted, value, answer}
 use Rattle.model.specs.Leaders.{Leader}
 use Rattle.model.specs.Ledger.{empty, ledger_leaders}
 use Rattle.model.specs.Lists.{finding_list, leader_list}
 use Rattle.model.specs.Run.{history_of}
+use Rattle.model.specs.Run as run
+use Rattle.model.proofs.Growth as growth
+use Rattle.model.proofs.Last.{accepted_answer}
+use Rattle.model.specs.Statements.{Tells}
+use Rattle.model.specs.Statements as statements
 use Rattle.model.proofs.Tests.{cond_true, either}
 use Rattle.model.proofs.Bridge as bridge
+use Rattle.model.proofs.Matching as matching
+use Rattle.model.proofs.Arrival as arrival
 use Rattle.storage.specs.Rules.{well_formed}
 use Rattle.storage.specs.Decode.{decode}
 use Rattle.storage.specs.Fresh.{fresh_history}
-use Rattle.storage.proofs.Meanings.{Stands, stand}
+use Rattle.storage.proofs.Meanings.{Represents, represented}
 use Rattle.answers.specs.Step.{Step}
 use Rattle.answers.specs.Numbers.{reply_of, model_reply}
 use Rattle.submission.proofs.Meaning.{submit_broken}
@@ -30,25 +39,34 @@ use Rattle.history.specs.declared.exports.FindingReply.{FindingReply}
 use Rattle.submission.specs.Replies.{submit_answer}
 use Rattle.history.specs.Exports.{a_finding, no_finding, finding_out, a_leader, no_leader}
 use Rattle.history.proofs.Handed.{reply_alike, number_refused}
-use Rattle.promises.specs.Run.{bytes_of, ledger_of}
-use Rattle.promises.specs.Demands.{NeverEleven, ModelNeverEleven, NeverBroken, Demand1, PrintsNone, Demand2Matching, Demand2Committed, Demand3}
-use Rattle.promises.proofs.Machine.{said, submitting, means, accepts_is, states_are, ledgers_are}
-use Rattle.promises.proofs.Checks.{known_alike}
+use Rattle.promises.specs.Run.{bytes_of, reply_to, ledger_of}
+use Rattle.promises.specs.Demands.{ValueIsGrowth, NeverEleven, ModelNeverEleven, NeverBroken, Demand1, PrintsNone, Demand2Matching, Demand2Committed, Demand3, Gives, WhichPairs, SamePairs, PairsByFronts, ViewsAccepted, AnyArrival}
+use Rattle.promises.proofs.Machine.{said, submitting, means, accepts_is, accepts_alike, states_are, ledgers_are}
 
 -- ---- demand 1
 
 -- the bytes after every list stand for the model's history
-stands : (ss : List Bytes) → Stands (bytes_of ss) (history_of ss)
-stands ss = subst (λ (h : Bytes). Stands h (history_of ss)) (states_are ss fresh_history) (bridge.stands_always submitting ss).0
+pub represents : (ss : List Bytes) → Represents (bytes_of ss) (history_of ss)
+represents ss = subst (λ (h : Bytes). Represents h (history_of ss)) (states_are ss fresh_history) (bridge.represents_always submitting ss).0
 
 pub never_broken : NeverBroken
-never_broken ss = ((stands ss).right, (stands ss).decodes)
+never_broken ss = ((represents ss).right, (represents ss).decodes)
 
 pub demand1 : Demand1
 demand1 ss s =
-    let m = means (bytes_of ss) (history_of ss) (stands ss) s in
+    let m = means (bytes_of ss) (history_of ss) (represents ss) s in
     let e = reply_alike (submit_answer (bytes_of ss) s) (answer (history_of ss) s) m.answers in
     (e, λ f. m.keeps (number_refused (answer (history_of ss) s) (λ z. f (ap (λ (r : Reply). r.refusal) e ∙ z))))
+
+-- ---- the value of a view
+
+pub value_is_growth : ValueIsGrowth
+value_is_growth ss s n xs before with_it e a b w =
+    let h = history_of ss in
+    let taken : is_accepted (answer h s) ≡ true = sym (accepts_alike (bytes_of ss) h (represents ss) s) ∙ a in
+    let given : (reply_to ss s).value ≡ value h (view n xs) =
+    ap (λ (r : Reply). r.value) (demand1 ss s).0 ∙ ap (λ (x : model.Answer). (model_reply x).value) (accepted_answer h (run.ledger_of ss) s (view n xs) e taken) in
+    ap (λ (v : ℕ). before + v) given ∙ growth.value_is_growth ss s n xs before with_it e taken b w
 
 -- ---- 11 is never given: no refusal has the number
 
@@ -75,43 +93,73 @@ pub never_eleven : NeverEleven
 never_eleven h s z =
     ⊎_elim
     (λ w.
-    let m = means h (decode h) (stand h w) s in
+    let m = means h (decode h) (represented h w) s in
     model_none (answer (decode h) s) (ap (λ (r : Reply). r.refusal) (sym (reply_alike (submit_answer h s) (answer (decode h) s) m.answers)) ∙ z))
     (λ w. let e = ap (λ (t : Step). (reply_of t.answer).refusal) (submit_broken h s w) in omega (arith, sym e ∙ z))
     (either (well_formed h))
 
+-- ---- what the reader of findings gives
+
+-- after every list, the n-th of the model's history
+pub read_out : (ss : List Bytes) (n : ℕ)
+    → finding_out (bytes_of ss) n ≡ nth a_finding (no_finding 1) (finding_list (history_of ss)) n
+read_out ss n =
+    cond_true (well_formed (bytes_of ss)) _ (no_finding 12) (never_broken ss).0
+    ∙ ap (λ (h : History). nth a_finding (no_finding 1) (finding_list h) n) (never_broken ss).1
+
+-- a list has one that Q holds of, by its members and by its places
+module _ (Q : FindingReply → Type 0) where
+  record Among (fs : List Finding) : Type 0 where
+    pub finding : Finding
+    pub among : Memᴰ finding fs
+    pub holds : Q (a_finding finding)
+
+  record At (r : ℕ → FindingReply) : Type 0 where
+    pub position : ℕ
+    pub given : (r position).state ≡ 0
+    pub holds : Q (r position)
+
+  by_member : (fs : List Finding) (f : Finding) → Memᴰ f fs → Q (a_finding f) → At (nth a_finding (no_finding 1) fs)
+  by_member [] f m q = absurd (Memᴰ.not-nil m)
+  by_member (g ∷ fs) f m q =
+      ⊎_elim
+      (λ e. record { position = 0; given = refl; holds = subst (λ (x : Finding). Q (a_finding x)) e q })
+      (λ t. let a = by_member fs f t q in record { position = suc a.position; given = a.given; holds = a.holds }) (Memᴰ.cases_cons m)
+
+  by_place : (fs : List Finding) (n : ℕ) → (nth a_finding (no_finding 1) fs n).state ≡ 0 → Q (nth a_finding (no_finding 1) fs n)
+      → Among fs
+  by_place [] n e q = absurd (omega (arith, e))
+  by_place (g ∷ fs) zero e q = record { finding = g; among = Memᴰ.head refl; holds = q }
+  by_place (g ∷ fs) (suc n) e q =
+      let a = by_place fs n e q in record { finding = a.finding; among = Memᴰ.tail a.among; holds = a.holds }
+
+  -- the reader gives one exactly if the model's list has one
+  read_found : (ss : List Bytes) → At (finding_out (bytes_of ss)) ↔ Among (finding_list (history_of ss))
+  read_found ss =
+      let fs = finding_list (history_of ss) in (
+        λ a. by_place fs a.position (sym (ap (λ (r : FindingReply). r.state) (read_out ss a.position)) ∙ a.given)
+            (subst Q (read_out ss a.position) a.holds),
+        λ a.
+            let b = by_member fs a.finding a.among a.holds in
+            record {
+              position = b.position;
+              given = ap (λ (r : FindingReply). r.state) (read_out ss b.position) ∙ b.given;
+              holds = subst Q (sym (read_out ss b.position)) b.holds;
+            },
+      )
+
 -- ---- demand 2
 
--- a list has none of a name, by its members and by its places
-module _ (name : ℕ) where
-  abbrev NoneAt : List Finding → Type 0
-  NoneAt fs = (n : ℕ) → (nth a_finding (no_finding 1) fs n).state ≡ 0 → (nth a_finding (no_finding 1) fs n).name ≡ name → ⊥
-
-  abbrev NoneAmong : List Finding → Type 0
-  NoneAmong fs = (f : Finding) → Memᴰ f fs → f.name ≡ name → ⊥
-
-  by_members : (fs : List Finding) → NoneAt fs → NoneAmong fs
-  by_members [] k f m q = Memᴰ.not-nil m
-  by_members (g ∷ fs) k f m q =
-      ⊎_elim (λ e. k 0 refl (sym (ap (λ (x : Finding). x.name) e) ∙ q)) (λ t. by_members fs (λ n. k (suc n)) f t q) (Memᴰ.cases_cons m)
-
-  by_places : (fs : List Finding) → NoneAmong fs → NoneAt fs
-  by_places [] k n e q = omega (arith, e)
-  by_places (g ∷ fs) k zero e q = k g (Memᴰ.head refl) q
-  by_places (g ∷ fs) k (suc n) e q = by_places fs (λ f m. k f (Memᴰ.tail m)) n e q
-
-  -- the reader gives none of the name exactly if the machine's list has none
-  printed : (ss : List Bytes) → PrintsNone name ss ↔ bridge.PrintsNone submitting name ss
-  printed ss =
-      let h = bytes_of ss in
-      let out : (n : ℕ) → finding_out h n ≡ nth a_finding (no_finding 1) (finding_list (decode h)) n =
-      λ n. cond_true (well_formed h) _ (no_finding 12) (never_broken ss).0 in
-      let state = states_are ss fresh_history in (
-        λ k. subst (λ (u : Bytes). NoneAmong (finding_list (decode u))) (sym state)
-            (by_members (finding_list (decode h)) (λ n. subst (λ (r : FindingReply). r.state ≡ 0 → r.name ≡ name → ⊥) (out n) (k n))),
-        λ k n. subst (λ (r : FindingReply). r.state ≡ 0 → r.name ≡ name → ⊥) (sym (out n))
-            (by_places (finding_list (decode h)) (subst (λ (u : Bytes). NoneAmong (finding_list (decode u))) state k) n),
-      )
+-- the reader gives none of the name exactly if the machine's list has none
+printed : (name : ℕ) (ss : List Bytes) → PrintsNone name ss ↔ bridge.PrintsNone submitting name ss
+printed name ss =
+    let both = read_found (λ r. r.name ≡ name) ss in
+    let same = submitting.findings_alike _ _ (bridge.represents_always submitting ss).0 in (
+      λ k f m e. let a = both.1 (record { finding = f; among = subst (Memᴰ f) same m; holds = e }) in k a.position a.given a.holds,
+      λ k n s e.
+          let a = both.0 (record { position = n; given = s; holds = e }) in
+          k a.finding (subst (Memᴰ a.finding) (sym same) a.among) a.holds,
+    )
 
 pub demand2_matching : Demand2Matching
 demand2_matching ss =
@@ -125,15 +173,55 @@ demand2_committed ss =
     let b = bridge.machine_committed submitting ss in
     (λ k. b.0 (a.0 k), λ k. a.1 (b.1 k))
 
+-- ---- log matching for any arrival
+
+-- an LG-03 of the index and term
+abbrev Pair : ℕ → ℕ → FindingReply → Type 0
+Pair i t r = (r.name ≡ 3) × (r.index ≡ i) × (r.term ≡ t)
+
+read_tells : (ss : List Bytes) (i t : ℕ) → Gives ss i t ↔ Tells (finding_list (history_of ss)) i t
+read_tells ss i t =
+    let both = read_found (Pair i t) ss in (
+      λ g.
+          let a = both.0 (record { position = g.position; given = g.given; holds = (g.lg03, g.index, g.term) }) in
+          record { finding = a.finding; among = a.among; lg03 = a.holds.0; index = a.holds.1; term = a.holds.2 },
+      λ w.
+          let a = both.1 (record { finding = w.finding; among = w.among; holds = (w.lg03, w.index, w.term) }) in
+          record { position = a.position; given = a.given; lg03 = a.holds.0; index = a.holds.1; term = a.holds.2 },
+    )
+
+pub which_pairs : WhichPairs
+which_pairs ss i t =
+    let a = read_tells ss i t in
+    let b = matching.which_pairs ss i t in
+    (λ g. b.0 (a.0 g), λ c. a.1 (b.1 c))
+
+-- what the model's lists have in common, the reader's have
+read_alike : (ss rs : List Bytes) → statements.SamePairs ss rs → SamePairs ss rs
+read_alike ss rs k i t =
+    let a = read_tells ss i t in
+    let b = read_tells rs i t in
+    (λ g. b.1 ((k i t).0 (a.0 g)), λ g. a.1 ((k i t).1 (b.0 g)))
+
+pub pairs_by_fronts : PairsByFronts
+pairs_by_fronts ss rs same = read_alike ss rs (arrival.pairs_by_fronts ss rs same)
+
+views_accepted : (ss : List Bytes) → ViewsAccepted ss → statements.ViewsAccepted ss
+views_accepted ss a before s later e v =
+    sym (accepts_alike (bytes_of before) (history_of before) (represents before) s) ∙ a before s later e v
+
+pub any_arrival : AnyArrival
+any_arrival ss rs same a b = read_alike ss rs (arrival.any_arrival ss rs same (views_accepted ss a) (views_accepted rs b))
+
 -- ---- demand 3
 
 pub demand3 : Demand3
-demand3 ss s c a k n =
+demand3 ss s c a n =
     let whole = ss ++ (s ∷ []) in
     let taken = ap (λ (h : Bytes). is_accepted (said (submit_answer h s))) (states_are ss fresh_history) ∙ sym (accepts_is (bytes_of ss) s) ∙ a in
     let same : leader_list (decode (bytes_of whole)) ≡ ledger_leaders (ledger_of whole) =
     ap (λ (h : Bytes). leader_list (decode h)) (sym (states_are whole fresh_history))
-    ∙ bridge.machine_completeness submitting ss s c taken (known_alike whole k)
+    ∙ bridge.machine_completeness submitting ss s c taken
     ∙ ap ledger_leaders (ledgers_are whole fresh_history empty) in
     cond_true (well_formed (bytes_of whole)) _ (no_leader 12) (never_broken whole).0
     ∙ ap (λ (ls : List Leader). nth a_leader (no_leader 1) ls n) same

@@ -1,4 +1,4 @@
 pub mod Machine
-pub mod Checks
 pub mod Demands
+pub mod TermOrder
 pub mod Examples

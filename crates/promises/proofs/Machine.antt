@@ -16,7 +16,7 @@ use Rattle.model.proofs.Bridge.{Machine, state_from, told_from}
 use Rattle.record_bits.specs.declared.bits.Fault.{Fault}
 use Rattle.storage.specs.Decode.{decode}
 use Rattle.storage.specs.Fresh.{fresh_history}
-use Rattle.storage.proofs.Meanings.{Stands, fresh_stands}
+use Rattle.storage.proofs.Meanings.{Represents, fresh_represented}
 use Rattle.std.specs.Prelude.{Result, Ok, Err}
 use Rattle.answers.specs.declared.answer.Accepted.{Accepted}
 use Rattle.answers.specs.declared.answer.Refusal.{Refusal}
@@ -27,7 +27,7 @@ use Rattle.promises.specs.Run.{bytes_from, accepts, ledger_from}
 
 -- ---- the machine
 
-pub means : (h : Bytes) (x : History) → Stands h x → (s : Bytes) → Means h x s (submit_step h s)
+pub means : (h : Bytes) (x : History) → Represents h x → (s : Bytes) → Means h x s (submit_step h s)
 means h x r s = submit_means h x s r
 
 -- the model's answer. Bytes that stand for a history are never answered 12, so what stands for 12 does not matter.
@@ -45,10 +45,10 @@ submitting =
       start = fresh_history;
       answers = λ h s. said (submit_answer h s);
       next = submit_bytes;
-      Stands = Stands;
-      starts = fresh_stands;
+      Represents = Represents;
+      starts = fresh_represented;
       alike = λ h x r s. ap or_else (means h x r s).answers;
-      keeps = λ h x r s. (means h x r s).stands;
+      keeps = λ h x r s. (means h x r s).represents;
       findings = λ h. finding_list (decode h);
       leaders = λ h. leader_list (decode h);
       findings_alike = λ h x r. ap finding_list r.decodes;
@@ -77,6 +77,10 @@ by_number (Err Refusal.StorageBroken) = refl
 
 pub accepts_is : (h s : Bytes) → accepts h s ≡ is_accepted (said (submit_answer h s))
 accepts_is h s = by_number (submit_answer h s)
+
+-- an accepted record, by the number of its reply and by the model
+pub accepts_alike : (h : Bytes) (x : History) → Represents h x → (s : Bytes) → accepts h s ≡ is_accepted (model.answer x s)
+accepts_alike h x r s = accepts_is h s ∙ ap is_accepted (submitting.alike h x r s)
 
 pub states_are : (ss : List Bytes) (h : Bytes) → state_from submitting h ss ≡ bytes_from h ss
 unfolding state_from bytes_from

@@ -3,10 +3,8 @@
 -- Assumes nothing.
 use Rattle.std.specs.Prelude.{◌≡◌, Bool, true, List, [], ◌∷◌, ◌++◌, eqb}
 use Rattle.model.specs.Sizes.{Bytes}
-use Rattle.model.specs.Record.{check}
-use Rattle.model.specs.Reading.{readable, read}
 use Rattle.model.specs.Ledger.{Ledger, empty, fed}
-use Rattle.model.specs.Statements.{Known}
+use Rattle.model.specs.TermOrder.{IsTerms}
 use Rattle.storage.specs.Fresh.{fresh_history}
 use Rattle.answers.specs.declared.numbers.Reply.{Reply}
 use Rattle.answers.specs.Numbers.{reply_of}
@@ -38,8 +36,12 @@ ledger_from h g (s ∷ ss) = ledger_from (submit_bytes h s) (fed g s (accepts h 
 abbrev pub ledger_of : List Bytes → Ledger
 ledger_of ss = ledger_from fresh_history empty ss
 
--- at every accepted check of the list each committed entry of the ledger has its commit term
-abbrev pub KnownAtChecks : List Bytes → Type 0
-KnownAtChecks ss =
-    (before : List Bytes) (c : Bytes) (later : List Bytes) → ss ≡ before ++ (c ∷ later)
-    → read c ≡ readable check → accepts (bytes_of before) c ≡ true → Known (ledger_of before)
+-- each byte string of a sort is accepted where it stands
+abbrev pub EachAccepted : (Bytes → Type 0) → List Bytes → Type 0
+EachAccepted P ss =
+    (before : List Bytes) (s : Bytes) (later : List Bytes) → ss ≡ before ++ (s ∷ later)
+    → P s → accepts (bytes_of before) s ≡ true
+
+-- each kind 3 record of the list is accepted when it comes
+abbrev pub TermsAccepted : List Bytes → Type 0
+TermsAccepted ss = EachAccepted IsTerms ss

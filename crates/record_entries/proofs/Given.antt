@@ -15,7 +15,7 @@ use Rattle.model.specs.Refusal.{Refusal, bitsMissing, outOfLimit, notAbove}
 use Rattle.model.specs.Record.{Shown, Configuration, Row}
 use Rattle.model.specs.Reading.{field_at, bytes_at, Part, got, fault, Reader, onward, require, return, field, limited, governed, yes_no, content, entry_index, row_node, shown, configuration, row}
 use Rattle.record_bits.proofs.Widths.{field_lt}
-use Rattle.record_entries.specs.Places.{index_at, term_at, length_at, content_at, next_at, shown_at, configuration_at, row_at, after_row}
+use Rattle.record_entries.specs.BitLayout.{index_at, term_at, length_at, content_at, next_at, shown_at, configuration_at, row_at, after_row}
 
 -- ---- chains
 

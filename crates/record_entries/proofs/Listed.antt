@@ -13,7 +13,7 @@ use Rattle.model.specs.Reading.{Part, got, fault, Reader, onward, return, many}
 use Rattle.record_bits.specs.declared.bits.Fault.{Fault}
 use Rattle.record_bits.specs.Answers.{refusal_of}
 use Rattle.record_entries.specs.Scans.{keyed, ended, end_part}
-use Rattle.record_entries.specs.Places.{items_at, end_at, Listed}
+use Rattle.record_entries.specs.BitLayout.{items_at, end_at, Listed}
 use Rattle.record_entries.proofs.Given.{fault≢got, got_same, went}
 
 -- a part of which the key and the end are known
@@ -73,13 +73,13 @@ module _ {A : Type 0} (item : ℕ → Reader A) (key : A → ℕ) (s : Bytes) wh
 -- ---- what a list that was read is
 
 -- what an item that was read is, and where it ends
-pub record Stands {A : Type 0} (at : Bytes → ℕ → A) (next : Bytes → ℕ → ℕ) (size : ℕ) (s : Bytes) (k : ℕ) (x : A) (j : ℕ) : Type 0 where
+pub record ListedAt {A : Type 0} (at : Bytes → ℕ → A) (next : Bytes → ℕ → ℕ) (size : ℕ) (s : Bytes) (k : ℕ) (x : A) (j : ℕ) : Type 0 where
   pub value : x ≡ at s k
   pub end : j ≡ next s k
   pub within : next s k ≤ k + size
 
 module _ {A : Type 0} (item : ℕ → Reader A) (key : A → ℕ) (at : Bytes → ℕ → A) (next : Bytes → ℕ → ℕ) (size : ℕ) (s : Bytes)
-    (is : (least k : ℕ) (x : A) (j : ℕ) → item least s k ≡ got x j → Stands at next size s k x j) where
+    (is : (least k : ℕ) (x : A) (j : ℕ) → item least s k ≡ got x j → ListedAt at next size s k x j) where
   pub record Read (k n : ℕ) (xs : List A) (e : ℕ) : Type 0 where
     pub values : xs ≡ items_at at next s k n
     pub end : e ≡ end_at next s k n

@@ -10,23 +10,23 @@ use Rattle.model.specs.Record.{Shown, Row}
 use Rattle.model.specs.Reading.{got, many, shown, row}
 use Rattle.record_bits.specs.declared.bits.Fault.{Fault}
 use Rattle.record_entries.specs.Scans.{ended, end_part}
-use Rattle.record_entries.specs.Places.{index_of, node_of, shown_at, next_at, entries_at, row_at, after_row, rows_at}
+use Rattle.record_entries.specs.BitLayout.{index_of, node_of, shown_at, next_at, entries_at, row_at, after_row, rows_at}
 use Rattle.record_entries.proofs.Given.{shown_is, row_is}
-use Rattle.record_entries.proofs.Listed.{Stands, keyed_is, many_is}
+use Rattle.record_entries.proofs.Listed.{ListedAt, keyed_is, many_is}
 
 -- ---- entries
 
-pub entry_stands : (s : Bytes) (least k : ℕ) (x : Shown) (j : ℕ) → shown least s k ≡ got x j
-    → Stands shown_at next_at 304 s k x j
-entry_stands s least k x j e =
+pub entry_listed : (s : Bytes) (least k : ℕ) (x : Shown) (j : ℕ) → shown least s k ≡ got x j
+    → ListedAt shown_at next_at 304 s k x j
+entry_listed s least k x j e =
     let h = shown_is s least k e in
     record { value = h.value; end = h.next; within = omega (arith, h.short) }
 
 -- ---- rows
 
-pub row_stands : (s : Bytes) (least k : ℕ) (x : Row) (j : ℕ) → row least s k ≡ got x j
-    → Stands row_at after_row 122 s k x j
-row_stands s least k x j e =
+pub row_listed : (s : Bytes) (least k : ℕ) (x : Row) (j : ℕ) → row least s k ≡ got x j
+    → ListedAt row_at after_row 122 s k x j
+row_listed s least k x j e =
     let h = row_is s least k e in
     record { value = h.value; end = h.next; within = omega arith }
 
@@ -37,7 +37,7 @@ pub entries_scanned : (s : Bytes) (k n : ℕ) {r : Result ℕ Fault} {e : ℕ} �
     → r ≡ Ok e → many shown index_of 0 n s k ≡ got (entries_at s k n) e
 entries_scanned s k n {e = e} p q =
     let d = keyed_is (λ x. 0) (many shown index_of 0 n s k) (p ∙ ap end_part q) in
-    let m = many_is shown index_of shown_at next_at 304 s (entry_stands s) 0 k n d.part in
+    let m = many_is shown index_of shown_at next_at 304 s (entry_listed s) 0 k n d.part in
     d.part ∙ ap (λ (es : List Shown). got es e) m.values
 
 -- rows that were scanned are those in the bytes
@@ -45,5 +45,5 @@ pub rows_scanned : (s : Bytes) (k n : ℕ) {r : Result ℕ Fault} {e : ℕ} → 
     → r ≡ Ok e → many row node_of 0 n s k ≡ got (rows_at s k n) e
 rows_scanned s k n {e = e} p q =
     let d = keyed_is (λ x. 0) (many row node_of 0 n s k) (p ∙ ap end_part q) in
-    let m = many_is row node_of row_at after_row 122 s (row_stands s) 0 k n d.part in
+    let m = many_is row node_of row_at after_row 122 s (row_listed s) 0 k n d.part in
     d.part ∙ ap (λ (rs : List Row). got rs e) m.values

@@ -15,10 +15,10 @@ use Rattle.model.specs.Refusal.{outOfLimit, notAbove}
 use Rattle.model.specs.Record.{Shown}
 use Rattle.model.specs.Reading.{Part, got, fault, require, limited, entry_index, shown, many}
 use Rattle.model.proofs.Tests.{tf, cond_true}
-use Rattle.record_entries.specs.Places.{index_of, shown_at, next_at, Walk}
+use Rattle.record_entries.specs.BitLayout.{index_of, shown_at, next_at, Walk}
 use Rattle.record_entries.proofs.Given.{went, required}
 use Rattle.record_entries.proofs.Listed.{walk_read}
-use Rattle.record_entries.proofs.Scanned.{entry_stands}
+use Rattle.record_entries.proofs.Scanned.{entry_listed}
 
 abbrev is_got : {A : Type 0} → Part A → Bool
 is_got (got a k) = true
@@ -43,7 +43,7 @@ module _ (s : Bytes) where
   entries_low least k (suc n) e = let g = went s (shown least s k) _ e in rw (entry_low least k g.first) g.rest
 
   read_walk : (k n : ℕ) → k + 304 * n ≤ 2 ^ 32 → (p : Part (List Shown)) → many shown index_of 0 n s k ≡ p → is_got p ≡ true → Walk s k n
-  read_walk k n h (got xs j) e t = walk_read shown index_of shown_at next_at 304 s (entry_stands s) 0 k n h e
+  read_walk k n h (got xs j) e t = walk_read shown index_of shown_at next_at 304 s (entry_listed s) 0 k n h e
   read_walk k n h (fault r) e t = absurd (tf (sym t))
 
   -- the walk that a view keeps

@@ -10,12 +10,12 @@ use Rattle.std.specs.Prelude.{Some}
 use Rattle.model.specs.Sizes.{Bytes, content_limit}
 use Rattle.model.specs.Record.{last_from}
 use Rattle.model.specs.Reading.{shown, row}
-use Rattle.record_entries.specs.Places.{index_of, node_of, shown_at, next_at, entries_at, index_at, length_at, content_at, row_at, after_row, rows_at, Walk, RowWalk}
+use Rattle.record_entries.specs.BitLayout.{index_of, node_of, shown_at, next_at, entries_at, index_at, length_at, content_at, row_at, after_row, rows_at, Walk, RowWalk}
 use Rattle.record_entries.specs.declared.walk.ShownEntry.{ShownEntry}
 use Rattle.record_entries.specs.Values.{shown_entry, Here, RowHere, EntryTaken}
 use Rattle.record_bits.proofs.Widths.{bytes_length}
 use Rattle.record_entries.proofs.Given.{Entered, Rowed, shown_is, row_is}
-use Rattle.record_entries.proofs.Scanned.{entry_stands, row_stands}
+use Rattle.record_entries.proofs.Scanned.{entry_listed, row_listed}
 use Rattle.record_entries.proofs.Listed.{walk_item, walk_next, items_none, items_next, items_length}
 
 -- With 0 < n left at bit k, the model's remaining entries are the one there and those after it
@@ -31,11 +31,11 @@ module _ (s : Bytes) (k n : ℕ) where
   entries_length = items_length shown_at next_at s k n
 
   pub next_walk : Walk s k n → 0 < n → Walk s (next_at s k) (n - 1)
-  next_walk w h = walk_next shown index_of shown_at next_at 304 s (entry_stands s) k n w h
+  next_walk w h = walk_next shown index_of shown_at next_at 304 s (entry_listed s) k n w h
 
   -- all that is known of the entry there
   pub walk_entered : (w : Walk s k n) → 0 < n → Entered s w.least k (shown_at s k) (next_at s k)
-  walk_entered w h = shown_is s w.least k (walk_item shown index_of shown_at next_at 304 s (entry_stands s) k n w h)
+  walk_entered w h = shown_is s w.least k (walk_item shown index_of shown_at next_at 304 s (entry_listed s) k n w h)
 
   -- what `entry_at`, `index_at` and `next_at` ask
   pub here : Walk s k n → 0 < n → Here s k
@@ -84,10 +84,10 @@ module _ (s : Bytes) (k n : ℕ) where
   rows_length = items_length row_at after_row s k n
 
   pub next_row_walk : RowWalk s k n → 0 < n → RowWalk s (after_row s k) (n - 1)
-  next_row_walk w h = walk_next row node_of row_at after_row 122 s (row_stands s) k n w h
+  next_row_walk w h = walk_next row node_of row_at after_row 122 s (row_listed s) k n w h
 
   pub walk_rowed : (w : RowWalk s k n) → 0 < n → Rowed s w.least k (row_at s k) (after_row s k)
-  walk_rowed w h = row_is s w.least k (walk_item row node_of row_at after_row 122 s (row_stands s) k n w h)
+  walk_rowed w h = row_is s w.least k (walk_item row node_of row_at after_row 122 s (row_listed s) k n w h)
 
   -- what `row_at` asks
   pub row_here : RowWalk s k n → 0 < n → RowHere s k

@@ -1,3 +1,3 @@
 pub mod Scans
-pub mod Places
+pub mod BitLayout
 pub mod Values

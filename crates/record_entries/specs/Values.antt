@@ -7,7 +7,7 @@ use Rattle.model.specs.Reading.{field_at}
 use Rattle.record_entries.specs.declared.walk.ShownEntry.{ShownEntry}
 use Rattle.record_entries.specs.declared.walk.Configuration.{Configuration}
 use Rattle.record_entries.specs.declared.walk.Row.{Row}
-use Rattle.record_entries.specs.Places.{index_at, term_at, length_at, content_at, next_at, after_row}
+use Rattle.record_entries.specs.BitLayout.{index_at, term_at, length_at, content_at, next_at, after_row}
 
 -- n bytes, and zeros up to the most that an entry has
 abbrev pub padded : List ℕ → ℕ → List ℕ

@@ -5,7 +5,7 @@ ghost use Rattle.std.specs.Prelude.{ℕ, ◌≡◌, ◌+◌, ◌*◌, ◌^◌, �
 ghost use Rattle.model.specs.Record as model;
 ghost use Rattle.model.specs.Reading as reading;
 ghost use Rattle.record_entries.specs.Scans.{keyed, ended, scan_part, end_part, done_part};
-ghost use Rattle.record_entries.specs.Places.{index_of, node_of};
+ghost use Rattle.record_entries.specs.BitLayout.{index_of, node_of};
 ghost use Rattle.model.specs.Sizes.{index_limit};
 
 use record_bits::bits::{Fault, holds};

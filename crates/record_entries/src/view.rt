@@ -1,6 +1,7 @@
 // Views as records show them.
 ghost use Rattle.std.specs.Prelude.{◌≡◌, ◌<◌};
-ghost use Rattle.record_entries.specs.Places.{Walk, first_entry};
+ghost use Rattle.model.specs.Sizes.{node_count};
+ghost use Rattle.record_entries.specs.BitLayout.{Walk, first_entry};
 
 use units::NodeId;
 
@@ -11,5 +12,5 @@ pub struct View<'a> {
     pub entries: usize,
     pub node: NodeId,
     ghost walk: { ∥ Walk bytes.now first_entry entries ∥₁ },
-    ghost is_node: { node.0 < 64 },
+    ghost is_node: { node.0 < node_count },
 }

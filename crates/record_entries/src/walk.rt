@@ -3,7 +3,7 @@
 ghost use Rattle.std.specs.Prelude.{◌≡◌, ◌+◌, ◌*◌, ◌^◌, ◌≤◌, length, take};
 ghost use Rattle.model.specs.Reading as reading;
 ghost use Rattle.model.specs.Record as model;
-ghost use Rattle.record_entries.specs.Places as places;
+ghost use Rattle.record_entries.specs.BitLayout as places;
 ghost use Rattle.record_entries.specs.Values.{padded, shown_entry, configuration_value, row_value, Here, RowHere, EntryTaken};
 ghost use Rattle.std.specs.Iterator.{at_most};
 ghost use Rattle.model.specs.Sizes.{content_limit};
@@ -20,12 +20,13 @@ pub const FIRST_ROW: usize = 14;
 // An entry of a view, with the index it was shown under and the bit after it; it extends no prefix yet, as a stored row does. Of
 // the content's 32 bytes the first `length` count; the others are zero: memory is fixed, and an entry is copied whole, which the
 // kit's ArrayVec cannot be. That they are at most 32 is asked and no fact of the type: the definitions make an entry of any bits.
+// The content stands first, so that a copy of 16 bytes at a time does not split its beginning.
 #[derive(Clone, Copy)]
 pub struct ShownEntry {
+    pub content: [u8; CONTENT_LIMIT],
     pub index: LogIndex,
     pub term: Term,
-    pub length: usize,
-    pub content: [u8; CONTENT_LIMIT],
+    pub length: u8,
     pub next: usize,
 }
 
@@ -35,7 +36,7 @@ impl ShownEntry {
         requires { self.now.length ≤ content_limit }
         ensures { result.now ≡ take self.now.length self.now.content }
     {
-        &self.content[..self.length]
+        &self.content[..usize::from(self.length)]
     }
 }
 
@@ -100,13 +101,14 @@ pub fn entry_at(s: &[u8], at: usize) -> ShownEntry
     ensures { result ≡ shown_entry s.now at }
 {
     let head = bits_at(s, at, 48);
-    let n = (head % 64) as usize;
+    let length = (head % 64) as u8;
+    let n = usize::from(length);
     let content = content_at(s, at + 48, n);
     ShownEntry {
+        content,
         index: LogIndex((head >> 38) as usize),
         term: Term(((head >> 6) % 4294967296) as u32),
-        length: n,
-        content,
+        length,
         next: at + 48 + 8 * n,
     }
 }

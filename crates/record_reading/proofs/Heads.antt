@@ -16,7 +16,7 @@ use Rattle.units.specs.declared.Term.{Term}
 use Rattle.record_bits.specs.declared.bits.Fault.{Fault}
 use Rattle.record_reading.specs.declared.head.Head.{Head}
 use Rattle.record_bits.specs.Answers.{refusal_of, part_of, unit_part}
-use Rattle.record_entries.specs.Places.{shown_at, next_at, row_at, after_row, first_entry, first_row}
+use Rattle.record_entries.specs.BitLayout.{shown_at, next_at, row_at, after_row, first_entry, first_row}
 use Rattle.record_reading.specs.Heads.{reading_of, finished, head_of, fault_of}
 use Rattle.record_entries.proofs.Listed.{items_length}
 

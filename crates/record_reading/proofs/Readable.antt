@@ -19,13 +19,13 @@ use Rattle.model.specs.Sizes.{Bytes, index_limit}
 use Rattle.units.specs.declared.NodeId.{NodeId}
 use Rattle.record_reading.specs.declared.head.Head.{Head}
 use Rattle.record_reading.specs.Heads.{reading_of, head_of, Within, Told}
-use Rattle.record_entries.specs.Places.{index_of, node_of, shown_at, next_at, entries_at, row_at, after_row, rows_at, Walk, RowWalk, first_entry, first_row}
+use Rattle.record_entries.specs.BitLayout.{index_of, node_of, shown_at, next_at, entries_at, row_at, after_row, rows_at, Walk, RowWalk, first_entry, first_row}
 use Rattle.record_bits.proofs.Widths.{field_lt}
 use Rattle.record_entries.proofs.Given.{fault≢got, got_same, went, field_is, field_below, limited_is, governed_within}
 use Rattle.record_entries.proofs.Listed.{many_is, walk_read}
 use Rattle.record_reading.proofs.Heads.{head_back}
 use Rattle.record_entries.proofs.Walks.{entries_length, rows_length}
-use Rattle.record_entries.proofs.Scanned.{entry_stands, row_stands}
+use Rattle.record_entries.proofs.Scanned.{entry_listed, row_listed}
 
 -- the kind of a record
 abbrev kind_of : Record → ℕ
@@ -144,10 +144,10 @@ view_read s n es e =
     let g₃ = went s (many shown index_of 0 g₂.value s g₂.place) _ g₂.rest in
     let r = (got_same g₃.rest).0 in
     let p : g₂.place ≡ first_entry = omega (arith, v₁.next, v₂.field.next) in
-    let m = many_is shown index_of shown_at next_at 304 s (entry_stands s) 0 g₂.place g₂.value g₃.first in
+    let m = many_is shown index_of shown_at next_at 304 s (entry_listed s) 0 g₂.place g₂.value g₃.first in
     let f : es ≡ entries_at s first_entry g₂.value = entries_of r ∙ m.values ∙ ap (λ (k : ℕ). entries_at s k g₂.value) p in
     let l : length es ≡ g₂.value = ap length f ∙ entries_length s first_entry g₂.value in
-    let q = walk_read shown index_of shown_at next_at 304 s (entry_stands s) 0 g₂.place g₂.value (omega (arith, p, v₂.within)) g₃.first in
+    let q = walk_read shown index_of shown_at next_at 304 s (entry_listed s) 0 g₂.place g₂.value (omega (arith, p, v₂.within)) g₃.first in
     record {
       node = node_in r ∙ v₁.value;
       count = omega (arith, l, v₂.within);
@@ -176,10 +176,10 @@ rows_read s rs e =
     let g₂ = went s (many row node_of 0 g₁.value s g₁.place) _ g₁.rest in
     let r = (got_same g₂.rest).0 in
     let p : g₁.place ≡ first_row = omega (arith, v₁.field.next) in
-    let m = many_is row node_of row_at after_row 122 s (row_stands s) 0 g₁.place g₁.value g₂.first in
+    let m = many_is row node_of row_at after_row 122 s (row_listed s) 0 g₁.place g₁.value g₂.first in
     let f : rs ≡ rows_at s first_row g₁.value = rows_of r ∙ m.values ∙ ap (λ (k : ℕ). rows_at s k g₁.value) p in
     let l : length rs ≡ g₁.value = ap length f ∙ rows_length s first_row g₁.value in
-    let q = walk_read row node_of row_at after_row 122 s (row_stands s) 0 g₁.place g₁.value (omega (arith, p, v₁.within)) g₂.first in
+    let q = walk_read row node_of row_at after_row 122 s (row_listed s) 0 g₁.place g₁.value (omega (arith, p, v₁.within)) g₂.first in
     record {
       count = omega (arith, l, v₁.within);
       values = f ∙ ap (rows_at s first_row) (sym l);

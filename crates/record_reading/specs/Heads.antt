@@ -9,7 +9,7 @@ use Rattle.model.specs.Sizes.{Bytes, node_count, index_limit}
 use Rattle.record_bits.specs.declared.bits.Fault.{Fault}
 use Rattle.record_reading.specs.declared.head.Head.{Head}
 use Rattle.record_bits.specs.Answers.{refusal_of}
-use Rattle.record_entries.specs.Places.{entries_at, rows_at, first_entry, first_row}
+use Rattle.record_entries.specs.BitLayout.{entries_at, rows_at, first_entry, first_row}
 
 -- the record that an answer stands for: the entries and rows are those in the bytes
 abbrev pub reading_of : Bytes → Result Head Fault → Reading

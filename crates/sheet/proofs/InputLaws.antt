@@ -2,38 +2,22 @@
 -- Assumes nothing.
 use Prim.Native.Nat.{ℕ, ◌+◌, ◌-◌, ◌≤◌}
 use native.Mathlib.Omega.{arith}
-use mathlib.Core.Path.{◌≡◌, refl, ap, sym, subst, ◌∙◌}
-use mathlib.Core.List.{List, [], ◌∷◌, ◌++◌, append_assoc}
+use mathlib.Core.Path.{◌≡◌, ap, sym, subst, ◌∙◌}
+use mathlib.Core.List.{List, [], ◌++◌, append_assoc}
 use lib.ListN.{length, take, drop, length-append}
-use lib.Seq.{take-add, take-append-le, take_all}
+use lib.Seq.{take-add}
 use Rattle.std.specs.Prelude.{Option}
 use Rattle.std.specs.Io.KnownBytes.{Appends}
 use Rattle.std.proofs.KnownBytes.{Appends-nil, Appends-trans}
 use Rattle.std.proofs.lemmas.List.{drop-drop}
 use Rattle.model.specs.Sizes.{Bytes}
-use Rattle.storage_bytes.specs.Words.{put_bytes}
-use Rattle.storage_bytes.proofs.PartLaws.{part_back}
 use Rattle.sheet_lines.specs.declared.decimal.Sheet.{Sheet}
-use Rattle.sheet_lines.specs.Filled.{Filled}
+use Rattle.sheet_lines.proofs.PutLaws.{sheet_holds}
 use Rattle.sheet_text.specs.Pieces.{Piece, pieces}
 use Rattle.sheet_text.specs.declared.taking.Progress.{Progress}
 use Rattle.sheet_text.specs.Sheet.{record_lines, bytes_through, Taken}
 use Rattle.sheet_text.proofs.TakingLaws.{lines_join, bytes_join}
 use Rattle.sheet.specs.Input.{BlockTaken}
-
--- what a sheet that was empty has
-pub sheet_holds : {m : ℕ} {s s' : Sheet} {vs : Bytes} → Filled m s vs s' → s.end ≡ 0 → m ≤ length s.out.now → take s'.end s'.out.now ≡ vs
-sheet_holds {m} {s} {s'} {vs} f z room =
-    (λ i. take (next i) (is i)) ∙ take-append-le (length vs) vs _ (omega arith) ∙ take_all (length vs) vs (omega arith)
-  where
-    next : s'.end ≡ length vs
-    next = omega (arith, f.put.next, z)
-
-    is : s'.out.now ≡ vs ++ drop (0 + length vs) s.out.now
-    is =
-        f.put.bytes
-        ∙ ap (λ (o : ℕ). put_bytes s.out.now o vs) z
-        ∙ sym (part_back s.out.now 0 vs (omega (arith, f.put.within)))
 
 module _ (h block : Bytes) (first : ℕ) (old : Option (List ℕ)) where
   pub block_begins : BlockTaken h block first old old first 0 h

@@ -13,13 +13,13 @@ use input_blocks::fill;
 use sheet_lines::decimal::Sheet;
 use sheet_text::closing::put_lists;
 use sheet_text::split::move_down;
-use sheet_text::taking::{SOME, put_cut, take_some};
+use sheet_text::taking::{RECORDS_PER_WRITE, put_cut, take_some};
 use std::io;
 use std::io::{Read, Write};
 use storage_bytes::layout::{HISTORY_LENGTH, History, part};
 
 // No recording has so many records, and none takes so many blocks.
-const LAST: u64 = 18446744073709551000;
+const LOOP_BOUND: u64 = 18446744073709551000;
 
 // The bytes of input held: more than the longest piece, of 65,537 bytes. Memory is fixed: an array, and no Vec.
 const INPUT: usize = 131072;
@@ -30,7 +30,7 @@ const OUTPUT: usize = 65536;
 // How far the sheet is: the number of the next record, and where it begins in the block. What is read, written and handed on is lent part by
 // part: a struct of it would be generic over both ends.
 #[derive(Clone, Copy)]
-struct Place {
+struct InputPosition {
     number: u64,
     from: usize,
 }
@@ -50,24 +50,24 @@ fn take_block<W: Write>(
     block: &[u8],
     out: &mut [u8; OUTPUT],
     first: u64,
-) -> io::Result<Place>
+) -> io::Result<InputPosition>
     ensures taken { IfOk result (λ place. BlockTaken history.old block.now first (W.contents writer.old) (W.contents writer.new) place.number place.from history.new) }
     ensures stopped { IfOk result (λ place. place.number < 18446744073709551000 → (body size : ℕ) → piece_at block.now place.from ≡ code.Piece.Whole body size → ⊥) }
 {
     let mut number = first;
     let mut from = 0;
     // the number goes on by as many as were taken, and is told in the sheet: no index is counted
-    while number < LAST {
+    while number < LOOP_BOUND {
         let mut sheet = Sheet { out, end: 0 };
         let p = take_some(history, block, &mut sheet, number, from);
         flush(writer, &sheet)?;
         number += p.count as u64;
         from = p.from;
-        if p.count < SOME {
+        if p.count < RECORDS_PER_WRITE {
             break;
         }
     }
-    Ok(Place { number, from })
+    Ok(InputPosition { number, from })
 }
 
 // What is left where the input ends is a cut piece.
@@ -95,7 +95,7 @@ fn take_input<R: Read, W: Write>(
 ) -> io::Result<()> {
     let mut number: u64 = 1;
     let mut rest = 0;
-    for _ in 0..LAST {
+    for _ in 0..LOOP_BOUND {
         let got = fill(reader, &mut input[rest..])?;
         if got == 0 {
             return end_of_input(writer, out, number, rest);

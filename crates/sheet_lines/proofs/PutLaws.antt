@@ -2,11 +2,13 @@
 -- Assumes nothing.
 use Prim.Native.Nat.{ℕ, ◌+◌, ◌≤◌}
 use native.Mathlib.Omega.{arith}
-use mathlib.Core.Path.{◌≡◌, refl, ap, ◌∙◌}
+use mathlib.Core.Path.{◌≡◌, refl, ap, sym, ◌∙◌}
 use mathlib.Core.List.{[], ◌++◌, append_assoc}
-use lib.ListN.{length, length-append}
+use lib.ListN.{length, take, drop, length-append}
+use lib.Seq.{take-append-le, take_all}
 use Rattle.model.specs.Sizes.{Bytes}
 use Rattle.storage_bytes.specs.Words.{put_bytes}
+use Rattle.storage_bytes.proofs.PartLaws.{part_back}
 use Rattle.storage_bytes.proofs.WordLaws.{put_join}
 use Rattle.sheet_lines.specs.Decimal.{Put}
 use Rattle.sheet_lines.specs.Filled.{Filled}
@@ -46,3 +48,17 @@ filled_then p q = record { put = put_then p.put q.put; kept = q.kept ∙ p.kept;
 
 pub filled_as : {m n : ℕ} {s s' : Sheet} {vs : Bytes} → Filled m s vs s' → (ws : Bytes) → vs ≡ ws → m ≤ n → Filled n s ws s'
 filled_as p ws e h = record { put = put_as p.put ws e h; kept = p.kept; lent = p.lent }
+
+-- what a sheet that was empty has
+pub sheet_holds : {m : ℕ} {s s' : Sheet} {vs : Bytes} → Filled m s vs s' → s.end ≡ 0 → m ≤ length s.out.now → take s'.end s'.out.now ≡ vs
+sheet_holds {m} {s} {s'} {vs} f z room =
+    (λ i. take (next i) (is i)) ∙ take-append-le (length vs) vs _ (omega arith) ∙ take_all (length vs) vs (omega arith)
+  where
+    next : s'.end ≡ length vs
+    next = omega (arith, f.put.next, z)
+
+    is : s'.out.now ≡ vs ++ drop (0 + length vs) s.out.now
+    is =
+        f.put.bytes
+        ∙ ap (λ (o : ℕ). put_bytes s.out.now o vs) z
+        ∙ sym (part_back s.out.now 0 vs (omega (arith, f.put.within)))

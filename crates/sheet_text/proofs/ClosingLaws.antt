@@ -18,7 +18,7 @@ use Rattle.model.proofs.Tests.{cond_true, cond_false}
 use Rattle.storage.specs.Rules.{well_formed}
 use Rattle.storage.specs.Decode.{decode}
 use Rattle.storage.specs.Values.{committed_end}
-use Rattle.storage.proofs.Meanings.{end_is, stand}
+use Rattle.storage.proofs.Meanings.{end_is, represented}
 use Rattle.lists.specs.Committed.{owner_in}
 use Rattle.lists.proofs.Meaning.{owner_told, findings_told, leaders_told, unseen_told, unknown_told}
 use Rattle.lists.specs.Picked.{nth}
@@ -54,7 +54,7 @@ pub closed_right : (b h : Bytes) (s p q r u s' : Sheet) → b ≡ h → well_for
 unfolding closing
 closed_right b h s p q r u s' e w fp fq fr fu n o en eo fc =
     let x = decode b in
-    let st = stand b w in
+    let st = represented b w in
     filled_as (filled_then (filled_then (filled_then (filled_then fp fq) fr) fu) fc) _
     ((λ i.
     joined_map of_finding (finding_list x) i ++ joined_map of_leader (leader_list x) i ++ joined_map of_unseen (unseen_list x) i
@@ -112,19 +112,19 @@ nth_line of line (x ∷ xs) (suc n) = nth_line of line xs n
 
 pub finding_nth : (h : Bytes) (n : ℕ) → well_formed h ≡ true → {r : Option Found} → r ≡ finding_answer h n
     → option_map (λ f. finding_line f.name f.node.0 f.index.0 f.term.0) r ≡ slice_get (map of_finding (finding_list (decode h))) n
-finding_nth h n w e = ap (option_map _) (e ∙ findings_told h (decode h) n (stand h w)) ∙ nth_line _ _ (finding_list (decode h)) n
+finding_nth h n w e = ap (option_map _) (e ∙ findings_told h (decode h) n (represented h w)) ∙ nth_line _ _ (finding_list (decode h)) n
 
 pub leader_nth : (h : Bytes) (n : ℕ) → well_formed h ≡ true → {r : Option Printed} → r ≡ leader_answer h n
     → option_map (λ l. leader_line l.term.0 l.leader.0) r ≡ slice_get (map of_leader (leader_list (decode h))) n
-leader_nth h n w e = ap (option_map _) (e ∙ leaders_told h (decode h) n (stand h w)) ∙ nth_line _ _ (leader_list (decode h)) n
+leader_nth h n w e = ap (option_map _) (e ∙ leaders_told h (decode h) n (represented h w)) ∙ nth_line _ _ (leader_list (decode h)) n
 
 pub unseen_nth : (h : Bytes) (n : ℕ) → well_formed h ≡ true → {r : Option Mark} → r ≡ unseen_answer h n
     → option_map (λ u. unseen_line u.node.0 u.index.0) r ≡ slice_get (map of_unseen (unseen_list (decode h))) n
-unseen_nth h n w e = ap (option_map _) (e ∙ unseen_told h (decode h) n (stand h w)) ∙ nth_line _ _ (unseen_list (decode h)) n
+unseen_nth h n w e = ap (option_map _) (e ∙ unseen_told h (decode h) n (represented h w)) ∙ nth_line _ _ (unseen_list (decode h)) n
 
 pub unknown_nth : (h : Bytes) (n : ℕ) → well_formed h ≡ true → {r : Option LogIndex} → r ≡ unknown_answer h n
     → option_map (λ i. unknown_line i.0) r ≡ slice_get (map unknown_line (unknown_list (decode h))) n
-unknown_nth h n w e = ap (option_map _) (e ∙ unknown_told h (decode h) n (stand h w)) ∙ nth_line _ _ (unknown_list (decode h)) n
+unknown_nth h n w e = ap (option_map _) (e ∙ unknown_told h (decode h) n (represented h w)) ∙ nth_line _ _ (unknown_list (decode h)) n
 
 pub findings_short : (h : Bytes) → well_formed h ≡ true → length (map of_finding (finding_list (decode h))) ≤ longest_list
 findings_short h w = let b = findings_bound h w in omega (arith, length-map (finding_list (decode h)) of_finding)

@@ -7,17 +7,17 @@ use mathlib.Core.Bool.{true}
 use mathlib.Core.List.{List, [], ◌∷◌}
 use lib.Dec.{eqb}
 use lib.ListN.{length, get_or, length-append, length-map}
-use Rattle.model.specs.Sizes.{Bytes}
+use Rattle.model.specs.Sizes.{Bytes, node_count, finding_limit}
 use Rattle.model.specs.History.{Finding}
 use Rattle.model.specs.Lists.{Unseen, before, insert, ordered, finding_list, leader_list, unseen_of, marks_from, unseen_list, unknown_of, unknown_from, unknown_list}
 use Rattle.model.proofs.Tests.{cond_cases}
-use Rattle.storage_bytes.specs.Words.{word_at}
+use Rattle.storage.specs.Head.{findings_held}
 use Rattle.storage.specs.Rules.{well_formed}
 use Rattle.storage.specs.Tables.{row_of_node, nodes_part, finding_row, findings_part, tables_in}
 use Rattle.storage.specs.Decode.{decode}
 use Rattle.storage_bytes.proofs.ListLaws.{tabulate_length}
 use Rattle.storage.proofs.WellFormed.{formed, end_small}
-use Rattle.storage.proofs.Meanings.{end_is, findings_stored, stand}
+use Rattle.storage.proofs.Meanings.{end_is, findings_stored, represented}
 use Rattle.lists.proofs.Ascents.{leaders_few}
 use Rattle.sheet_text.specs.Closing.{longest_list}
 
@@ -49,22 +49,22 @@ unknown_length ts i (suc n) =
     omega (arith, length-append (unknown_of ts i) (unknown_from ts (i + 1) n), unknown_length ts (i + 1) n)
 
 module _ (h : Bytes) (right : well_formed h ≡ true) where
-  findings_held : length (decode h).findings ≤ 128
-  findings_held =
-      let n = tabulate_length (finding_row (findings_part h)) 0 (word_at h 7 1) in
-      omega (arith, ap length (findings_stored h (decode h) (stand h right)), (formed h right).findings)
+  findings_few : length (decode h).findings ≤ finding_limit
+  findings_few =
+      let n = tabulate_length (finding_row (findings_part h)) 0 (findings_held h) in
+      omega (arith, ap length (findings_stored h (decode h) (represented h right)), (formed h right).findings)
 
   pub findings_bound : length (finding_list (decode h)) ≤ longest_list
   unfolding finding_list
-  findings_bound = omega (arith, ordered_length (decode h).findings, findings_held)
+  findings_bound = omega (arith, ordered_length (decode h).findings, findings_few)
 
   pub leaders_bound : length (leader_list (decode h)) ≤ longest_list
   unfolding leader_list
-  leaders_bound = omega (arith, leaders_few (decode h).findings, findings_held)
+  leaders_bound = omega (arith, leaders_few (decode h).findings, findings_few)
 
-  nodes_held : length (decode h).unseen ≡ 64
+  nodes_held : length (decode h).unseen ≡ node_count
   unfolding decode tables_in
-  nodes_held = simp length-map (tabulate_length (row_of_node (nodes_part h)) 0 64)
+  nodes_held = simp length-map (tabulate_length (row_of_node (nodes_part h)) 0 node_count)
 
   pub unseen_bound : length (unseen_list (decode h)) ≤ longest_list
   unfolding unseen_list
@@ -73,5 +73,5 @@ module _ (h : Bytes) (right : well_formed h ≡ true) where
   pub unknown_bound : length (unknown_list (decode h)) ≤ longest_list
   unfolding unknown_list
   unknown_bound =
-      let s = stand h right in
+      let s = represented h right in
       omega (arith, unknown_length (decode h).terms 0 (length (decode h).committed), end_is h (decode h) s, end_small h right)

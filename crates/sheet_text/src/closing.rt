@@ -21,7 +21,7 @@ use storage_rules::whole::stored;
 use units::{INDEX_LIMIT, LogIndex};
 
 // No list is longer: 128 findings and leaders, 64 unseen marks, 256 unknown indexes.
-const MOST: usize = INDEX_LIMIT;
+const LONGEST_LIST: usize = INDEX_LIMIT;
 
 // An element of one of the lists, with the line that is printed of it.
 trait Listed: Copy {
@@ -117,7 +117,7 @@ fn put_list<T: Listed>(history: Stored<'_>, sheet: &mut Sheet<'_>)
     requires short { length (T.lines history.bytes.now) ≤ longest_list }
     ensures { Filled (longest_list * T.width) sheet.old (joined (T.lines history.entry.bytes.now)) sheet.new }
 {
-    for n in 0..MOST {
+    for n in 0..LONGEST_LIST {
         let Some(x) = T::nth(history, n) else {
             return;
         };

@@ -14,7 +14,7 @@ use storage_bytes::layout::part;
 use submission::submit::submit;
 
 // So many records are taken at a time: their lines have room in the sheet.
-pub const SOME: usize = 600;
+pub const RECORDS_PER_WRITE: usize = 600;
 
 // How far the records are taken: how many, and where the next begins in the block.
 #[derive(Clone, Copy)]
@@ -58,7 +58,7 @@ pub fn take_some(
     ensures { Taken history.old block.now sheet.old first start result history.new sheet.new }
 {
     let mut from = start;
-    for count in 0..SOME {
+    for count in 0..RECORDS_PER_WRITE {
         let Piece::Whole { body, size } = piece_at(block, from) else {
             return Progress { count, from };
         };
@@ -66,5 +66,8 @@ pub fn take_some(
         hand_over(&mut history[..], s, sheet, first + count as u64);
         from = body + size;
     }
-    Progress { count: SOME, from }
+    Progress {
+        count: RECORDS_PER_WRITE,
+        from,
+    }
 }

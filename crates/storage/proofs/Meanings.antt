@@ -33,17 +33,17 @@ use Rattle.storage.proofs.DecodeLaws.{Kept, well_formed_parts, well_formed_of, N
 use Rattle.storage.proofs.HeadLaws.{head_read, head_kept}
 
 -- well-formed bytes that stand for a history
-pub record Stands (h : Bytes) (x : History) : Type 0 where
+pub record Represents (h : Bytes) (x : History) : Type 0 where
   pub right : well_formed h ≡ true
   pub decodes : decode h ≡ x
 
-pub stands : (h : Bytes) (t : Tables) (x : History) → length h ≡ history_length → tables_of h ≡ t → Kept t → history_in t ≡ x → Stands h x
-stands h t x l e k q =
+pub represents : (h : Bytes) (t : Tables) (x : History) → length h ≡ history_length → tables_of h ≡ t → Kept t → history_in t ≡ x → Represents h x
+represents h t x l e k q =
     record { right = well_formed_of h l (subst Kept (sym e) k); decodes = decode_is h ∙ ap history_in e ∙ q }
 
 -- bytes that keep the rules stand for what they decode to
-pub stand : (h : Bytes) → well_formed h ≡ true → Stands h (decode h)
-stand h w = record { right = w; decodes = refl }
+pub represented : (h : Bytes) → well_formed h ≡ true → Represents h (decode h)
+represented h w = record { right = w; decodes = refl }
 
 -- ---- what is read
 
@@ -118,7 +118,7 @@ noted_right (g ∷ gs) fs e f =
 
 -- ---- what is written
 
-module _ (h : Bytes) (x : History) (s : Stands h x) where
+module _ (h : Bytes) (x : History) (s : Represents h x) where
   pub long : length h ≡ history_length
   long = (well_formed_parts h s.right).0
 
@@ -170,12 +170,12 @@ module _ (h : Bytes) (x : History) (s : Stands h x) where
 
   -- a node's row
   pub node_written : (k : ℕ) (n : NodeRow) → k < node_count → NodeNamed (prefixes_held h) n
-      → Stands (put_bytes h (nodes_start + k * node_width) (node_bytes n)) (with_node x k (prefix_at x.prefixes n.front) n.last n.unseen)
+      → Represents (put_bytes h (nodes_start + k * node_width) (node_bytes n)) (with_node x k (prefix_at x.prefixes n.front) n.last n.unseen)
   node_written k n l f =
       let c = within _ _ _ _ kept.limits in
       let r = rows_count h in
       let g : NodeNamed (length (tables_of h).rows) n = record { front = omega (arith, f.front); last = f.last; unseen = f.unseen } in
-      stands (put_bytes h (nodes_start + k * node_width) (node_bytes n)) (with_node_row (tables_of h) k n) _
+      represents (put_bytes h (nodes_start + k * node_width) (node_bytes n)) (with_node_row (tables_of h) k n) _
       (put_length h (nodes_start + k * node_width) (node_bytes n) ∙ long)
       (set_node h long k n l (record { front = omega (arith, g.front, c.prefixes); last = omega (arith, f.last); unseen = omega (arith, f.unseen) }))
       (kept_node (tables_of h) kept k n g)
@@ -183,12 +183,12 @@ module _ (h : Bytes) (x : History) (s : Stands h x) where
 
   -- the committed prefix and its owner
   pub committed_written : (p o : ℕ) → p ≤ prefixes_held h → o ≤ last_node
-      → Stands (committed_set h p o) (with_committed x (prefix_at x.prefixes p) o)
+      → Represents (committed_set h p o) (with_committed x (prefix_at x.prefixes p) o)
   unfolding committed_set
   committed_written p o a b =
       let c = within _ _ _ _ kept.limits in
       let r = rows_count h in
-      stands (committed_set h p o) (with_committed_number (tables_of h) p o) _
+      represents (committed_set h p o) (with_committed_number (tables_of h) p o) _
       (head_kept owner_field (put_head_field committed_field h p) o ∙ head_kept committed_field h p ∙ long)
       (committed_set_lem h long p o (omega (arith, c.prefixes)) (omega arith))
       (kept_committed (tables_of h) kept p o (omega arith) b)
@@ -197,12 +197,12 @@ module _ (h : Bytes) (x : History) (s : Stands h x) where
   -- one more prefix
   pub prefix_written : (p i t n : ℕ) (c : Bytes) → prefixes_held h < prefix_limit → PrefixFits p i t n c
       → prefix_right (tables_of h).rows (prefix_of p i t n c) ≡ true
-      → Stands (prefix_appended h p i t n c) (with_prefixes x (x.prefixes ++ (extended x.prefixes (prefix_of p i t n c) ∷ [])))
+      → Represents (prefix_appended h p i t n c) (with_prefixes x (x.prefixes ++ (extended x.prefixes (prefix_of p i t n c) ∷ [])))
   unfolding prefix_appended
   prefix_written p i t n c l f e =
       let r = rows_count h in
       let m = prefixes_held h in
-      stands (prefix_appended h p i t n c) (with_prefix_row (tables_of h) (prefix_of p i t n c)) _
+      represents (prefix_appended h p i t n c) (with_prefix_row (tables_of h) (prefix_of p i t n c)) _
       (head_kept prefixes_field (put_bytes h (prefixes_start + m * prefix_width) (prefix_bytes p i t n c)) (m + 1) ∙ put_length h (prefixes_start + m * prefix_width) (prefix_bytes p i t n c) ∙ long)
       (prefix_appended_lem h long p i t n c l f)
       (kept_row (tables_of h) kept (prefix_of p i t n c) (omega arith) e)
@@ -211,10 +211,10 @@ module _ (h : Bytes) (x : History) (s : Stands h x) where
 
   -- a commit term set
   pub term_written : (k v : ℕ) → k < index_limit → v < term_end
-      → Stands (put_bytes h (terms_start + k * term_width) (word_bytes term_width v)) (with_terms x (set x.terms k v))
+      → Represents (put_bytes h (terms_start + k * term_width) (word_bytes term_width v)) (with_terms x (set x.terms k v))
   term_written k v l f =
       let c = within _ _ _ _ kept.limits in
-      stands (put_bytes h (terms_start + k * term_width) (word_bytes term_width v)) (with_term_rows (tables_of h) (set (tables_of h).terms k v)) _
+      represents (put_bytes h (terms_start + k * term_width) (word_bytes term_width v)) (with_term_rows (tables_of h) (set (tables_of h).terms k v)) _
       (put_length h (terms_start + k * term_width) (word_bytes term_width v) ∙ long)
       (set_term h long k v l f)
       (kept_terms (tables_of h) kept (set (tables_of h).terms k v) (omega (arith, length-set (tables_of h).terms k v, c.terms)))
@@ -222,7 +222,7 @@ module _ (h : Bytes) (x : History) (s : Stands h x) where
 
   -- the commit terms lengthened with zeros
   pub terms_added : (m : ℕ) → terms_held h ≤ m → m ≤ index_limit
-      → Stands (terms_lengthened h m) (with_terms x (x.terms ++ replicate (m - terms_held h) 0))
+      → Represents (terms_lengthened h m) (with_terms x (x.terms ++ replicate (m - terms_held h) 0))
   unfolding terms_lengthened
   terms_added m l f =
       let n = terms_held h in
@@ -230,7 +230,7 @@ module _ (h : Bytes) (x : History) (s : Stands h x) where
       let count : length (tables_of h).terms ≡ n = sym (ap (λ (y : History). length y.terms) (decode_is h)) ∙ terms_read h in
       let more : length ((tables_of h).terms ++ zs) ≡ length (tables_of h).terms + (m - n)
       = length-append (tables_of h).terms zs ∙ ap (λ (k : ℕ). length (tables_of h).terms + k) (length-replicate (m - n) 0) in
-      stands (terms_lengthened h m) (with_term_rows (tables_of h) ((tables_of h).terms ++ zs)) _
+      represents (terms_lengthened h m) (with_term_rows (tables_of h) ((tables_of h).terms ++ zs)) _
       (head_kept terms_field (put_bytes h (terms_start + n * term_width) (zeros ((m - n) * term_width))) m ∙ put_length h (terms_start + n * term_width) (zeros ((m - n) * term_width)) ∙ long)
       (terms_lengthened_lem h long m l f)
       (kept_terms (tables_of h) kept ((tables_of h).terms ++ zs) (omega arith))
@@ -239,7 +239,7 @@ module _ (h : Bytes) (x : History) (s : Stands h x) where
   -- one more certificate at place k, where the numbers stay unbroken
   pub certificate_inserted_lem : (k : ℕ) (c : CertificateRow) → k ≤ certificates_held h → certificates_held h < certificate_limit → CertificateFits c → CertificateNamed (prefixes_held h) c
       → numbered (take k (tables_of h).certificates ++ (c ∷ drop k (tables_of h).certificates)) ≡ true
-      → Stands (certificate_added h k c) (with_certificates x (take k x.certificates ++ (certificate_in x.prefixes c ∷ drop k x.certificates)))
+      → Represents (certificate_added h k c) (with_certificates x (take k x.certificates ++ (certificate_in x.prefixes c ∷ drop k x.certificates)))
   certificate_inserted_lem k c b l f g e =
       let r = rows_count h in
       let cs = (tables_of h).certificates in
@@ -251,7 +251,7 @@ module _ (h : Bytes) (x : History) (s : Stands h x) where
       ∙ (let a = length-append (take k cs) (drop k cs) in
       let d = ap length (take-append-drop k cs) in
       omega arith) in
-      stands (certificate_added h k c) (with_certificate_rows (tables_of h) (take k cs ++ (c ∷ drop k cs))) _
+      represents (certificate_added h k c) (with_certificate_rows (tables_of h) (take k cs ++ (c ∷ drop k cs))) _
       (added_length ∙ long)
       (certificate_added_lem h long k c b l f)
       (kept_certificates (tables_of h) kept (take k cs ++ (c ∷ drop k cs)) (omega arith)
@@ -270,14 +270,14 @@ module _ (h : Bytes) (x : History) (s : Stands h x) where
 
   -- the findings' region written whole, with the count: a judged copy that is taken over
   pub findings_taken : (fs : Bytes) (m : ℕ) → length fs ≡ findings_length → m ≤ finding_limit → every finding_right (finding_rows fs m) ≡ true
-      → Stands (put_head_field findings_field (put_bytes h findings_start fs) m) (with_findings x (finding_rows fs m))
+      → Represents (put_head_field findings_field (put_bytes h findings_start fs) m) (with_findings x (finding_rows fs m))
   findings_taken fs m lf lm e =
-      stands (put_head_field findings_field (put_bytes h findings_start fs) m) (with_finding_rows (tables_of h) (finding_rows fs m)) _
+      represents (put_head_field findings_field (put_bytes h findings_start fs) m) (with_finding_rows (tables_of h) (finding_rows fs m)) _
       (head_kept findings_field (put_bytes h findings_start fs) m ∙ put_length h findings_start fs ∙ long)
       (findings_written_lem h long fs m lf (omega arith))
       (kept_findings (tables_of h) kept (finding_rows fs m) (omega (arith, tabulate_length (finding_row fs) 0 m)) e)
       (ap (λ (y : History). with_findings y (finding_rows fs m)) is)
 
 -- the fresh history
-pub fresh_stands : Stands fresh_history fresh
-fresh_stands = record { right = fresh_well_formed; decodes = fresh_decodes }
+pub fresh_represented : Represents fresh_history fresh
+fresh_represented = record { right = fresh_well_formed; decodes = fresh_decodes }

@@ -25,7 +25,7 @@ use Rattle.storage.specs.Head.{prefixes_held, certificates_held}
 use Rattle.storage_bytes.proofs.ListLaws.{both}
 use Rattle.storage.proofs.RuleLaws.{pass}
 use Rattle.storage.proofs.DecodeLaws.{CertificateNamed}
-use Rattle.storage.proofs.Meanings.{Stands, kept, certificates_is, certificate_inserted_lem}
+use Rattle.storage.proofs.Meanings.{Represents, kept, certificates_is, certificate_inserted_lem}
 use Rattle.storage.proofs.WellFormed.{certificates_count}
 
 -- ---- the model's order and count, by rows
@@ -218,9 +218,9 @@ place_within t (c ∷ cs) = go (ltb t c.term) (place_within t cs)
 -- ---- an election in bytes
 
 -- the certificate where the model has it
-pub election_written : (h : Bytes) (x : History) (s : Stands h x) (c : CertificateRow) → certificates_held h < certificate_limit → CertificateFits c → CertificateNamed (prefixes_held h) c
+pub election_written : (h : Bytes) (x : History) (s : Represents h x) (c : CertificateRow) → certificates_held h < certificate_limit → CertificateFits c → CertificateNamed (prefixes_held h) c
     → c.number ≡ held_of c.term (tables_of h).certificates
-    → Stands (certificate_added h (place_of c.term (tables_of h).certificates) c) (with_certificates x (in_order (certificate_in x.prefixes c) x.certificates))
+    → Represents (certificate_added h (place_of c.term (tables_of h).certificates) c) (with_certificates x (in_order (certificate_in x.prefixes c) x.certificates))
 election_written h x s c l f g n =
     let cs = (tables_of h).certificates in
     let k = place_of c.term cs in
@@ -228,5 +228,5 @@ election_written h x s c l f g n =
     let e = certificates_is h x s in
     let order : take k x.certificates ++ (certificate_in x.prefixes c ∷ drop k x.certificates) ≡ in_order (certificate_in x.prefixes c) x.certificates
     = subst (λ (q : List Certificate). take k q ++ (certificate_in x.prefixes c ∷ drop k q) ≡ in_order (certificate_in x.prefixes c) q) e (in_order_lem x.prefixes c cs) in
-    subst (λ (q : List Certificate). Stands (certificate_added h k c) (with_certificates x q)) order
+    subst (λ (q : List Certificate). Represents (certificate_added h k c) (with_certificates x q)) order
     (certificate_inserted_lem h x s k c within l f g (numbered_insert c cs (kept h x s).numbered n))

@@ -80,7 +80,7 @@ row_at rows k = get_or rows k empty_row
 
 -- a row's content is as long as its size says, up to the limit: so it is of every row that is read from bytes
 abbrev pub Sized : PrefixRow → Type 0
-Sized r = length r.content ≡ min r.size 32
+Sized r = length r.content ≡ min r.size content_limit
 
 pub record Facts (rows : List PrefixRow) : Type 0 where
   pub sized : (k : ℕ) → k < length rows → length (row_at rows k).content ≡ (row_at rows k).size

@@ -72,7 +72,7 @@ within ps ts cs fs e =
     let d = both (leb cs certificate_limit) _ b.1 in
     record {
       prefixes = leb-true ps prefix_limit a.0;
-      terms = leb-true ts 256 b.0;
+      terms = leb-true ts index_limit b.0;
       certificates = leb-true cs certificate_limit d.0;
       findings = leb-true fs finding_limit d.1;
     }

@@ -4,8 +4,8 @@ use Prim.Native.Nat.{ℕ}
 use mathlib.Core.Path.{◌≡◌, sym, ◌∙◌, ap}
 use mathlib.Core.Logic.{⊎_elim}
 use lib.Dec.{eqb}
-use borrow.Author.Tests.{eq-eqb, ne_eqb, eqb-true, eqb-false}
-use Rattle.model.proofs.Tests.{either, cond_true, cond_false, unless_none, unless_some}
+use borrow.Author.Tests.{eqb-true, eqb-false}
+use Rattle.model.proofs.Tests.{either, zero_none, above_some, unless_none, unless_some}
 use Rattle.units.specs.declared.LogIndex.{LogIndex}
 use Rattle.storage_rows.specs.TermSearch.{found_index}
 use Rattle.storage_rows.specs.Rows.{mark_value}
@@ -13,11 +13,11 @@ use Rattle.std.specs.Prelude.{Option, Some, None}
 
 of_some : (k : ℕ) → (k ≡ 0 → ⊥) → found_index k ≡ Some (record { 0 = k })
 unfolding found_index
-of_some k z = cond_false (eqb k 0) None _ (ne_eqb k 0 z)
+of_some k z = sym (above_some k (record { 0 = k }) z)
 
 of_none : (k : ℕ) → k ≡ 0 → found_index k ≡ None
 unfolding found_index
-of_none k z = cond_true (eqb k 0) None _ (eq-eqb k 0 z)
+of_none k z = sym (zero_none k (record { 0 = k }) z)
 
 pub index_found : (i : LogIndex) (k : ℕ) → i.0 ≡ k → (i.0 ≡ 0 → ⊥) → Some i ≡ found_index k
 index_found i k e z = sym (of_some i.0 z) ∙ ap found_index e

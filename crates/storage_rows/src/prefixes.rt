@@ -20,18 +20,18 @@ use storage_bytes::layout::{
     History, PREFIX_CONTENT, PREFIX_INDEX, PREFIX_SIZE, PREFIX_TERM, PREFIX_WIDTH, PREFIXES,
     PrefixTable, Region, part,
 };
-use storage_bytes::words::{Field, put_bytes, put8};
+use storage_bytes::words::{Field, put_bytes};
 use units::{CONTENT_LIMIT, LogIndex, LogPrefixWitness, Term};
 
-// A prefix to be stored: the one that it extends, and its last entry, whose content is the first `size` of the 32 bytes: a length, as
-// slices have it. Memory is fixed, and a row is copied whole, as the entry is that it is made of. That entry is no part of it: a
-// `ShownEntry` says where the record goes on, which no row has.
+// A prefix to be stored: the one that it extends, and its last entry, whose content is the first `size` of the 32 bytes. Memory is
+// fixed, and a row is copied whole, as the entry is that it is made of. That entry is no part of it: a `ShownEntry` says where the
+// record goes on, which no row has.
 #[derive(Clone, Copy)]
 pub struct PrefixRow {
     pub parent: LogPrefixWitness,
     pub index: LogIndex,
     pub term: Term,
-    pub size: usize,
+    pub size: u8,
     pub content: [u8; CONTENT_LIMIT],
 }
 
@@ -60,7 +60,7 @@ impl Row for PrefixRow {
         self.parent.write(prefixes, o);
         self.index.write(prefixes, o + PREFIX_INDEX);
         self.term.write(prefixes, o + PREFIX_TERM);
-        put8(prefixes, o + PREFIX_SIZE, self.size);
+        self.size.write(prefixes, o + PREFIX_SIZE);
         put_bytes(prefixes, o + PREFIX_CONTENT, &self.content);
     }
 }
@@ -88,11 +88,11 @@ pub fn term_at(prefixes: &PrefixTable, k: usize) -> Term
     Term::read(prefixes, k * PREFIX_WIDTH + PREFIX_TERM)
 }
 
-pub fn size_at(prefixes: &PrefixTable, k: usize) -> usize
+pub fn size_at(prefixes: &PrefixTable, k: usize) -> u8
     requires { k < prefix_limit }
     ensures { Word prefixes.now (k * prefix_width + prefix_size) byte_width result }
 {
-    usize::from(u8::read(prefixes, k * PREFIX_WIDTH + PREFIX_SIZE))
+    u8::read(prefixes, k * PREFIX_WIDTH + PREFIX_SIZE)
 }
 
 // The content of its last entry. A row that breaks the storage rules may say more than its 32 bytes.
@@ -101,7 +101,7 @@ pub fn content_at(prefixes: &PrefixTable, k: usize) -> &[u8]
     requires { k < prefix_limit }
     ensures { result.now ≡ (prefix_row prefixes.now k).content }
 {
-    let n = size_at(prefixes, k).min(CONTENT_LIMIT);
+    let n = usize::from(size_at(prefixes, k)).min(CONTENT_LIMIT);
     part(prefixes, k * PREFIX_WIDTH + PREFIX_CONTENT, n)
 }
 

@@ -26,7 +26,7 @@ fn prefix_right(prefixes: &PrefixTable, k: usize) -> bool
     if LogIndex::LAST < i {
         return false;
     }
-    if CONTENT_LIMIT < size_at(prefixes, k) {
+    if CONTENT_LIMIT < usize::from(size_at(prefixes, k)) {
         return false;
     }
     !is_among(prefixes, p.0, k)

@@ -5,7 +5,7 @@ use mathlib.Core.Path.{◌≡◌, refl, sym, ◌∙◌, ap, subst}
 use mathlib.Core.Bool.{false}
 use mathlib.Core.Option.{some}
 use mathlib.Core.List.{List}
-use Rattle.model.specs.Sizes.{Bytes}
+use Rattle.model.specs.Sizes.{Bytes, prefix_limit}
 use Rattle.model.specs.Record.{Row, Record, rows}
 use Rattle.model.specs.Rows.{Verdict, verdict}
 use Rattle.model.specs.Reading.{Reading, readable, unreadable, read}
@@ -17,11 +17,11 @@ use Rattle.record_bits.specs.declared.bits.Fault.{Fault}
 use Rattle.record_reading.specs.declared.head.Head.{Head}
 use Rattle.record_bits.specs.Answers.{refusal_of}
 use Rattle.record_reading.specs.Heads.{Told, head_of}
-use Rattle.record_entries.specs.Places.{rows_at, first_row}
+use Rattle.record_entries.specs.BitLayout.{rows_at, first_row}
 use Rattle.record_reading.proofs.Readable.{view_walk}
 use Rattle.record_reading.proofs.Faults.{told_always}
 use Rattle.storage.specs.Rules.{well_formed}
-use Rattle.storage.proofs.Meanings.{Stands}
+use Rattle.storage.proofs.Meanings.{Represents}
 use Rattle.std.specs.Prelude.{Option as Answered, Some, None, is_some, unwrap_or, Result, Ok, Err}
 use Rattle.answers.specs.declared.answer.Refusal.{Refusal}
 use Rattle.answers.specs.Numbers.{modelled, node_number}
@@ -42,19 +42,19 @@ use Rattle.submission.specs.Replies.{step_to, submit_step}
 -- to the byte string s, of bytes h that stand for x, the step t is taken
 pub record Means (h : Bytes) (x : History) (s : Bytes) (t : Step) : Type 0 where
   pub answers : modelled t.answer ≡ some (answer x s)
-  pub stands : Stands t.bytes (after x s)
+  pub represents : Represents t.bytes (after x s)
   -- a refused record leaves every byte
   pub keeps : is_accepted (answer x s) ≡ false → t.bytes ≡ h
 
 -- ---- of a record that was read
 
-module _ (h : Bytes) (x : History) (st : Stands h x) where
+module _ (h : Bytes) (x : History) (st : Represents h x) where
   took : (s : Bytes) (r : Record) (t : Step) → read s ≡ readable r → kinds.Means h x r t → Means h x s t
   unfolding answer after
   took s r t e m =
       record {
         answers = m.answers ∙ ap (λ (d : Reading). some (answer_read x d)) (sym e);
-        stands = subst (Stands t.bytes) (ap (after_read x) (sym e)) m.stands;
+        represents = subst (Represents t.bytes) (ap (after_read x) (sym e)) m.represents;
         keeps = λ p. m.keeps (ap (λ (d : Reading). is_accepted (answer_read x d)) (sym e) ∙ p);
       }
 
@@ -63,7 +63,7 @@ module _ (h : Bytes) (x : History) (st : Stands h x) where
   unread s f e =
       record {
         answers = ap (λ (d : Reading). some (answer_read x d)) (sym e);
-        stands = subst (Stands h) (ap (after_read x) (sym e)) st;
+        represents = subst (Represents h) (ap (after_read x) (sym e)) st;
         keeps = λ _. refl;
       }
 
@@ -79,7 +79,7 @@ module _ (h : Bytes) (x : History) (st : Stands h x) where
 
   told_means : (s : Bytes) (d : Result Head Fault) → Told s d → Means h x s (step_to h s d)
   told_means s (Ok (Head.View n c)) t =
-      took s _ _ t.reading (view_means 512 h x s c n.0 st (view_walk s _ n c t refl) t.within.0)
+      took s _ _ t.reading (view_means prefix_limit h x s c n.0 st (view_walk s _ n c t refl) t.within.0)
   told_means s (Ok (Head.Commit n i)) t = took s _ _ t.reading (commit_means h x n.0 i.0 st t.within.0 t.within.1)
   told_means s (Ok (Head.Terms c)) t =
       took s _ _ t.reading (terms_mean h x c.old.0 c.new.0 c.term.0 st t.within.1 t.within.2)
@@ -91,7 +91,7 @@ module _ (h : Bytes) (x : History) (st : Stands h x) where
   told_means s (Err w) t = unread s w t.reading
 
 -- of bytes that stand for a history, what `submit` promises is what the model says
-pub submit_means : (h : Bytes) (x : History) (s : Bytes) → Stands h x → Means h x s (submit_step h s)
+pub submit_means : (h : Bytes) (x : History) (s : Bytes) → Represents h x → Means h x s (submit_step h s)
 unfolding submit_step
 submit_means h x s st =
     subst (Means h x s) (sym (cond_true (well_formed h) _ (refusing Refusal.StorageBroken h) st.right))

@@ -5,7 +5,7 @@ use Rattle.std.specs.Prelude.{cond, is_some, unwrap_or, Result, Ok, Err}
 use Rattle.model.specs.Sizes.{Bytes, prefix_limit}
 use Rattle.model.specs.Reading.{read}
 use Rattle.record_reading.specs.Heads.{head_of}
-use Rattle.record_entries.specs.Places.{rows_at, first_row}
+use Rattle.record_entries.specs.BitLayout.{rows_at, first_row}
 use Rattle.storage.specs.Rules.{well_formed}
 use Rattle.logical_log.specs.Observation.{view_step}
 use Rattle.commit.specs.Prefix.{commit_step}

@@ -6,10 +6,10 @@ ghost use Rattle.std.specs.Prelude.{◌≡◌};
 ghost use Rattle.units.specs.Units.{node_of, index_of};
 
 // The greatest node.
-pub const NODE_LIMIT: u8 = 63;
+pub const LAST_NODE: u8 = 63;
 
 // How many nodes there are.
-pub const NODE_COUNT: usize = NODE_LIMIT as usize + 1;
+pub const NODE_COUNT: usize = LAST_NODE as usize + 1;
 
 // The greatest index; a count and a length have the same limit.
 pub const INDEX_LIMIT: usize = 256;
@@ -52,7 +52,7 @@ pub struct OutOfLimit;
 
 impl NodeId {
     // The greatest node.
-    pub const LAST: NodeId = NodeId(NODE_LIMIT);
+    pub const LAST: NodeId = NodeId(LAST_NODE);
 }
 
 impl TryFrom<u8> for NodeId {
@@ -61,7 +61,7 @@ impl TryFrom<u8> for NodeId {
     ghost try_from_gives = { λ n result. result ≡ node_of n };
 
     fn try_from(n: u8) -> Result<NodeId, OutOfLimit> {
-        if n <= NODE_LIMIT {
+        if n <= LAST_NODE {
             Ok(NodeId(n))
         } else {
             Err(OutOfLimit)

@@ -2,7 +2,7 @@
 -- Assumes nothing.
 use Prim.Native.Nat.{◌+◌, ◌-◌, ◌*◌, ◌≤◌}
 use mathlib.Core.Path.{◌≡◌}
-use Rattle.record_entries.specs.Places.{entries_at, first_entry}
+use Rattle.record_entries.specs.BitLayout.{entries_at, first_entry}
 use Rattle.bench_records.specs.Used.{contents_of}
 use Rattle.bench_records.proofs.walk.Given as goal
 

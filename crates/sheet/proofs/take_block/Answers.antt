@@ -12,6 +12,6 @@ pub loop-number-preserved : goal.loop-number-preserved
 loop-number-preserved g c =
     block_goes_on _ _ _ _ _ _ _ _ _ _ _ _ _ c.loop-number.invariant refl (omega arith) c.take_some-p.ensures c.in_ok-flush.ensures
 
-pub returns-then-p-lt-SOME-clause-taken : goal.returns-then-p-lt-SOME-clause-taken
-returns-then-p-lt-SOME-clause-taken g c =
+pub returns-then-p-lt-RECORDS_PER_WRITE-clause-taken : goal.returns-then-p-lt-RECORDS_PER_WRITE-clause-taken
+returns-then-p-lt-RECORDS_PER_WRITE-clause-taken g c =
     block_goes_on _ _ _ _ _ _ _ _ _ _ _ _ _ c.loop-number.invariant refl (omega arith) c.take_some-p.ensures c.in_ok-flush.ensures

@@ -1,6 +1,6 @@
 -- `sheet::take_block` meets its contract: of the block so far.
 -- Assumes nothing.
-use Rattle.std.proofs.Common.{length, ◌-◌, ◌≤◌}
+use Rattle.std.proofs.Common.{length, ◌-◌}
 use Rattle.sheet.specs.Input.{BlockTaken}
 use Rattle.sheet.proofs.take_block.Given as goal
 

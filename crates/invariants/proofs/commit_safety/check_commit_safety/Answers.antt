@@ -5,7 +5,7 @@ use Prim.Native.Nat.{◌+◌, ◌-◌}
 use mathlib.Core.Path.{◌≡◌, ap, sym, ◌∙◌}
 use native.Mathlib.Omega.{arith}
 use borrow.Author.Tests.{ltb-false}
-use Rattle.record_entries.specs.Places.{rows_at, first_row}
+use Rattle.record_entries.specs.BitLayout.{rows_at, first_row}
 use Rattle.record_entries.proofs.Walks.{row_here, next_row_walk}
 use Rattle.invariants.specs.Rules.{least, verdict_for}
 use Rattle.invariants.proofs.Pass.{row_shown, walk_verdict, row_next, rows_end, rule_1_end, answered}

@@ -4,7 +4,7 @@
 use Prim.Native.Nat.{◌-◌}
 use mathlib.Core.Path.{◌≡◌}
 use Rattle.model.specs.Rows.{verdict}
-use Rattle.record_entries.specs.Places.{RowWalk, rows_at, first_row}
+use Rattle.record_entries.specs.BitLayout.{RowWalk, rows_at, first_row}
 use Rattle.invariants.specs.Rules.{least, node_in, least_from}
 use Rattle.invariants.proofs.commit_safety.check_commit_safety.Given as goal
 

@@ -4,9 +4,9 @@ use Rattle.leader_completeness.proofs.JudgementLaws.{judged_none, judged_some}
 use Prim.Native.Nat.{ℕ}
 use mathlib.Core.Bool.{true}
 use Rattle.model.specs.Sizes.{Bytes}
-use Rattle.log_violation.specs.Violation.{NotedAll, note_where}
+use Rattle.log_violation.specs.Violation.{NotedAll, note_if}
 use Rattle.leader_completeness.specs.Judgement.{lacking_of, JudgedAs}
-use Rattle.log_violation.proofs.ViolationLaws.{where_not, where_noted}
+use Rattle.log_violation.proofs.ViolationLaws.{if_not, if_noted}
 use Rattle.storage_rows.proofs.TermSearchLaws.{index_told, nothing_told}
 use Rattle.storage_rows.specs.Certificates.{certificate_value}
 use mathlib.Core.Path.{refl, sym, ◌∙◌}
@@ -21,7 +21,7 @@ returns-in_default c =
 -- it has a relevant index, and what was noted of it is noted
 noted : (c : After-lacks_through) (held : ℕ) (t : Bytes)
     → (let n = c.args.notes.now in
-    NotedAll n.rows n.held (note_where c.lacks_through.result (lacking_of (certificate_value c.args.c) c.in-Some.index.0)) held t
+    NotedAll n.rows n.held (note_if c.lacks_through.result (lacking_of (certificate_value c.args.c) c.in-Some.index.0)) held t
     → JudgedAs c.args.history.bytes.now (certificate_value c.args.c) n.rows n.held true held t)
 noted c held t w =
     let x = index_told _ _ c.relevant_index.ensures _ c.in-Some.is in
@@ -29,8 +29,8 @@ noted c held t w =
 
 pub returns-then-lacks_through : goal.returns-then-lacks_through
 returns-then-lacks_through c =
-    noted (goal.at.returns-then-lacks_through c).After-lacks_through _ _ (where_noted _ _ _ _ c.if-lacks_through.true _ _ c.note.ensures)
+    noted (goal.at.returns-then-lacks_through c).After-lacks_through _ _ (if_noted _ _ _ _ c.if-lacks_through.true _ _ c.note.ensures)
 
 pub returns-else-lacks_through : goal.returns-else-lacks_through
 returns-else-lacks_through c =
-    noted (goal.at.returns-else-lacks_through c).After-lacks_through _ _ (where_not _ _ _ _ c.if-lacks_through.false)
+    noted (goal.at.returns-else-lacks_through c).After-lacks_through _ _ (if_not _ _ _ _ c.if-lacks_through.false)

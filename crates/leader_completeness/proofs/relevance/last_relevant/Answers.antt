@@ -2,18 +2,17 @@
 -- Assumes nothing.
 use Rattle.leader_completeness.proofs.RelevanceLaws.{relevant_next, relevant_found, relevant_none}
 use Rattle.storage_rows.proofs.TermSearchLaws.{index_found, index_none}
-use Prim.Native.Nat.{◌+◌, ◌-◌, ◌≤◌, ◌<◌}
-use mathlib.Core.Path.{◌≡◌, ◌∙◌, ap}
+use Prim.Native.Nat.{◌+◌, ◌-◌}
+use mathlib.Core.Path.{◌≡◌, sym, ◌∙◌, ap}
 use Rattle.storage.specs.Tables.{term_row}
-use borrow.Author.Rules.{rules}
 use native.Mathlib.Omega.{arith}
 use Rattle.leader_completeness.proofs.relevance.last_relevant.Goals as goal
 
-pub returns-then-lt : goal.returns-then-lt
-returns-then-lt c =
+pub returns-then-is_earlier : goal.returns-then-is_earlier
+returns-then-is_earlier c =
     let l = c.loop-k in
     let s = c.args in
-    let earlier : c.term_of.result.0 < s.term.0 = search rules in
+    let earlier = sym c.is_earlier.ensures ∙ c.if-is_earlier.true in
     let place : l.k - 1 + 1 - 1 ≡ l.k - 1 = omega arith in
     let after = c.loop-k-test.true in
     index_found (record { 0 = l.k - 1 + 1 }) _
@@ -25,7 +24,7 @@ pub loop-k-preserved : goal.loop-k-preserved
 loop-k-preserved c =
     let l = c.loop-k in
     let s = c.args in
-    let later : s.term.0 ≤ c.term_of.result.0 = search rules in
+    let later = sym c.is_earlier.ensures ∙ c.if-is_earlier.false in
     let place : l.k - 1 + 1 - 1 ≡ l.k - 1 = omega arith in
     relevant_next _ _ _ _ _ l.invariant c.loop-k-test.true _ (c.term_of.ensures ∙ ap (term_row s.terms.now) place) later
 

@@ -3,7 +3,7 @@
 use Prim.Native.Nat.{ℕ, ◌≤◌}
 use mathlib.Core.Path.{sym, subst}
 use Rattle.log_prefix.proofs.StoredLaws.{stored_number}
-use Rattle.logical_log.proofs.Places.{first_within}
+use Rattle.logical_log.proofs.Cursors.{first_within}
 use Rattle.logical_log.proofs.Turns.{other_none, other_same}
 use Rattle.logical_log.proofs.judging.is_other.Goals as goal
 

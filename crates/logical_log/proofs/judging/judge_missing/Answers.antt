@@ -6,7 +6,7 @@ use native.Mathlib.Omega.{arith}
 use borrow.Author.Rules.{rules}
 use Rattle.std.specs.Prelude.{is_some}
 use Rattle.record_entries.proofs.Walks.{entry_taken}
-use Rattle.logical_log.specs.Judging.{place_at}
+use Rattle.logical_log.specs.Judging.{cursor_at}
 use Rattle.logical_log.proofs.Turns.{told, untold, remembered_is, lacking_next, lacking_ends, front_none, front_gap}
 use Rattle.logical_log.proofs.judging.judge_missing.Goals as goal
 use Rattle.logical_log.proofs.judging.judge_missing.Goals.{then-is_some, else-is_some}
@@ -23,7 +23,7 @@ loop-e-preserved c =
             | then-is_some w ↦ told _ _ _ _ w.if-is_some.true _ w.lg03.ensures _ w.notes-is w.note.ensures
             | else-is_some w ↦ untold _ _ _ _ w.if-is_some.false w.notes-is
           ])
-          _ (λ i. place_at (took.next i) (took.left i) (index i) c.args.rest.prefix.0),
+          _ (λ i. cursor_at (took.next i) (took.left i) (index i) c.args.rest.prefix.0),
     )
 
 pub returns-in-None : goal.returns-in-None

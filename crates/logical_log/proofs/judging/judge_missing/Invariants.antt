@@ -2,7 +2,7 @@
 -- Assumes nothing.
 use Prim.Native.Nat.{◌+◌}
 use mathlib.Core.Path.{◌≡◌}
-use Rattle.logical_log.specs.Judging.{place_at}
+use Rattle.logical_log.specs.Judging.{cursor_at}
 use Rattle.logical_log.proofs.Turns.{Lacking}
 use Rattle.logical_log.proofs.judging.judge_missing.Given as goal
 
@@ -12,4 +12,4 @@ invariant-loop-e l =
     let s = l.view.bytes.now in
     (w.bytes.now ≡ s)
     × Lacking l.prefixes.rows.now l.prefixes.count s l.rest l.view.node.0 l.initial.notes.rows l.initial.notes.held l.notes.rows
-    (place_at w.next w.left (l.rest.index.0 + l.missing) l.rest.prefix.0) l.missing l.notes.held
+    (cursor_at w.next w.left (l.rest.index.0 + l.missing) l.rest.prefix.0) l.missing l.notes.held

@@ -1,11 +1,11 @@
 -- `logical_log::judging::judge_view` meets its contract.
 -- Assumes nothing.
 use mathlib.Core.Path.{sym, subst}
-use Rattle.record_entries.specs.Places.{first_entry}
+use Rattle.record_entries.specs.BitLayout.{first_entry}
 use Rattle.storage.proofs.WellFormed.{formed}
 use Rattle.log_prefix.proofs.TableLaws.{table_lent}
-use Rattle.logical_log.specs.Judging.{Stand}
-use Rattle.logical_log.proofs.Places.{place_stands, first_stands}
+use Rattle.logical_log.specs.Judging.{Walkable}
+use Rattle.logical_log.proofs.Cursors.{cursor_walkable, first_walkable}
 use Rattle.logical_log.proofs.Judged.{view_judged}
 use Rattle.record_entries.proofs.Views.{walked}
 use Rattle.logical_log.proofs.judging.judge_view.Goals as goal
@@ -24,7 +24,7 @@ judge_missing-missing-requires c =
     let h = c.args.history.bytes.now in
     let w = c.judge_stored-rest.ensures in (
       table_lent h _ _ (formed h c.args.history.formed) c.of-prefixes.ensures.0 c.of-prefixes.ensures.1,
-      subst (Stand c.args.view.bytes.now count) (sym w.place) (place_stands _ count c.args.view.bytes.now c.args.view.entries first_entry 1 0 (first_stands c.args.view.bytes.now count c.args.view.entries (walked _ _ _ c.args.view.walk))),
+      subst (Walkable c.args.view.bytes.now count) (sym w.cursor) (cursor_walkable _ count c.args.view.bytes.now c.args.view.entries first_entry 1 0 (first_walkable c.args.view.bytes.now count c.args.view.entries (walked _ _ _ c.args.view.walk))),
     )
 
 pub returns : goal.returns

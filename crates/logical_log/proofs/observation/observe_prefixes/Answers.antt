@@ -28,8 +28,8 @@ returns-in_err-fits c =
     observed_seven c.requires c.args.view.walk c.judge_view-judged.ensures c.prefix_count-count.ensures.is m c.if-most-total.false
     (over_limit _ _ c.fits.ensures _ c.in_err-fits.was) _ (p.1 ∙ ap Err p.2)
 
-pub write_view-requires : goal.write_view-requires
-write_view-requires c =
+pub write_view-made-requires : goal.write_view-made-requires
+write_view-made-requires c =
     let m : c.min-most.result ≡ min c.args.limit prefix_limit = search rules in (
       observed_room c.requires c.args.view.walk c.judge_view-judged.ensures c.prefix_count-count.ensures.is m c.if-most-total.false (omega arith),
       c.args.view.is_node,
@@ -39,4 +39,4 @@ pub returns : goal.returns
 returns c =
     let m : c.min-most.result ≡ min c.args.limit prefix_limit = search rules in
     observed_ok c.requires c.args.view.walk c.judge_view-judged.ensures c.prefix_count-count.ensures.is m c.if-most-total.false
-    (in_limit _ _ c.fits.ensures _ c.in_ok-fits.was) _ c.with.ensures _ c.write_view.ensures
+    (in_limit _ _ c.fits.ensures _ c.in_ok-fits.was) _ _ c.write_view-made.ensures _ c.with.ensures

@@ -1,12 +1,12 @@
 -- `logical_log::writing::store` meets its contract.
 -- Assumes nothing.
-use Prim.Native.Nat.{ℕ}
+use Prim.Native.Nat.{ℕ, ◌+◌}
 use mathlib.Core.Path.{◌≡◌}
-use Rattle.logical_log.specs.Judging.{place_at}
+use Rattle.logical_log.specs.Judging.{cursor_at}
 use Rattle.logical_log.proofs.WritingTurns.{Written}
 use Rattle.logical_log.proofs.writing.store.Given as goal
 
 abbrev pub invariant-loop-e : goal.invariant-loop-e
 invariant-loop-e l =
     let w = l.e-iterator in
-    (i : ℕ) × (w.bytes.now ≡ l.view) × Written l.initial.history l.count l.view l.fn.rest l.history (place_at w.next w.left i l.front.0) l.n
+    (i : ℕ) × (w.bytes.now ≡ l.view) × Written l.initial.history l.count l.view l.fn.rest l.history (cursor_at w.next w.left i l.front.0) (l.count + l.made)

@@ -4,4 +4,4 @@ use Rattle.logical_log.proofs.WritingWhole.{view_written_lem}
 use Rattle.logical_log.proofs.writing.write_view.Goals as goal
 
 pub returns : goal.returns
-returns c = view_written_lem _ _ _ _ _ _ _ _ _ _ _ _ c.store-front.ensures c.last_index-last.ensures c.replace_view.ensures c.keep.ensures
+returns c = view_written_lem _ _ _ _ _ _ _ _ _ _ _ _ _ c.store-stored.ensures c.last_index-last.ensures c.replace_view.ensures c.keep.ensures

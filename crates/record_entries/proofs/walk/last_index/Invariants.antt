@@ -3,7 +3,7 @@
 use Prim.Native.Nat.{◌-◌}
 use mathlib.Core.Path.{◌≡◌}
 use Rattle.model.specs.Record.{last_from}
-use Rattle.record_entries.specs.Places.{Walk, entries_at}
+use Rattle.record_entries.specs.BitLayout.{Walk, entries_at}
 use Rattle.record_entries.proofs.walk.last_index.Given as goal
 
 abbrev pub invariant-loop : goal.invariant-loop

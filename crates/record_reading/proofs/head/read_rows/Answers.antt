@@ -3,7 +3,7 @@
 use mathlib.Core.Path.{◌≡◌, refl}
 use native.Mathlib.Omega.{arith}
 use Rattle.model.specs.Reading.{many, row, rows_fields}
-use Rattle.record_entries.specs.Places.{node_of}
+use Rattle.record_entries.specs.BitLayout.{node_of}
 use Rattle.record_entries.proofs.Scanned.{rows_scanned}
 use Rattle.record_entries.proofs.Listed.{end_not}
 use Rattle.record_reading.proofs.Heads.{finish_head, fault_read, count_taken}

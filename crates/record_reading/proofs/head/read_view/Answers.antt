@@ -3,7 +3,7 @@
 use mathlib.Core.Path.{◌≡◌, refl}
 use native.Mathlib.Omega.{arith}
 use Rattle.model.specs.Reading.{many, shown, view_fields}
-use Rattle.record_entries.specs.Places.{index_of}
+use Rattle.record_entries.specs.BitLayout.{index_of}
 use Rattle.record_entries.proofs.Scanned.{entries_scanned}
 use Rattle.record_entries.proofs.Listed.{end_not}
 use Rattle.record_reading.proofs.Heads.{finish_head, fault_read, node_taken, count_taken}

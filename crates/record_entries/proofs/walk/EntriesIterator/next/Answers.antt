@@ -2,7 +2,7 @@
 -- Assumes nothing.
 use Prim.Native.Nat.{◌-◌}
 use native.Mathlib.Omega.{arith}
-use Rattle.record_entries.specs.Places.{Walk}
+use Rattle.record_entries.specs.BitLayout.{Walk}
 use Rattle.record_entries.proofs.Walks.{next_walk}
 use Rattle.record_entries.proofs.walk.EntriesIterator.next.Goals as goal
 

@@ -13,14 +13,14 @@ use Rattle.model.specs.Entry.{Entry}
 use Rattle.model.specs.Record.{front_from}
 use Rattle.model.specs.Sizes.{Bytes, content_limit}
 use Rattle.model.proofs.Tests.{either, cond_true, cond_false}
-use Rattle.record_entries.specs.Places.{Walk, first_entry, index_at, length_at, next_at, shown_at, entries_at, items_at}
+use Rattle.record_entries.specs.BitLayout.{Walk, first_entry, index_at, length_at, next_at, shown_at, entries_at, items_at}
 use Rattle.record_bits.proofs.Widths.{bytes_length}
 use Rattle.record_entries.proofs.Walks.{next_walk, walk_entered, here}
 use Rattle.storage.specs.Tables.{PrefixRow}
 use Rattle.log_prefix.specs.Prefix.{search_from, find, is_of, first}
 use Rattle.log_prefix.proofs.PrefixLaws.{searched}
-use Rattle.logical_log.specs.Judging.{other, note_of, lack_notes, next_number, place_at, front_at, Stand, ends_at, place_from, stored_notes, notes_from}
-use Rattle.logical_log.specs.declared.judging.Place.{Place}
+use Rattle.logical_log.specs.Judging.{other, note_of, lack_notes, next_number, cursor_at, front_at, Walkable, ends_at, cursor_from, stored_notes, notes_from}
+use Rattle.logical_log.specs.declared.judging.FrontCursor.{FrontCursor}
 
 -- ---- a number found is one of the rows
 
@@ -92,13 +92,13 @@ module _ (row : ℕ → PrefixRow) (count : ℕ) (s : Bytes) (at i p : ℕ) wher
       (either (eqb (index_at s at) i))
 
   module _ (n : ℕ) where
-    pub place_stays : ends_at row count s at i p ≡ true → place_from row count s at (suc n) i p ≡ place_at at (suc n) i p
-    unfolding place_from
-    place_stays e = cond_true (ends_at row count s at i p) _ _ e
+    pub cursor_stays : ends_at row count s at i p ≡ true → cursor_from row count s at (suc n) i p ≡ cursor_at at (suc n) i p
+    unfolding cursor_from
+    cursor_stays e = cond_true (ends_at row count s at i p) _ _ e
 
-    pub place_goes : ends_at row count s at i p ≡ false → place_from row count s at (suc n) i p ≡ place_from row count s (next_at s at) n (i + 1) next
-    unfolding place_from
-    place_goes e = cond_false (ends_at row count s at i p) _ _ e
+    pub cursor_goes : ends_at row count s at i p ≡ false → cursor_from row count s at (suc n) i p ≡ cursor_from row count s (next_at s at) n (i + 1) next
+    unfolding cursor_from
+    cursor_goes e = cond_false (ends_at row count s at i p) _ _ e
 
     module _ (node : ℕ) where
       pub stored_stays : ends_at row count s at i p ≡ true → stored_notes row count node s at (suc n) i p ≡ []
@@ -113,21 +113,21 @@ module _ (row : ℕ → PrefixRow) (count : ℕ) (s : Bytes) (at i p : ℕ) wher
       -- with those of the rest
       pub notes_stay : ends_at row count s at i p ≡ true
           → notes_from row count node s at (suc n) i p ≡ lack_notes row count node i (front_from i (entries_at s at (suc n)))
-      notes_stay e = λ j. stored_stays e j ++ lack_notes row count node (place_stays e j).index.0 (front_at s (place_stays e j))
+      notes_stay e = λ j. stored_stays e j ++ lack_notes row count node (cursor_stays e j).index.0 (front_at s (cursor_stays e j))
 
       pub notes_go : ends_at row count s at i p ≡ false → notes_from row count node s at (suc n) i p
           ≡ note_of (other row count i (shown_at s at).entry.term next) node i (shown_at s at).entry.term ++ notes_from row count node s (next_at s at) n (i + 1) next
       notes_go e =
-          (λ j. stored_goes e j ++ lack_notes row count node (place_goes e j).index.0 (front_at s (place_goes e j)))
+          (λ j. stored_goes e j ++ lack_notes row count node (cursor_goes e j).index.0 (front_at s (cursor_goes e j)))
           ∙ append_assoc (note_of (other row count i (shown_at s at).entry.term next) node i (shown_at s at).entry.term) (stored_notes row count node s (next_at s at) n (i + 1) next) _
 
 -- ---- the place as a whole
 
 module _ (row : ℕ → PrefixRow) (count : ℕ) (s : Bytes) where
   -- past an entry whose prefix is stored
-  pub stand_next : (n at i p : ℕ) → Stand s count (place_at at (suc n) i p) → index_at s at ≡ i
-      → Stand s count (place_at (next_at s at) n (i + 1) (next row count s at i p))
-  stand_next n at i p w g =
+  pub walkable_next : (n at i p : ℕ) → Walkable s count (cursor_at at (suc n) i p) → index_at s at ≡ i
+      → Walkable s count (cursor_at (next_at s at) n (i + 1) (next row count s at i p))
+  walkable_next n at i p w g =
       record {
         walk = walk_more s at n w.walk;
         number = find_within row count _;
@@ -136,40 +136,40 @@ module _ (row : ℕ → PrefixRow) (count : ℕ) (s : Bytes) where
       }
 
   -- what holds where the walk begins and is kept past each entry whose prefix is stored holds at its place
-  pub place_keeps : (P : Place → Type 0)
-      → ((n at i p : ℕ) → P (place_at at (suc n) i p) → index_at s at ≡ i → (next row count s at i p ≡ 0 → ⊥) → P (place_at (next_at s at) n (i + 1) (next row count s at i p)))
-      → (n at i p : ℕ) → P (place_at at n i p) → P (place_from row count s at n i p)
-  unfolding place_from
-  place_keeps P k zero at i p w = w
-  place_keeps P k (suc n) at i p w = go (turn row count s at i p) (place_keeps P k n (next_at s at) (i + 1) (next row count s at i p))
+  pub cursor_keeps : (P : FrontCursor → Type 0)
+      → ((n at i p : ℕ) → P (cursor_at at (suc n) i p) → index_at s at ≡ i → (next row count s at i p ≡ 0 → ⊥) → P (cursor_at (next_at s at) n (i + 1) (next row count s at i p)))
+      → (n at i p : ℕ) → P (cursor_at at n i p) → P (cursor_from row count s at n i p)
+  unfolding cursor_from
+  cursor_keeps P k zero at i p w = w
+  cursor_keeps P k (suc n) at i p w = go (turn row count s at i p) (cursor_keeps P k n (next_at s at) (i + 1) (next row count s at i p))
     where
-      go : Turn row count s at i p → (P (place_at (next_at s at) n (i + 1) (next row count s at i p)) → P (place_from row count s (next_at s at) n (i + 1) (next row count s at i p)))
-          → P (place_from row count s at (suc n) i p)
-      go (gap g) ih = subst P (sym (place_stays row count s at i p n (ends_gap row count s at i p g))) w
-      go (lost g z) ih = subst P (sym (place_stays row count s at i p n (ends_lost row count s at i p g z))) w
-      go (more g z) ih = subst P (sym (place_goes row count s at i p n (goes_on row count s at i p g z))) (ih (k n at i p w g z))
+      go : Turn row count s at i p → (P (cursor_at (next_at s at) n (i + 1) (next row count s at i p)) → P (cursor_from row count s (next_at s at) n (i + 1) (next row count s at i p)))
+          → P (cursor_from row count s at (suc n) i p)
+      go (gap g) ih = subst P (sym (cursor_stays row count s at i p n (ends_gap row count s at i p g))) w
+      go (lost g z) ih = subst P (sym (cursor_stays row count s at i p n (ends_lost row count s at i p g z))) w
+      go (more g z) ih = subst P (sym (cursor_goes row count s at i p n (goes_on row count s at i p g z))) (ih (k n at i p w g z))
 
-  pub place_stands : (n at i p : ℕ) → Stand s count (place_at at n i p) → Stand s count (place_from row count s at n i p)
-  place_stands = place_keeps (Stand s count) (λ n at i p w g z. stand_next n at i p w g)
+  pub cursor_walkable : (n at i p : ℕ) → Walkable s count (cursor_at at n i p) → Walkable s count (cursor_from row count s at n i p)
+  cursor_walkable = cursor_keeps (Walkable s count) (λ n at i p w g z. walkable_next n at i p w g)
 
   -- at a place the front is at its end, or goes on with an entry whose prefix is not stored
-  abbrev pub Ended : Place → Type 0
+  abbrev pub Ended : FrontCursor → Type 0
   Ended r = (front_at s r ≡ []) ⊎ ((e : Entry) × (es : List Entry) × (front_at s r ≡ e ∷ es) × (next_number row count r.prefix.0 e ≡ 0))
 
-  pub place_ended : (n at i p : ℕ) → Ended (place_from row count s at n i p)
-  unfolding place_from
-  place_ended zero at i p = inl (front_zero s at i)
-  place_ended (suc n) at i p = go (turn row count s at i p) (place_ended n (next_at s at) (i + 1) (next row count s at i p))
+  pub cursor_ended : (n at i p : ℕ) → Ended (cursor_from row count s at n i p)
+  unfolding cursor_from
+  cursor_ended zero at i p = inl (front_zero s at i)
+  cursor_ended (suc n) at i p = go (turn row count s at i p) (cursor_ended n (next_at s at) (i + 1) (next row count s at i p))
     where
-      go : Turn row count s at i p → Ended (place_from row count s (next_at s at) n (i + 1) (next row count s at i p)) → Ended (place_from row count s at (suc n) i p)
-      go (gap g) ih = subst Ended (sym (place_stays row count s at i p n (ends_gap row count s at i p g))) (inl (front_cut s at n i g))
+      go : Turn row count s at i p → Ended (cursor_from row count s (next_at s at) n (i + 1) (next row count s at i p)) → Ended (cursor_from row count s at (suc n) i p)
+      go (gap g) ih = subst Ended (sym (cursor_stays row count s at i p n (ends_gap row count s at i p g))) (inl (front_cut s at n i g))
       go (lost g z) ih =
-          subst Ended (sym (place_stays row count s at i p n (ends_lost row count s at i p g z))) (inr ((shown_at s at).entry, front_from (i + 1) (entries_at s (next_at s at) n), front_suc s at n i g, z))
-      go (more g z) ih = subst Ended (sym (place_goes row count s at i p n (goes_on row count s at i p g z))) ih
+          subst Ended (sym (cursor_stays row count s at i p n (ends_lost row count s at i p g z))) (inr ((shown_at s at).entry, front_from (i + 1) (entries_at s (next_at s at) n), front_suc s at n i g, z))
+      go (more g z) ih = subst Ended (sym (cursor_goes row count s at i p n (goes_on row count s at i p g z))) ih
 
 -- the place of a view begins at its first entry
-pub first_stands : (s : Bytes) (count n : ℕ) → Walk s first_entry n → Stand s count (place_at first_entry n 1 0)
-first_stands s count n w = record { walk = w; number = omega arith; positive = omega arith; small = omega arith }
+pub first_walkable : (s : Bytes) (count n : ℕ) → Walk s first_entry n → Walkable s count (cursor_at first_entry n 1 0)
+first_walkable s count n w = record { walk = w; number = omega arith; positive = omega arith; small = omega arith }
 
 -- a front has no more entries than there are indexes from its first on
 pub front_most : (n : ℕ) (s : Bytes) (at i : ℕ) → Walk s at n → i ≤ 257 → length (front_from i (entries_at s at n)) + i ≤ 257

@@ -1,4 +1,4 @@
--- `election_certificates::marks::store_mark` meets its contract: a write in the lent table is that write in the whole.
+-- `election_certificates::marks::put_mark_of` meets its contract: a write in the lent table is that write in the whole.
 -- Assumes nothing.
 use Prim.Native.Nat.{◌+◌, ◌*◌}
 use native.Mathlib.Omega.{arith}
@@ -7,7 +7,7 @@ use Rattle.storage_bytes.specs.Layout.{certificates_start, certificates_length, 
 use Rattle.storage_bytes.proofs.WordLaws.{word_bytes_length}
 use Rattle.storage.proofs.WriteLaws.{part_written}
 use Rattle.election_certificates.specs.Marks.{mark_set}
-use Rattle.election_certificates.proofs.marks.store_mark.Goals as goal
+use Rattle.election_certificates.proofs.marks.put_mark_of.Goals as goal
 
 pub returns : goal.returns
 unfolding mark_set
