@@ -17,9 +17,8 @@ misused() { # WHY
 
 # ---- input and output
 
-# The words of a command that takes one recording: the file becomes standard input; with - or no word, that stays what it is.
-# Standard output is looked at here, too, so that a build is not waited for in vain.
-take_recording() {
+# --help prints the usage; no command has another option.
+take_options() {
     case ${1-} in
         -h | --help)
             printf '%s\n' "$usage"
@@ -27,8 +26,16 @@ take_recording() {
             ;;
         -?*) misused "unknown option $1" ;;
     esac
+}
+
+# Standard output is looked at first, so that a build is not waited for in vain.
+look_at_output() { { : 3>&1; } 2>/dev/null || stop 'standard output is closed'; }
+
+# The words of a command that takes one recording: the file becomes standard input; with - or no word, that stays what it is.
+take_recording() {
+    take_options "$@"
     [ $# -le 1 ] || misused "one recording at a time, and here are $#"
-    { : 3>&1; } 2>/dev/null || stop 'standard output is closed'
+    look_at_output
     if [ "${1--}" = - ]; then
         { : 3<&0; } 2>/dev/null || stop 'standard input is closed'
         [ ! -d /dev/stdin ] || stop 'standard input is a folder'
@@ -38,6 +45,14 @@ take_recording() {
     [ ! -d "$1" ] || stop "$1 is a folder"
     [ -r "$1" ] || stop "$1 may not be read"
     exec <"$1" || stop "$1 cannot be opened"
+}
+
+# The words of a command that takes none, and reads nothing.
+take_nothing() {
+    take_options "$@"
+    [ $# -eq 0 ] || misused "no word is taken, and here is $1"
+    look_at_output
+    exec </dev/null
 }
 
 # The program reads standard input itself, not through a pipe, where a read that fails would look like the end of the input: it says why,
@@ -127,7 +142,7 @@ unlock() {
 build() { # CRATE LOG
     local sources
     sources=$(sources_of "$1")
-    tell "proving and building the program: a quarter of an hour the first time, less after a change; what rt says is in $2"
+    tell "proving and building the program: up to a quarter of an hour the first time, less after a change; what rt says is in $2"
     rm -f "$built"
     (cd "$root/crates/$1" && rt run) >"$root/$2" 2>&1 </dev/null 9>&- || stop "the build failed: see $2"
     [ -x "$program" ] || stop "the build left no program: see $2"

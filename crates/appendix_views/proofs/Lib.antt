@@ -1,0 +1,4 @@
+pub mod ViewLaws
+pub mod CountLaws
+pub mod RecordLaws
+pub mod PutLaws
