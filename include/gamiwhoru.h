@@ -1,7 +1,7 @@
 /* The functions of target/staticlib/libhistory.a (made by harness/library), for C and C++.
  *
  * The functions are proved, and tests/calls holds these declarations to them. They follow crates/history_c/src/lib.rt and
- * crates/answers/src/numbers.rt, where each function's whole promise stands; docs/SCOPE.md says what a record does. Nothing is
+ * crates/answers/src/numbers.rt, crates/record_writing/src/reply.rt, where each function's whole promise stands; docs/SCOPE.md says what a record does. Nothing is
  * asked of the bytes: any history and any record may be handed in. Each pointer must be that of `length` live bytes, and a
  * history must not overlap the record handed to it.
  *
@@ -21,8 +21,14 @@ extern "C" {
 /* What a record is answered: document 01's numbers. */
 struct gamiwhoru_reply {
     uint8_t refusal; /* 1 to 10 or 12, or 0 where the record is accepted */
-    size_t value;    /* the sum of its flags, or the rule that fails; 0 where it is refused */
+    size_t value;    /* how many prefixes a view made, the sum of the flags, or the rule that fails; 0 where it is refused */
     uint8_t node;    /* the node of a failing row, or 0 */
+};
+
+/* What the writer answers. */
+struct gamiwhoru_write_reply {
+    uint8_t refusal; /* 1 to 5, as in reading, or 13 where the buffer is too short; 0 where the record is written */
+    size_t length;   /* how many bytes were written; 0 where it is refused */
 };
 
 /* A reader's state. */
@@ -71,6 +77,11 @@ uint8_t gamiwhoru_fresh(uint8_t *history, size_t length);
 
 /* Hands a record to a history. A refused record leaves every byte of it. */
 struct gamiwhoru_reply gamiwhoru_submit(uint8_t *history, size_t length, const uint8_t *record, size_t record_length);
+
+/* Writes a record from its numbers: the kind, 1 to 6, then the record's fields in their order, one number a field, a yes/no as 0 or 1, and
+ * a content's bytes one number each. 2 says that the numbers end too early, 3 that they go on. The record's bytes are written from the
+ * buffer's start, and those behind them are kept; a refused call writes nothing. The buffer must not overlap the numbers. */
+struct gamiwhoru_write_reply gamiwhoru_write(const uint64_t *fields, size_t count, uint8_t *buffer, size_t length);
 
 /* The n-th element of a list in printed order, counted from 0. Nothing is written. */
 struct gamiwhoru_finding_reply gamiwhoru_finding(const uint8_t *history, size_t length, size_t n);

@@ -158,3 +158,31 @@ fn full() -> Vec<Record> {
     }
     chain
 }
+
+/// Records that are written, over and over.
+pub struct Written {
+    pub name: &'static str,
+    pub records: Vec<Record>,
+}
+
+pub fn written() -> Vec<Written> {
+    let full = |index| Entry {
+        index,
+        term: u32::MAX - index,
+        content: vec![index as u8; 32].into(),
+    };
+    let largest = view(63, (1..=256).map(full).collect());
+    let mut small = certificates();
+    small.retain(|record| !matches!(record, Record::View { .. }));
+    small.extend((1..=64).map(|node| view(node - 1, log(node % 3))));
+    vec![
+        Written {
+            name: "the largest view",
+            records: vec![largest; 20],
+        },
+        Written {
+            name: "small records",
+            records: small,
+        },
+    ]
+}

@@ -1,19 +1,21 @@
 //! Times per record on five kinds of chains: the Rust's functions alone, the
 //! Rust from the record's bytes, and the library's `submit`, which is handed
-//! the same bytes. See harness/README.md.
+//! the same bytes. Then times per record of writing, by the harness's encoder
+//! and by the library's writer. See harness/README.md.
 
 mod chains;
 
 use std::hint::black_box;
 use std::time::{Duration, Instant};
 
-use harness::library::subject;
+use harness::library::{subject, writer};
 use harness::oracle::{call, hush_refusal_8, Oracle};
-use harness::record::read;
+use harness::record::{read, write, Record};
 use harness::subject::Subject;
+use harness::writing::numbers;
 use rafter_sim::model_check::judge::{Call, Histories};
 
-use chains::{workloads, Workload};
+use chains::{written, workloads, Workload, Written};
 
 /// Passes that are timed, after one that is not. The shortest counts: what
 /// makes a pass longer is other work on the machine.
@@ -54,6 +56,55 @@ fn main() {
             shown(library.map(|time| time / reading), 2),
         );
     }
+    if let Some(write) = writer() {
+        table_of_writing(write);
+    }
+}
+
+/// Writes the record that the numbers are: the refusal, and how many bytes.
+type Write = fn(&[u64], &mut [u8]) -> (u32, usize);
+
+fn table_of_writing(library: Write) {
+    println!(
+        "\n{:<44} {:>8} {:>12} {:>12} {:>8}",
+        "written", "records", "encoder", "library", "/encoder"
+    );
+    for Written { name, records } in written() {
+        let per_record = |time: Duration| time.as_nanos() as f64 / records.len() as f64;
+        let encoder = per_record(encoded(&records));
+        let library = per_record(by_library(library, &records));
+        println!(
+            "{name:<44} {:>8} {encoder:>9.0} ns {library:>9.0} ns {:>8.2}",
+            records.len(),
+            library / encoder,
+        );
+    }
+}
+
+fn encoded(records: &[Record]) -> Duration {
+    shortest(|| {
+        let start = Instant::now();
+        for record in records {
+            black_box(write(black_box(record)));
+        }
+        start.elapsed()
+    })
+}
+
+/// From lists that were made before, into one lent buffer.
+fn by_library(write: Write, records: &[Record]) -> Duration {
+    let lists: Vec<Vec<u64>> = records.iter().map(numbers).collect();
+    let mut buffer = vec![0; 65_535];
+    for list in &lists {
+        assert_eq!(write(list, &mut buffer).0, 0, "a list that is a record");
+    }
+    shortest(|| {
+        let start = Instant::now();
+        for list in &lists {
+            black_box(write(black_box(list), &mut buffer));
+        }
+        start.elapsed()
+    })
 }
 
 /// The library, where it is linked. Without it there is nothing to time: the

@@ -3,6 +3,7 @@
 pub mod compare;
 pub mod decode;
 pub mod figures;
+pub mod judge;
 pub mod ledger;
 pub mod library;
 pub mod limits;
@@ -16,3 +17,4 @@ pub mod sheet;
 pub mod small;
 pub mod state;
 pub mod subject;
+pub mod writing;

@@ -17,6 +17,17 @@ pub fn subject() -> (&'static str, Box<dyn Subject>) {
     ("the model", Box::<crate::model::Model>::default())
 }
 
+/// The library's writer, where it is linked.
+#[cfg(history)]
+pub fn writer() -> Option<fn(&[u64], &mut [u8]) -> (u32, usize)> {
+    Some(linked::write)
+}
+
+#[cfg(not(history))]
+pub fn writer() -> Option<fn(&[u64], &mut [u8]) -> (u32, usize)> {
+    None
+}
+
 #[cfg(history)]
 pub mod linked {
     use crate::decode::{decode, put_marks};
@@ -30,6 +41,12 @@ pub mod linked {
         refusal: u8,
         value: usize,
         node: u8,
+    }
+
+    #[repr(C)]
+    struct WriteReply {
+        refusal: u8,
+        length: usize,
     }
 
     #[repr(C)]
@@ -77,11 +94,25 @@ pub mod linked {
             record: *const u8,
             record_length: usize,
         ) -> Reply;
+        fn gamiwhoru_write(
+            fields: *const u64,
+            count: usize,
+            buffer: *mut u8,
+            length: usize,
+        ) -> WriteReply;
         fn gamiwhoru_finding(history: *const u8, length: usize, n: usize) -> FindingReply;
         fn gamiwhoru_leader(history: *const u8, length: usize, n: usize) -> LeaderReply;
         fn gamiwhoru_unseen(history: *const u8, length: usize, n: usize) -> UnseenReply;
         fn gamiwhoru_unknown(history: *const u8, length: usize, n: usize) -> UnknownReply;
         fn gamiwhoru_committed(history: *const u8, length: usize) -> CommittedReply;
+    }
+
+    /// The refusal, and how many bytes of the buffer were written.
+    pub fn write(numbers: &[u64], buffer: &mut [u8]) -> (u32, usize) {
+        let (fields, count) = (numbers.as_ptr(), numbers.len());
+        // SAFETY: the pointers and lengths are those of two live buffers, of which one is only read.
+        let reply = unsafe { gamiwhoru_write(fields, count, buffer.as_mut_ptr(), buffer.len()) };
+        (u32::from(reply.refusal), reply.length)
     }
 
     /// A reader's states.

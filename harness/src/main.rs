@@ -6,13 +6,14 @@ use std::{env, fs};
 
 use harness::compare::{compare, hex, smallest, Counts};
 use harness::figures::figures;
-use harness::library::subject;
+use harness::library::{subject, writer};
 use harness::limits::limits;
 use harness::marked::Marked;
 use harness::model::{Mistake, Model, MISTAKES};
-use harness::oracle::{hush_refusal_8, Oracle};
+use harness::judge::Judge;
+use harness::oracle::hush_refusal_8;
 use harness::subject::Subject;
-use harness::{random, sheet, small};
+use harness::{random, sheet, small, writing};
 
 const USAGE: &str = "harness sheet FILE              the sheet of a recording, by the Rust
 harness sheets DIR              the sheets of all DIR/*.records against DIR/*.sheet
@@ -20,6 +21,8 @@ harness run [--seed S] [--chains N] [--from K] [--depth D]
                                 figures, limits, all chains of at most D small records, N random chains,
                                 a tenth of them from other marks as well
 harness mistakes [--seed S]     each mistake of the model on purpose, and the smallest chain that shows it
+harness writing [--seed S] [--lists N]
+                                N lists of numbers, half of them damaged, to the library's writer and to a plain one
 harness write DIR [--seed S] [--chains N]
                                 recordings of the figures, the limits and N random chains, with their sheets by the Rust
 harness chain S K               the recording of random chain K of seed S, in hexadecimal";
@@ -32,6 +35,7 @@ fn main() -> ExitCode {
         ["sheet", file] => print_sheet(file),
         ["sheets", directory] => check_sheets(directory),
         ["run", options @ ..] => run(options),
+        ["writing", options @ ..] => lists_written(options),
         ["mistakes", options @ ..] => mistakes(options),
         ["write", directory, options @ ..] => write_recordings(directory, options),
         ["chain", seed, number] => print_chain(seed, number),
@@ -54,7 +58,7 @@ fn bytes_of(file: &str) -> Result<Vec<u8>, String> {
 }
 
 fn print_sheet(file: &str) -> Verdict {
-    print!("{}", sheet::sheet(&mut Oracle::default(), &bytes_of(file)?));
+    print!("{}", sheet::sheet(&mut Judge::default(), &bytes_of(file)?));
     Ok(true)
 }
 
@@ -91,7 +95,7 @@ fn write_recordings(directory: &str, options: &[&str]) -> Verdict {
     fs::create_dir_all(directory).map_err(|error| format!("{directory}: {error}"))?;
     for (name, chain) in figures.chain(limits).chain(random) {
         let recording = sheet::recording(&chain);
-        let printed = sheet::sheet(&mut Oracle::default(), &recording);
+        let printed = sheet::sheet(&mut Judge::default(), &recording);
         for (ending, bytes) in [("records", recording), ("sheet", printed.into_bytes())] {
             let file = format!("{directory}/{name}.{ending}");
             fs::write(&file, bytes).map_err(|error| format!("{file}: {error}"))?;
@@ -115,7 +119,7 @@ fn check_sheets(directory: &str) -> Verdict {
     for name in &names {
         let recording = bytes_of(&format!("{name}.records"))?;
         let expected = bytes_of(&format!("{name}.sheet"))?;
-        let by_oracle = sheet::sheet(&mut Oracle::default(), &recording);
+        let by_oracle = sheet::sheet(&mut Judge::default(), &recording);
         let by_subject = sheet::sheet(subject.as_mut(), &recording);
         for (who, printed) in [("the Rust", by_oracle), (other, by_subject)] {
             if printed.as_bytes() != expected {
@@ -124,7 +128,7 @@ fn check_sheets(directory: &str) -> Verdict {
             }
         }
         let records = sheet::records(&recording);
-        let (oracle, subject) = (&mut Oracle::default(), subject.as_mut());
+        let (oracle, subject) = (&mut Judge::default(), subject.as_mut());
         let name = || name.clone();
         wrong += u32::from(differs(oracle, subject, &name, &records, &mut counts, true));
     }
@@ -152,7 +156,7 @@ fn option(options: &[&str], name: &str, default: u64) -> Result<u64, String> {
 
 /// Compares chains and tells of the first few that differ.
 struct Runner {
-    oracle: Oracle,
+    oracle: Judge,
     other: &'static str,
     subject: Box<dyn Subject>,
     counts: Counts,
@@ -163,7 +167,7 @@ impl Runner {
     fn new() -> Self {
         let (other, subject) = subject();
         Self {
-            oracle: Oracle::default(),
+            oracle: Judge::default(),
             other,
             subject,
             counts: Counts::default(),
@@ -301,8 +305,42 @@ fn run(options: &[&str]) -> Verdict {
         start.elapsed()
     );
     print_counts(&runner.counts);
+    println!(
+        "  records judged by the plain model, behind a check that met a commit term of zero: {}",
+        runner.oracle.by_the_model
+    );
     println!("{} differences", runner.differences);
     Ok(runner.differences == 0)
+}
+
+fn lists_written(options: &[&str]) -> Verdict {
+    let seed = option(options, "--seed", 1)?;
+    let lists = option(options, "--lists", 1_000_000)?;
+    let Some(write) = writer() else {
+        println!("writing: not run, for want of the library");
+        return Ok(true);
+    };
+    let start = Instant::now();
+    let mut answers = [0_u64; 14];
+    let mut differences = 0;
+    for number in 0..lists {
+        let numbers = writing::list(seed, number);
+        let before = writing::buffer(seed, number, &numbers);
+        let wanted = writing::wanted(&numbers, &before);
+        let mut after = before.clone();
+        let (refusal, length) = write(&numbers, &mut after);
+        let got = (refusal, length, after);
+        answers[wanted.0 as usize] += 1;
+        if got != wanted {
+            differences += 1;
+            println!("list {number} of seed {seed}, {numbers:?}: {got:?}, not {wanted:?}");
+        }
+    }
+    println!(
+        "{lists} lists of numbers of seed {seed}, answered 0 to 13 so often: {answers:?}; {differences} differences; {:.1?}",
+        start.elapsed()
+    );
+    Ok(differences == 0)
 }
 
 fn print_counts(counts: &Counts) {
@@ -361,7 +399,7 @@ type Chain = (Vec<Vec<u8>>, Vec<u32>, Vec<Vec<u8>>);
 
 /// The first chain that shows a mistake, its records made few and small.
 fn notice(most: u64, mistake: Mistake, chain: &dyn Fn(u64) -> Chain) -> Option<String> {
-    let (mut oracle, mut model) = (Oracle::default(), Model::with(mistake));
+    let (mut oracle, mut model) = (Judge::default(), Model::with(mistake));
     for number in 0..most {
         let (start, marks, chain) = chain(number);
         let oracle = &mut Marked::new(&mut oracle, &start, &marks);

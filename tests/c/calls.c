@@ -17,6 +17,9 @@ FIELD(reply, refusal, 0, 1);
 FIELD(reply, value, 8, 8);
 FIELD(reply, node, 16, 1);
 SIZE(reply, 24);
+FIELD(write_reply, refusal, 0, 1);
+FIELD(write_reply, length, 8, 8);
+SIZE(write_reply, 16);
 FIELD(finding_reply, state, 0, 1);
 FIELD(finding_reply, name, 8, 8);
 FIELD(finding_reply, node, 16, 1);
@@ -89,8 +92,9 @@ static void submit(const char *call, const struct record *r, unsigned refusal, s
     same(call, "node", reply.node, node);
 }
 
-/* Entries 1 to 256, that of index i of term 65536 + i and of one byte of content, which is another at the index `other`. */
-static void view(const char *call, uint32_t node, uint32_t other)
+/* Entries 1 to 256, that of index i of term 65536 + i and of one byte of content, which is another at the index `other`: so many
+ * prefixes of it are new. */
+static void view(const char *call, uint32_t node, uint32_t other, size_t made)
 {
     struct record r = {{0}, 0};
     put(&r, 4, 1);
@@ -102,7 +106,7 @@ static void view(const char *call, uint32_t node, uint32_t other)
         put(&r, 6, 1);
         put(&r, 8, i == other ? 0xc5 : 0x3a);
     }
-    submit(call, &r, 0, 0, 0);
+    submit(call, &r, 0, made, 0);
 }
 
 static void commit(const char *call, uint32_t node, uint32_t index, size_t value)
@@ -209,6 +213,48 @@ static void committed(const char *call, size_t length, const struct gamiwhoru_co
     same(call, "owner", reply.owner, wanted->owner);
 }
 
+/* The numbers `fields`, written into a buffer of `length` bytes that are all 0xab: the reply, the bytes, and all others as they were. */
+static void write(const char *call, const uint64_t *fields, size_t count, size_t length, unsigned refusal, const uint8_t *wanted, size_t written)
+{
+    uint8_t buffer[64];
+    memset(buffer, 0xab, sizeof buffer);
+    struct gamiwhoru_write_reply reply = gamiwhoru_write(fields, count, buffer, length);
+    same(call, "refusal", reply.refusal, refusal);
+    same(call, "length", reply.length, written);
+    size_t other = 0;
+    for (size_t i = 0; i < sizeof buffer; i++)
+        other += buffer[i] != (i < written ? wanted[i] : 0xab);
+    same(call, "count of bytes that differ", other, 0);
+}
+#define WRITE(call, length, refusal, bytes, written, ...)                                                                             \
+    write(call, (const uint64_t[]){__VA_ARGS__}, sizeof((const uint64_t[]){__VA_ARGS__}) / sizeof(uint64_t), length, refusal, bytes, written)
+
+/* One record of each kind, and each refusal; the lengths and the numbers of a call all differ. */
+static void writer(void)
+{
+    static const uint8_t rice[] = {0x10, 0x40, 0x10, 0x04, 0, 0, 0, 0x04, 0x47, 0x26, 0x96, 0x36, 0x50};
+    static const uint8_t two[] = {0x10, 0x40, 0x20, 0x04, 0, 0, 0, 0x04, 0x1f, 0xf0, 0x0c, 0, 0, 0, 0x08, 0};
+    static const uint8_t commit[] = {0x20, 0x40, 0x10};
+    static const uint8_t terms[] = {0x30, 0x00, 0x01, 0, 0, 0, 0x02};
+    static const uint8_t election[] = {0x40, 0x80, 0, 0, 0, 0xe0, 0};
+    static const uint8_t check[] = {0x50};
+    static const uint8_t rows[] = {0x60, 0x05, 0x40, 0x04, 0x01, 0x01, 0xe0, 0, 0, 0, 0, 0x2c, 0, 0, 0, 0, 0x03};
+    WRITE("write a view", 64, 0, rice, 13, 1, 1, 1, 1, 1, 4, 'r', 'i', 'c', 'e');
+    WRITE("write a view of two", 30, 0, two, 16, 1, 1, 2, 1, 1, 1, 255, 3, 2, 0);
+    WRITE("write a commit", 3, 0, commit, 3, 2, 1, 1);
+    WRITE("write terms", 7, 0, terms, 7, 3, 0, 1, 2);
+    WRITE("write an election", 9, 0, election, 7, 4, 2, 3, 1, 0);
+    WRITE("write a check", 2, 0, check, 1, 5);
+    WRITE("write rows", 18, 0, rows, 17, 6, 1, 20, 1, 1, 7, 1, 0, 5, 1, 0, 3);
+    WRITE("write kind 7", 1, 1, NULL, 0, 7, 1);
+    WRITE("write kind 2 to the 32 and 2", 1, 1, NULL, 0, 4294967298, 1);
+    WRITE("write a list that ends", 0, 2, NULL, 0, 2, 1);
+    WRITE("write a list that goes on", 0, 3, NULL, 0, 5, 0);
+    WRITE("write node 64", 0, 4, NULL, 0, 2, 64, 1);
+    WRITE("write index 2 after 2", 0, 5, NULL, 0, 1, 1, 2, 2, 1, 0, 2, 1, 0);
+    WRITE("write into a byte too few", 2, 13, NULL, 0, 2, 1, 1);
+}
+
 /* What a reader tells where it has no element: its state, and zeros. */
 #define NOTHING(type, said) (&(struct gamiwhoru_##type){.state = said})
 #define HERE(type, ...) (&(struct gamiwhoru_##type){.state = 0, __VA_ARGS__})
@@ -249,11 +295,11 @@ static void fresh(void)
  * Index 255 and 256 have no commit term. Both elections are without a log, and lack the last index of a lower commit term, 254. */
 static void records(void)
 {
-    view("view of 7", 7, 0);
-    view("view of 12", 12, 255);
+    view("view of 7", 7, 0, 256);
+    view("view of 12", 12, 255, 2);
     commit("commit of 7", 7, 256, 0);
     commit("commit of 12", 12, 256, 0);
-    view("view of 13", 13, 0);
+    view("view of 13", 13, 0, 0);
     commit("commit of 13", 13, 256, 3);
     commit("commit of 20", 20, 256, 0);
     commit("commit of 19", 19, 253, 0);
@@ -294,6 +340,7 @@ int main(void)
     fresh();
     records();
     lists();
+    writer();
     printf("calls: %u fields compared, %u differ\n", compared, differ);
     return differ == 0 ? 0 : 1;
 }

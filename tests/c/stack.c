@@ -11,10 +11,12 @@
 enum { STACK = 65536, SAID = 4096, FILLED = 0xa5, LONGEST_LIST = 256 };
 static uint8_t history[24137], record[65535], stack[STACK];
 static size_t length, n, most;
+static const uint64_t fields[] = {1, 63, 2, 1, 4294967295, 3, 1, 2, 3, 2, 4294967295, 1, 255};
 static ucontext_t outside, inside;
 
 static void fresh(void) { gamiwhoru_fresh(history, sizeof history); }
 static void submit(void) { gamiwhoru_submit(history, sizeof history, record, length); }
+static void write(void) { gamiwhoru_write(fields, sizeof fields / sizeof *fields, record, sizeof record); }
 static void finding(void) { gamiwhoru_finding(history, sizeof history, n); }
 static void leader(void) { gamiwhoru_leader(history, sizeof history, n); }
 static void unseen(void) { gamiwhoru_unseen(history, sizeof history, n); }
@@ -56,6 +58,7 @@ static int recording(const char *name)
         measure(unknown);
     }
     measure(committed);
+    measure(write);
     return 0;
 }
 

@@ -19,7 +19,7 @@ use Rattle.submission.specs.Replies.{submit_step}
 use Rattle.answers.specs.Step.{Step, Gives}
 use Rattle.history.specs.Exports.{Handed}
 use Rattle.submission.proofs.Meaning.{Means, submit_means, submit_broken}
-use Rattle.storage.proofs.Meanings.{stand}
+use Rattle.storage.proofs.Meanings.{represented}
 
 -- ---- the numbers of an answer are those of the model's
 
@@ -53,7 +53,7 @@ module _ (h s : Bytes) where
   step = submit_step h s
 
   means : well_formed h ≡ true → Means h (decode h) s step
-  means w = submit_means h (decode h) s (stand h w)
+  means w = submit_means h (decode h) s (represented h w)
 
   replies : well_formed h ≡ true → reply_of step.answer ≡ model_reply (answer (decode h) s)
   replies w = reply_alike step.answer (answer (decode h) s) (means w).answers
@@ -72,8 +72,8 @@ module _ (h s : Bytes) where
         broken = λ w. let b = submit_broken h s w in (q ∙ ap (λ (t : Step). reply_of t.answer) b, p.bytes ∙ ap (λ (t : Step). t.bytes) b);
         meant = λ w. (
           q ∙ replies w,
-          subst (λ (u : Bytes). well_formed u ≡ true) (sym p.bytes) (means w).stands.right,
-          ap decode p.bytes ∙ (means w).stands.decodes,
+          subst (λ (u : Bytes). well_formed u ≡ true) (sym p.bytes) (means w).represents.right,
+          ap decode p.bytes ∙ (means w).represents.decodes,
         );
         refused = λ f. p.bytes ∙ leaves (λ z. f (ap (λ (r : Reply). r.refusal) q ∙ z));
       }

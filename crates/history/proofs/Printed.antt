@@ -15,7 +15,7 @@ use Rattle.storage.specs.Rules.{well_formed}
 use Rattle.storage.specs.Decode.{decode}
 use Rattle.storage.specs.Fresh.{FreshMade, made_number}
 use Rattle.storage.specs.declared.fresh.WrongLength.{WrongLength}
-use Rattle.storage.proofs.Meanings.{stand, end_is}
+use Rattle.storage.proofs.Meanings.{represented, end_is}
 use Rattle.lists.specs.Picked.{nth}
 use Rattle.storage.specs.Values.{committed_end}
 use Rattle.lists.specs.Committed.{owner_in}
@@ -24,7 +24,7 @@ use Rattle.lists.specs.Findings.{finding_of, finding_answer}
 use Rattle.lists.specs.declared.leaders.Leader.{Leader as Printed}
 use Rattle.lists.specs.Leaders.{leader_as, leader_answer}
 use Rattle.lists.specs.declared.unseen.Unseen.{Unseen as Mark}
-use Rattle.lists.specs.Unseen.{mark_of, unseen_answer}
+use Rattle.lists.specs.Unseen.{told_unseen, unseen_answer}
 use Rattle.units.specs.declared.LogIndex.{LogIndex}
 use Rattle.lists.specs.Unknown.{index_of, unknown_answer}
 use Rattle.lists.proofs.Meaning.{owner_told, findings_told, leaders_told, unseen_told, unknown_told}
@@ -33,7 +33,7 @@ use Rattle.history.specs.declared.exports.LeaderReply.{LeaderReply}
 use Rattle.history.specs.declared.exports.UnseenReply.{UnseenReply}
 use Rattle.history.specs.declared.exports.UnknownReply.{UnknownReply}
 use Rattle.history.specs.declared.exports.CommittedReply.{CommittedReply}
-use Rattle.history.specs.Exports.{MadeFresh, no_finding, found_as, finding_out, no_leader, leader_is, leader_out, no_mark, mark_is, unseen_out, no_index, index_is, unknown_out, committed_out}
+use Rattle.history.specs.Exports.{MadeFresh, no_finding, finding_reply, finding_out, no_leader, leader_reply, leader_out, no_mark, unseen_reply, unseen_out, no_index, unknown_reply, unknown_out, committed_out}
 
 -- the n-th answer, taken for another
 nth_as : {A B C : Type 0} (f : A → B) (d : B) (g : B → C) (xs : List A) (n : ℕ) → g (nth f d xs n) ≡ nth (λ x. g (f x)) (g d) xs n
@@ -72,27 +72,27 @@ module _ {X A R : Type 0} (h : Bytes) (n : ℕ) (list : History → List X) (of 
       (λ w. b w ∙ sym (cond_false (well_formed h) _ broken w)) (either (well_formed h))
 
 module _ (h : Bytes) (n : ℕ) {L : Type 0} (bytes : L → Bytes) where
-  pub finding_here : (post : L → Option Found → Type 0) (r : FindingReply) → Replied h bytes (finding_answer h n) found_as (no_finding 12) (finding_out h n) post r
+  pub finding_here : (post : L → Option Found → Type 0) (r : FindingReply) → Replied h bytes (finding_answer h n) finding_reply (no_finding 12) (finding_out h n) post r
   unfolding out
-  finding_here = replied h n finding_list finding_of (finding_answer h n) found_as (no_finding 12) (λ w. findings_told h (decode h) n (stand h w)) bytes
+  finding_here = replied h n finding_list finding_of (finding_answer h n) finding_reply (no_finding 12) (λ w. findings_told h (decode h) n (represented h w)) bytes
 
-  pub leader_here : (post : L → Option Printed → Type 0) (r : LeaderReply) → Replied h bytes (leader_answer h n) leader_is (no_leader 12) (leader_out h n) post r
+  pub leader_here : (post : L → Option Printed → Type 0) (r : LeaderReply) → Replied h bytes (leader_answer h n) leader_reply (no_leader 12) (leader_out h n) post r
   unfolding out
-  leader_here = replied h n leader_list leader_as (leader_answer h n) leader_is (no_leader 12) (λ w. leaders_told h (decode h) n (stand h w)) bytes
+  leader_here = replied h n leader_list leader_as (leader_answer h n) leader_reply (no_leader 12) (λ w. leaders_told h (decode h) n (represented h w)) bytes
 
-  pub mark_here : (post : L → Option Mark → Type 0) (r : UnseenReply) → Replied h bytes (unseen_answer h n) mark_is (no_mark 12) (unseen_out h n) post r
+  pub mark_here : (post : L → Option Mark → Type 0) (r : UnseenReply) → Replied h bytes (unseen_answer h n) unseen_reply (no_mark 12) (unseen_out h n) post r
   unfolding out
-  mark_here = replied h n unseen_list mark_of (unseen_answer h n) mark_is (no_mark 12) (λ w. unseen_told h (decode h) n (stand h w)) bytes
+  mark_here = replied h n unseen_list told_unseen (unseen_answer h n) unseen_reply (no_mark 12) (λ w. unseen_told h (decode h) n (represented h w)) bytes
 
-  pub index_here : (post : L → Option LogIndex → Type 0) (r : UnknownReply) → Replied h bytes (unknown_answer h n) index_is (no_index 12) (unknown_out h n) post r
+  pub index_here : (post : L → Option LogIndex → Type 0) (r : UnknownReply) → Replied h bytes (unknown_answer h n) unknown_reply (no_index 12) (unknown_out h n) post r
   unfolding out
-  index_here = replied h n unknown_list index_of (unknown_answer h n) index_is (no_index 12) (λ w. unknown_told h (decode h) n (stand h w)) bytes
+  index_here = replied h n unknown_list index_of (unknown_answer h n) unknown_reply (no_index 12) (λ w. unknown_told h (decode h) n (represented h w)) bytes
 
 -- the committed prefix, of the bytes lent
 pub committed_here : (b h : Bytes) (l o : ℕ) → b ≡ h → well_formed b ≡ true → l ≡ committed_end b → o ≡ owner_in b
     → ◌≡◌ {A = CommittedReply} (record { state = 0; length = l; owner = o }) (committed_out h)
 committed_here b h l o e w el eo =
-    (λ i. record { state = 0; length = (el ∙ end_is b (decode b) (stand b w)) i; owner = (eo ∙ owner_told b (decode b) (stand b w)) i })
+    (λ i. record { state = 0; length = (el ∙ end_is b (decode b) (represented b w)) i; owner = (eo ∙ owner_told b (decode b) (represented b w)) i })
     ∙ sym (cond_true (well_formed b) _ _ w) ∙ ap committed_out e
 
 pub committed_broken : (h : Bytes) → well_formed h ≡ false

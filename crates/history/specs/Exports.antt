@@ -59,10 +59,10 @@ no_finding k = record { state = k; name = 0; node = 0; index = 0; term = 0 }
 abbrev pub a_finding : Finding → FindingReply
 a_finding f = record { state = 0; name = f.name; node = f.node; index = f.index; term = f.term }
 
-abbrev pub found_as : Option Found → FindingReply
-found_as (Some f) =
+abbrev pub finding_reply : Option Found → FindingReply
+finding_reply (Some f) =
     record { state = 0; name = f.name; node = f.node.0; index = f.index.0; term = f.term.0 }
-found_as None = no_finding 1
+finding_reply None = no_finding 1
 
 abbrev pub finding_out : Bytes → ℕ → FindingReply
 finding_out h n = cond (well_formed h) (nth a_finding (no_finding 1) (finding_list (decode h)) n) (no_finding 12)
@@ -73,9 +73,9 @@ no_leader k = record { state = k; term = 0; leader = 0 }
 abbrev pub a_leader : Leader → LeaderReply
 a_leader l = record { state = 0; term = l.term; leader = l.leader }
 
-abbrev pub leader_is : Option Printed → LeaderReply
-leader_is (Some l) = record { state = 0; term = l.term.0; leader = l.leader.0 }
-leader_is None = no_leader 1
+abbrev pub leader_reply : Option Printed → LeaderReply
+leader_reply (Some l) = record { state = 0; term = l.term.0; leader = l.leader.0 }
+leader_reply None = no_leader 1
 
 abbrev pub leader_out : Bytes → ℕ → LeaderReply
 leader_out h n = cond (well_formed h) (nth a_leader (no_leader 1) (leader_list (decode h)) n) (no_leader 12)
@@ -86,9 +86,9 @@ no_mark k = record { state = k; node = 0; index = 0 }
 abbrev pub a_mark : Unseen → UnseenReply
 a_mark u = record { state = 0; node = u.node; index = u.index }
 
-abbrev pub mark_is : Option Mark → UnseenReply
-mark_is (Some u) = record { state = 0; node = u.node.0; index = u.index.0 }
-mark_is None = no_mark 1
+abbrev pub unseen_reply : Option Mark → UnseenReply
+unseen_reply (Some u) = record { state = 0; node = u.node.0; index = u.index.0 }
+unseen_reply None = no_mark 1
 
 abbrev pub unseen_out : Bytes → ℕ → UnseenReply
 unseen_out h n = cond (well_formed h) (nth a_mark (no_mark 1) (unseen_list (decode h)) n) (no_mark 12)
@@ -99,9 +99,9 @@ no_index k = record { state = k; index = 0 }
 abbrev pub an_index : ℕ → UnknownReply
 an_index i = record { state = 0; index = i }
 
-abbrev pub index_is : Option LogIndex → UnknownReply
-index_is (Some i) = record { state = 0; index = i.0 }
-index_is None = no_index 1
+abbrev pub unknown_reply : Option LogIndex → UnknownReply
+unknown_reply (Some i) = record { state = 0; index = i.0 }
+unknown_reply None = no_index 1
 
 abbrev pub unknown_out : Bytes → ℕ → UnknownReply
 unknown_out h n = cond (well_formed h) (nth an_index (no_index 1) (unknown_list (decode h)) n) (no_index 12)

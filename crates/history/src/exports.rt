@@ -3,8 +3,9 @@
 // functions to callers in other languages.
 ghost use Rattle.std.specs.Prelude.{◌≡◌, ℕ, true, false, Option, Some, IfSome, IfNone};
 ghost use Rattle.storage.specs.Rules.{well_formed};
+ghost use Rattle.record_writing.specs.Writing.{Replies};
 ghost use Rattle.storage_bytes.specs.Layout.{history_length};
-ghost use Rattle.history.specs.Exports.{Handed, MadeFresh, no_finding, found_as, no_leader, leader_is, no_mark, mark_is, no_index, index_is, finding_out, leader_out, unseen_out, unknown_out, committed_out};
+ghost use Rattle.history.specs.Exports.{Handed, MadeFresh, no_finding, finding_reply, no_leader, leader_reply, no_mark, unseen_reply, no_index, unknown_reply, finding_out, leader_out, unseen_out, unknown_out, committed_out};
 
 use answers::numbers::Reply;
 use lists::committed::printed_committed;
@@ -12,6 +13,8 @@ use lists::findings::finding_at;
 use lists::leaders::{Leader, leader_at};
 use lists::unknown::unknown_at;
 use lists::unseen::{Unseen, unseen_at};
+use record_writing::reply::WriteReply;
+use record_writing::write::write;
 use storage::fresh::{WrongLength, fresh};
 use storage::stored::Stored;
 use storage_bytes::layout::HISTORY_LENGTH;
@@ -79,6 +82,13 @@ pub fn gamiwhoru_submit(history: &mut [u8], s: &[u8]) -> Reply
     Reply::from(submit(history, s))
 }
 
+// The bytes of the record that the numbers are, into the buffer from its start. A refused call leaves every byte of it.
+pub fn gamiwhoru_write(fields: &[u64], buffer: &mut [u8]) -> WriteReply
+    ensures { Replies fields.now buffer.old result buffer.new }
+{
+    WriteReply::from(write(fields, buffer))
+}
+
 #[repr(C)]
 #[derive(Clone, Copy)]
 pub struct FindingReply {
@@ -92,7 +102,7 @@ pub struct FindingReply {
 }
 
 impl From<Found> for FindingReply {
-    ghost from_gives = { λ f r. r ≡ found_as (Some f) };
+    ghost from_gives = { λ f r. r ≡ finding_reply (Some f) };
 
     fn from(f: Found) -> FindingReply {
         FindingReply {
@@ -135,7 +145,7 @@ pub struct LeaderReply {
 }
 
 impl From<Leader> for LeaderReply {
-    ghost from_gives = { λ l r. r ≡ leader_is (Some l) };
+    ghost from_gives = { λ l r. r ≡ leader_reply (Some l) };
 
     fn from(l: Leader) -> LeaderReply {
         LeaderReply {
@@ -174,7 +184,7 @@ pub struct UnseenReply {
 }
 
 impl From<Unseen> for UnseenReply {
-    ghost from_gives = { λ u r. r ≡ mark_is (Some u) };
+    ghost from_gives = { λ u r. r ≡ unseen_reply (Some u) };
 
     fn from(u: Unseen) -> UnseenReply {
         UnseenReply {
@@ -212,7 +222,7 @@ pub struct UnknownReply {
 }
 
 impl From<LogIndex> for UnknownReply {
-    ghost from_gives = { λ i r. r ≡ index_is (Some i) };
+    ghost from_gives = { λ i r. r ≡ unknown_reply (Some i) };
 
     fn from(i: LogIndex) -> UnknownReply {
         UnknownReply {

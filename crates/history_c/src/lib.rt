@@ -4,11 +4,13 @@
 
 ghost use Rattle.std.specs.Prelude.{◌≡◌};
 ghost use Rattle.storage_bytes.specs.Layout.{history_length};
+ghost use Rattle.record_writing.specs.Writing.{Replies};
 ghost use Rattle.history.specs.Exports.{Handed, MadeFresh, finding_out, leader_out, unseen_out, unknown_out, committed_out};
 
 use answers::numbers::Reply;
 use history::exports;
 use history::exports::{CommittedReply, FindingReply, LeaderReply, UnknownReply, UnseenReply};
+use record_writing::reply::WriteReply;
 
 // How many bytes a history has.
 #[unsafe(no_mangle)]
@@ -32,6 +34,14 @@ pub extern "C" fn gamiwhoru_submit(history: &mut [u8], s: &[u8]) -> Reply
     ensures { Handed history.old s.now result history.new }
 {
     exports::gamiwhoru_submit(&mut history[..], s)
+}
+
+// The bytes of the record that the numbers are, into the buffer from its start. A refused call leaves every byte of it.
+#[unsafe(no_mangle)]
+pub extern "C" fn gamiwhoru_write(fields: &[u64], buffer: &mut [u8]) -> WriteReply
+    ensures { Replies fields.now buffer.old result buffer.new }
+{
+    exports::gamiwhoru_write(fields, &mut buffer[..])
 }
 
 // The n-th printed finding, counted from 0.

@@ -1,0 +1,9 @@
+pub mod Words
+pub mod Puts
+pub mod Taken
+pub mod Formats
+pub mod Sources
+pub mod Packed
+pub mod Listed
+pub mod Whole
+pub mod Back
