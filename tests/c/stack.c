@@ -9,7 +9,7 @@
 #include <ucontext.h>
 
 enum { STACK = 65536, SAID = 4096, FILLED = 0xa5, LONGEST_LIST = 256 };
-static uint8_t history[24137], record[65535], stack[STACK];
+static uint8_t history[24649], record[65535], converted[65535], stack[STACK];
 static size_t length, n, most;
 static const uint64_t fields[] = {1, 63, 2, 1, 4294967295, 3, 1, 2, 3, 2, 4294967295, 1, 255};
 static ucontext_t outside, inside;
@@ -17,6 +17,7 @@ static ucontext_t outside, inside;
 static void fresh(void) { gamiwhoru_fresh(history, sizeof history); }
 static void submit(void) { gamiwhoru_submit(history, sizeof history, record, length); }
 static void write(void) { gamiwhoru_write(fields, sizeof fields / sizeof *fields, record, sizeof record); }
+static void convert(void) { gamiwhoru_convert(9, record, length, converted, sizeof converted); }
 static void finding(void) { gamiwhoru_finding(history, sizeof history, n); }
 static void leader(void) { gamiwhoru_leader(history, sizeof history, n); }
 static void unseen(void) { gamiwhoru_unseen(history, sizeof history, n); }
@@ -49,6 +50,7 @@ static int recording(const char *name)
     while (fread(head, 1, 2, file) == 2) {
         length = fread(record, 1, head[0] * 256u + head[1], file);
         measure(submit);
+        measure(convert);
     }
     fclose(file);
     for (n = 0; n <= LONGEST_LIST; n++) {

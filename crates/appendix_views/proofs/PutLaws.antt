@@ -29,7 +29,7 @@ abbrev rest : Bool → Bytes
 rest b = 16 * length (content_of b) ∷ content_of b
 
 abbrev whole : ℕ → ℕ → Bool → Bytes
-whole i t b = entry_bytes (record { index = i; entry = record { term = t; content = content_of b } })
+whole i t b = entry_bytes (record { index = i; entry = record { term = t; configuration = false; content = content_of b } })
 
 module _ {s s' s'' : Sheet} (i t : ℕ) (b : Bool) where
   pub entry_filled : b ≡ true → Filled 5 s (front i t) s' → Filled 2 s' (16 ∷ 0 ∷ []) s'' → Filled 7 s (whole i t b) s''

@@ -3,6 +3,7 @@
 use Prim.Native.Nat.{ℕ, zero, suc, ◌+◌, ◌≤◌, zero-le, suc-le-suc}
 use native.Mathlib.Nat.{le_of_suc-le-suc}
 use native.Mathlib.Omega.{arith}
+use mathlib.Core.Bool.{false}
 use mathlib.Core.Path.{◌≡◌, refl, sym, ◌∙◌, ap, subst}
 use mathlib.Core.Logic.{◌⊎◌, inl, inr, ⊎_elim}
 use mathlib.Core.List.Memᴰ
@@ -16,14 +17,14 @@ use Rattle.appendix_views.specs.Views.{View, entry, choices, before_each, views_
 -- ---- the four entries
 
 abbrev Choice : Entry → Type 0
-Choice e = ((e.term ≡ 1) ⊎ (e.term ≡ 2)) × ((e.content ≡ []) ⊎ (e.content ≡ 0 ∷ []))
+Choice e = ((e.term ≡ 1) ⊎ (e.term ≡ 2)) × ((e.content ≡ []) ⊎ (e.content ≡ 0 ∷ [])) × (e.configuration ≡ false)
 
 choice_of : (e : Entry) → Memᴰ e choices → Choice e
 choice_of e m =
-    ⊎_elim (λ p. moved p (inl refl, inl refl))
-    (λ m. ⊎_elim (λ p. moved p (inl refl, inr refl))
-    (λ m. ⊎_elim (λ p. moved p (inr refl, inl refl))
-    (λ m. moved (Memᴰ.eq_of_singleton m) (inr refl, inr refl))
+    ⊎_elim (λ p. moved p (inl refl, inl refl, refl))
+    (λ m. ⊎_elim (λ p. moved p (inl refl, inr refl, refl))
+    (λ m. ⊎_elim (λ p. moved p (inr refl, inl refl, refl))
+    (λ m. moved (Memᴰ.eq_of_singleton m) (inr refl, inr refl, refl))
     (Memᴰ.cases_cons m)) (Memᴰ.cases_cons m)) (Memᴰ.cases_cons m)
   where
     moved : {d : Entry} → e ≡ d → Choice d → Choice e
@@ -32,10 +33,10 @@ choice_of e m =
 of_choice : (e : Entry) → Choice e → Memᴰ e choices
 of_choice e c =
     ⊎_elim
-    (λ t. ⊎_elim (λ b. Memᴰ.head (λ i. record { term = t i; content = b i }))
-    (λ b. Memᴰ.tail (Memᴰ.head (λ i. record { term = t i; content = b i }))) c.1)
-    (λ t. ⊎_elim (λ b. Memᴰ.tail (Memᴰ.tail (Memᴰ.head (λ i. record { term = t i; content = b i }))))
-    (λ b. Memᴰ.tail (Memᴰ.tail (Memᴰ.tail (Memᴰ.head (λ i. record { term = t i; content = b i }))))) c.1)
+    (λ t. ⊎_elim (λ b. Memᴰ.head (λ i. record { term = t i; configuration = c.2 i; content = b i }))
+    (λ b. Memᴰ.tail (Memᴰ.head (λ i. record { term = t i; configuration = c.2 i; content = b i }))) c.1)
+    (λ t. ⊎_elim (λ b. Memᴰ.tail (Memᴰ.tail (Memᴰ.head (λ i. record { term = t i; configuration = c.2 i; content = b i }))))
+    (λ b. Memᴰ.tail (Memᴰ.tail (Memᴰ.tail (Memᴰ.head (λ i. record { term = t i; configuration = c.2 i; content = b i }))))) c.1)
     c.0
 
 -- ---- each entry before each view

@@ -1,6 +1,6 @@
 -- The n-th view by its number: how many entries it has, and the digits that its entries are.
 -- Assumes nothing.
-use Rattle.std.specs.Prelude.{ℕ, zero, suc, ◌+◌, ◌-◌, ◌/◌, ◌%◌, ◌<◌, ◌≡◌, cond, [], ◌∷◌, ltb, eqb, get_or}
+use Rattle.std.specs.Prelude.{ℕ, zero, suc, ◌+◌, ◌-◌, ◌/◌, ◌%◌, ◌<◌, ◌≡◌, false, cond, [], ◌∷◌, ltb, eqb, get_or}
 use Rattle.model.specs.Entry.{Entry}
 use Rattle.appendix_views.specs.Views.{content_of, View, views, view_count}
 use Rattle.appendix_views.specs.declared.views.View.{View as Place}
@@ -18,7 +18,7 @@ digit k place = cond (eqb place 0) (k % 4) (cond (eqb place 1) (k / 4 % 4) (k / 
 
 -- the entry that a digit is
 abbrev pub choice : ℕ → Entry
-choice d = record { term = cond (ltb d 2) 1 2; content = content_of (eqb (d % 2) 1) }
+choice d = record { term = cond (ltb d 2) 1 2; configuration = false; content = content_of (eqb (d % 2) 1) }
 
 -- the entries of the last n digits of k, with indexes from i on
 unfoldable pub counted : ℕ → ℕ → ℕ → View

@@ -1,7 +1,7 @@
 -- The views of the partner's appendix: every gapless view of at most three entries with term 1 or 2 and content empty or the
 -- byte 00; each once, shorter first, then by entry, term before content, empty first.
 -- Assumes nothing.
-use Rattle.std.specs.Prelude.{ℕ, zero, suc, ◌+◌, ◌<◌, ◌≤◌, ◌≡◌, ◌↔◌, Bool, cond, List, [], ◌∷◌, ◌++◌, map, length}
+use Rattle.std.specs.Prelude.{ℕ, zero, suc, ◌+◌, ◌<◌, ◌≤◌, ◌≡◌, ◌↔◌, Bool, false, cond, List, [], ◌∷◌, ◌++◌, map, length}
 use mathlib.Core.Logic.{◌⊎◌}
 use mathlib.Core.List.{Memᴰ}
 use Rattle.model.specs.Entry.{Entry}
@@ -15,7 +15,7 @@ View = List Shown
 -- ---- the enumeration
 
 abbrev pub entry : ℕ → List ℕ → Entry
-entry t c = record { term = t; content = c }
+entry t c = record { term = t; configuration = false; content = c }
 
 -- "term 1 or 2 and content empty or the byte 00", in the order "term before content, empty first"
 abbrev pub choices : List Entry
@@ -53,11 +53,11 @@ abbrev pub Gapless : ℕ → View → Type 0
 Gapless i [] = Unit {0}
 Gapless i (x ∷ xs) = (x.index ≡ i) × Gapless (i + 1) xs
 
--- every entry is one of the four
+-- every entry is one of the four, a portion record as kind 1 shows
 abbrev pub Chosen : View → Type 0
 Chosen v =
     (x : Shown) → Memᴰ x v
-    → ((x.entry.term ≡ 1) ⊎ (x.entry.term ≡ 2)) × ((x.entry.content ≡ []) ⊎ (x.entry.content ≡ 0 ∷ []))
+    → ((x.entry.term ≡ 1) ⊎ (x.entry.term ≡ 2)) × ((x.entry.content ≡ []) ⊎ (x.entry.content ≡ 0 ∷ [])) × (x.entry.configuration ≡ false)
 
 -- Each gapless view of at most three such entries is in the list, and no other.
 abbrev pub HasEach : Type 0
@@ -102,4 +102,4 @@ abbrev pub content_of : Bool → List ℕ
 content_of filled = cond filled (0 ∷ []) []
 
 abbrev pub entry_of : Listed → Entry
-entry_of e = record { term = e.term; content = content_of e.filled }
+entry_of e = record { term = e.term; configuration = false; content = content_of e.filled }

@@ -7,8 +7,7 @@ use native.Mathlib.Omega.{arith}
 use native.Mathlib.Numerals.{add-one}
 use lib.ListN.{length, get_or, drop, drop_of_length-le}
 use lib.Seq.{drop-cons}
-use Rattle.model.specs.Sizes.{Bytes}
-use Rattle.record_entries.specs.BitLayout.{entries_at, next_at, content_at}
+use Rattle.record_entries.specs.BitLayout.{entries_at, next_at, content_at, ViewBits}
 use Rattle.record_entries.proofs.Walks.{entries_next, entries_none}
 use Rattle.bench_records.specs.Used.{sum_of, contents_of}
 
@@ -23,7 +22,7 @@ module _ (xs : List ℕ) (v i : ℕ) where
   unfolding sum_of
   sum_end e h = sym (e ∙ rw (drop_of_length-le xs h) (omega arith))
 
-module _ (s : Bytes) (k n v : ℕ) where
+module _ (s : ViewBits) (k n v : ℕ) where
   pub contents_next : {t : ℕ} (x : ℕ) → t ≡ v + contents_of (entries_at s k n) → 0 < n → x ≡ sum_of (content_at s k)
       → t ≡ v + x + contents_of (entries_at s (next_at s k) (n - 1))
   unfolding contents_of

@@ -1,12 +1,13 @@
 // What bench/ times: a view's record is read, and its entries are walked, with every content byte used. `bench_records_c` exports it.
 #![tactic(auto)]
 
-ghost use Rattle.std.specs.Prelude.{◌≡◌, ◌≤◌, take};
+ghost use Rattle.std.specs.Prelude.{◌≡◌, ◌≤◌, ◌<◌, length, take};
 ghost use Rattle.model.specs.Reading as reading;
 ghost use Rattle.record_entries.specs.BitLayout as places;
 ghost use Rattle.bench_records.specs.Used.{sum_of, contents_of, used_of, count_of};
 ghost use Rattle.model.specs.Sizes.{content_limit, index_limit};
 
+use record_entries::view::ViewBytes;
 use record_entries::walk::{Entries, FIRST_ENTRY, ShownEntry};
 use record_reading::head::{Head, read};
 
@@ -24,11 +25,11 @@ fn content_sum(e: &ShownEntry) -> u64
 
 // The sum of the content bytes of a view's entries.
 fn walk(s: &[u8], count: usize) -> u64
-    requires { (count ≤ index_limit) × places.Walk s.now places.first_entry count }
-    ensures { result ≡ contents_of (places.entries_at s.now places.first_entry count) }
+    requires { (count ≤ index_limit) × (0 < length s.now) × places.Walk (places.view_bits s.now) places.first_entry count }
+    ensures { result ≡ contents_of (places.entries_at (places.view_bits s.now) places.first_entry count) }
 {
     let entries = Entries {
-        bytes: s,
+        view: ViewBytes::of(s),
         next: FIRST_ENTRY,
         left: count,
     };

@@ -24,8 +24,10 @@ entry_same : (r s : PrefixRow) → same_entry r s ≡ true → entry_of r ≡ en
 unfolding same_entry
 entry_same r s e =
     let a = eqb-true _ _ (and_left (eqb r.term s.term) _ e) in
-    let c = same_bytes_eq r.content s.content (and_right (eqb r.size s.size) _ (and_right (eqb r.term s.term) _ e)) in
-    λ i. record { term = a i; content = c i }
+    let b = and_right (eqb r.term s.term) _ e in
+    let m = eqb-true _ _ (and_left (eqb r.mark s.mark) _ b) in
+    let c = same_bytes_eq r.content s.content (and_right (eqb r.size s.size) _ (and_right (eqb r.mark s.mark) _ b)) in
+    λ i. record { term = a i; configuration = eqb (m i) 1; content = c i }
 
 module _ (row : ℕ → PrefixRow) (rs : List PrefixRow) (f : Facts rs) (at : Rows row rs) where
   abbrev Alike : ℕ → ℕ → ℕ → Type 0

@@ -22,7 +22,7 @@ use Rattle.storage.proofs.RowFacts.{Facts, row_at, Sized, resolve_snoc, resolve_
 use Rattle.storage.proofs.PrefixLaws.{new_right}
 use Rattle.log_prefix.specs.Prefix.{row_of, find}
 use Rattle.log_prefix.specs.Extension.{or_next}
-use Rattle.log_prefix.proofs.PrefixLaws.{Rows, found, missing}
+use Rattle.log_prefix.proofs.PrefixLaws.{Rows, mark_small, extended_is, found, missing}
 
 -- the rows with the prefix of number p extended by e to index i, found or made, and its number
 unfoldable pub extend_rows : List PrefixRow → ℕ → ℕ → Entry → List PrefixRow
@@ -71,7 +71,8 @@ module _ (rs : List PrefixRow) (g : Good rs) (p i : ℕ) (e : Entry) (h : p ≤ 
   -- ---- made
 
   pub right_row : find (row_at rs) (length rs) (row_of p i e) ≡ 0 → prefix_right rs (row_of p i e) ≡ true
-  right_row z = new_right rs f (row_of p i e) h (sym next) small short (missing (row_at rs) rs f here p i e h short z)
+  right_row z = new_right rs f (row_of p i e) h (sym next) small (mark_small e) short
+      (λ q l w. missing (row_at rs) rs f here p i e h short z q l (w ∙ extended_is (resolve rs) p i e))
 
   sized : Sized (row_of p i e)
   sized = omega arith
@@ -94,9 +95,11 @@ module _ (rs : List PrefixRow) (g : Good rs) (p i : ℕ) (e : Entry) (h : p ≤ 
         within = omega arith;
         is =
             ap (λ (ps : List Prefix). prefix_at ps (length rs + 1)) grown
-            ∙ number_new [] (resolve rs) (extended (resolve rs) r) (length rs + 1) (ap (λ (n : ℕ). n + 1) (sym count));
+            ∙ number_new [] (resolve rs) (extended (resolve rs) r) (length rs + 1) (ap (λ (n : ℕ). n + 1) (sym count))
+            ∙ extended_is (resolve rs) p i e;
         stores =
             grown
+            ∙ ap (λ (q : Prefix). resolve rs ++ (q ∷ [])) (extended_is (resolve rs) p i e)
             ∙ sym (with_fresh prefixes (resolve rs) (prefix_at (resolve rs) p ++ (e ∷ []))
             (λ m. let n = number_of rs (prefix_at (resolve rs) p ++ (e ∷ [])) m in
             missing (row_at rs) rs f here p i e h short z n.0 n.2 n.3));

@@ -12,7 +12,7 @@ use borrow.Author.Tests.{eqb-true, eqb-false, eq-eqb, ne_eqb, le-leb, lt-leb, lt
 use Rattle.model.specs.Sizes.{Bytes}
 use Rattle.model.proofs.Tests.{cond_true, cond_false}
 use Rattle.storage_bytes.specs.Words.{word_at, bytes_at}
-use Rattle.storage_bytes.specs.Layout.{part, prefix_width, number_width, term_width, byte_width, prefix_term, prefix_size}
+use Rattle.storage_bytes.specs.Layout.{part, prefix_width, number_width, term_width, byte_width, prefix_term, prefix_mark, prefix_size}
 use Rattle.storage.specs.Tables.{PrefixRow, prefix_row}
 use Rattle.storage.specs.Rules.{same_row}
 use Rattle.storage_bytes.proofs.ListLaws.{tabulate_length}
@@ -55,9 +55,9 @@ content_is : (bs : Bytes) (n : ℕ) → n ≤ length bs → take n bs ≡ bytes_
 unfolding part
 content_is bs n h = part_bytes bs 0 n (omega arith)
 
-module _ (t c : Bytes) (k p term n a b m : ℕ) (ea : a ≡ word_at t (k * prefix_width) number_width) where
+module _ (t c : Bytes) (k p term : ℕ) (configuration : Bool) (n a b q m : ℕ) (ea : a ≡ word_at t (k * prefix_width) number_width) where
   abbrev Extension : PrefixRow
-  Extension = row_of p 0 (record { term = term; content = bytes_at c 0 n })
+  Extension = row_of p 0 (record { term = term; configuration = configuration; content = bytes_at c 0 n })
 
   pub match_parent : (a ≡ p → ⊥) → false ≡ same_row (prefix_row t k) Extension
   unfolding same_row
@@ -68,19 +68,26 @@ module _ (t c : Bytes) (k p term n a b m : ℕ) (ea : a ≡ word_at t (k * prefi
     unfolding same_row
     match_term d = rw (← ea, eq-eqb a p da, ← eb, ne_eqb b term d)
 
-    module _ (db : b ≡ term) (em : m ≡ word_at t (k * prefix_width + prefix_size) byte_width) where
-      size_is : length (bytes_at c 0 n) ≡ n
-      unfolding bytes_at
-      size_is = tabulate_length _ 0 n
-
-      pub match_size : (m ≡ n → ⊥) → false ≡ same_row (prefix_row t k) Extension
+    module _ (db : b ≡ term) (eq : q ≡ word_at t (k * prefix_width + prefix_mark) byte_width) where
+      pub match_mark : (q ≡ cond configuration 1 0 → ⊥) → false ≡ same_row (prefix_row t k) Extension
       unfolding same_row
-      match_size d = rw (size_is, ← ea, eq-eqb a p da, ← eb, eq-eqb b term db, ← em, ne_eqb m n d)
+      match_mark d = rw (← ea, eq-eqb a p da, ← eb, eq-eqb b term db, ← eq, ne_eqb q (cond configuration 1 0) d)
 
-      pub match_content : m ≡ n → n ≤ length c → (r : Bool) → r ≡ pointwise eqb (prefix_row t k).content (take n c) → r ≡ same_row (prefix_row t k) Extension
-      unfolding same_row
-      match_content d h r e =
-          rw (size_is, ← ea, eq-eqb a p da, ← eb, eq-eqb b term db, ← em, eq-eqb m n d) (rw (pointwise_bytes, content_is c n h, ← em) at e)
+      module _ (dq : q ≡ cond configuration 1 0) (em : m ≡ word_at t (k * prefix_width + prefix_size) byte_width) where
+        size_is : length (bytes_at c 0 n) ≡ n
+        unfolding bytes_at
+        size_is = tabulate_length _ 0 n
+
+        pub match_size : (m ≡ n → ⊥) → false ≡ same_row (prefix_row t k) Extension
+        unfolding same_row
+        match_size d =
+            rw (size_is, ← ea, eq-eqb a p da, ← eb, eq-eqb b term db, ← eq, eq-eqb q (cond configuration 1 0) dq, ← em, ne_eqb m n d)
+
+        pub match_content : m ≡ n → n ≤ length c → (r : Bool) → r ≡ pointwise eqb (prefix_row t k).content (take n c) → r ≡ same_row (prefix_row t k) Extension
+        unfolding same_row
+        match_content d h r e =
+            rw (size_is, ← ea, eq-eqb a p da, ← eb, eq-eqb b term db, ← eq, eq-eqb q (cond configuration 1 0) dq, ← em, eq-eqb m n d)
+            (rw (pointwise_bytes, content_is c n h, ← em) at e)
 
 -- ---- numbers and places: number p stands at place p - 1
 

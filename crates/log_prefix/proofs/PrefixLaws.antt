@@ -5,7 +5,7 @@ use native.Mathlib.Nat.{le_refl, le_of_suc-le-suc, not-suc-le-zero}
 use native.Mathlib.Omega.{arith}
 use native.Mathlib.Numerals.{add-one}
 use mathlib.Core.Path.{◌≡◌, refl, sym, ◌∙◌, ap, subst}
-use mathlib.Core.Bool.{Bool, true, false, ◌&&◌}
+use mathlib.Core.Bool.{Bool, true, false, cond, ◌&&◌}
 use mathlib.Core.Logic.{◌⊎◌, inl, inr, ⊎_elim}
 use mathlib.Core.List.{List, [], ◌∷◌, ◌++◌, map}
 use mathlib.Core.Option.{none, some}
@@ -17,9 +17,9 @@ use Rattle.model.specs.View.{remembered}
 use Rattle.model.specs.Sizes.{content_limit}
 use Rattle.model.proofs.Tests.{tf, either, cond_true, cond_false, and_left}
 use Rattle.storage.specs.Tables.{PrefixRow}
-use Rattle.storage.specs.Decode.{prefix_at, entry_of, resolve}
+use Rattle.storage.specs.Decode.{prefix_at, entry_of, mark_of, extended, resolve}
 use Rattle.storage.specs.Rules.{same_row}
-use Rattle.storage.proofs.RowFacts.{Facts, row_at, empty_row, entry_after, nil≢snoc, snoc_injective, same_row_true, resolve_count}
+use Rattle.storage.proofs.RowFacts.{Facts, row_at, empty_row, entry_after, nil≢snoc, snoc_injective, same_row_true, same_mark, resolve_count}
 use Rattle.storage.proofs.PrefixLaws.{found_is}
 use Rattle.log_prefix.specs.Prefix.{row_of, search_from, find, is_of, first}
 
@@ -89,6 +89,24 @@ module _ (test : ℕ → Bool) where
 
 -- ---- the row of an extension
 
+flag_back : (b : Bool) → eqb (cond b 1 0) 1 ≡ b
+flag_back true = refl
+flag_back false = refl
+
+flag_small : (b : Bool) → cond b 1 0 ≤ 1
+flag_small true = omega arith
+flag_small false = omega arith
+
+pub mark_small : (e : Entry) → mark_of e ≤ 1
+mark_small e = flag_small e.configuration
+
+-- a row holds the entry that it was made of
+pub entry_back : (p i : ℕ) (e : Entry) → entry_of (row_of p i e) ≡ e
+entry_back p i e = λ j. record { term = e.term; configuration = flag_back e.configuration j; content = e.content }
+
+pub extended_is : (ps : List Prefix) (p i : ℕ) (e : Entry) → extended ps (row_of p i e) ≡ prefix_at ps p ++ (e ∷ [])
+extended_is ps p i e = ap (λ (x : Entry). prefix_at ps p ++ (x ∷ [])) (entry_back p i e)
+
 module _ (row : ℕ → PrefixRow) (rs : List PrefixRow) (f : Facts rs) (at : Rows row rs)
     (p i : ℕ) (e : Entry) (h : p ≤ length rs) (short : length e.content ≤ content_limit) where
   abbrev Next : Prefix
@@ -107,7 +125,8 @@ module _ (row : ℕ → PrefixRow) (rs : List PrefixRow) (f : Facts rs) (at : Ro
           let kx : k ≡ x = (let z = t.number in omega arith) in
           let s : same_row (row_at rs k) (row_of p i e) ≡ true = subst (λ (y : PrefixRow). same_row y (row_of p i e) ≡ true) (at k l) t.passes in (
             (let z = l in omega arith),
-            ap (λ (j : ℕ). prefix_at (resolve rs) j) (ap suc (sym kx) ∙ sym (add-one k)) ∙ found_is rs f (row_of p i e) k l s,
+            ap (λ (j : ℕ). prefix_at (resolve rs) j) (ap suc (sym kx) ∙ sym (add-one k)) ∙ found_is rs f (row_of p i e) k l s
+                ∙ extended_is (resolve rs) p i e,
           )
 
   -- not found: the extended prefix has no number
@@ -124,9 +143,12 @@ module _ (row : ℕ → PrefixRow) (rs : List PrefixRow) (f : Facts rs) (at : Ro
           let below = f.parent k l in
           let par : (row_at rs k).parent ≡ p = f.distinct _ _ (omega arith) h both.0 in
           let ct : (row_at rs k).content ≡ e.content = ap (λ (x : Entry). x.content) both.1 in
+          let mk : (row_at rs k).mark ≡ mark_of e =
+          same_mark (row_at rs k).mark (mark_of e) (f.small k l).2 (mark_small e)
+          (ap (λ (x : Entry). x.configuration) (both.1 ∙ sym (entry_back p i e))) in
           let sk : (row_at rs k).size ≡ length e.content = sym (f.sized k l) ∙ ap length ct in
           tf (sym (subst (λ (y : PrefixRow). same_row y (row_of p i e) ≡ true) (sym (at k l))
-          (same_row_true (row_at rs k) (row_of p i e) par (ap (λ (x : Entry). x.term) both.1) sk ct))
+          (same_row_true (row_at rs k) (row_of p i e) par (ap (λ (x : Entry). x.term) both.1) mk sk ct))
           ∙ m.fails k (omega arith) (omega arith))
 
 -- ---- the remembered prefix

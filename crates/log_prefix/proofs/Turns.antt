@@ -108,16 +108,25 @@ module _ (t : Bytes) (i j a b : ℕ) where
   unfolding same_entry
   entry_terms ta tb d = rw (← ta, ← tb, ne_eqb a b d)
 
+  pub entry_marks : a ≡ (prefix_row t i).mark → b ≡ (prefix_row t j).mark → (a ≡ b → ⊥)
+      → same_entry (prefix_row t i) (prefix_row t j) ≡ false
+  unfolding same_entry
+  entry_marks ma mb d = rw (← ma, ← mb, ne_eqb a b d) (none (eqb (prefix_row t i).term (prefix_row t j).term))
+
   module _ (sa : a ≡ (prefix_row t i).size) (sb : b ≡ (prefix_row t j).size) where
     pub entry_sizes : (a ≡ b → ⊥) → same_entry (prefix_row t i) (prefix_row t j) ≡ false
     unfolding same_entry
-    entry_sizes d = rw (← sa, ← sb, ne_eqb a b d) (none (eqb (prefix_row t i).term (prefix_row t j).term))
+    entry_sizes d =
+        rw (← sa, ← sb, ne_eqb a b d)
+        (ap (λ (v : Bool). eqb (prefix_row t i).term (prefix_row t j).term && v) (none (eqb (prefix_row t i).mark (prefix_row t j).mark))
+        ∙ none (eqb (prefix_row t i).term (prefix_row t j).term))
 
-    -- past term and size the bytes decide
+    -- past term, mark and size the bytes decide
     pub entry_by_bytes : a ≡ b → (x y : ℕ) → x ≡ (prefix_row t i).term → y ≡ (prefix_row t j).term → x ≡ y
+        → (m n : ℕ) → m ≡ (prefix_row t i).mark → n ≡ (prefix_row t j).mark → m ≡ n
         → same_entry (prefix_row t i) (prefix_row t j) ≡ same_bytes (prefix_row t i).content (prefix_row t j).content
     unfolding same_entry
-    entry_by_bytes e x y ta tb d = rw (← ta, ← tb, eq-eqb x y d, ← sa, ← sb, eq-eqb a b e)
+    entry_by_bytes e x y ta tb d m n ma mb g = rw (← ta, ← tb, eq-eqb x y d, ← ma, ← mb, eq-eqb m n g, ← sa, ← sb, eq-eqb a b e)
 
 -- the bytes of two contents from place k on; b is whether they are the same
 module _ (xs ys : Bytes) (k : ℕ) {b : Bool} where

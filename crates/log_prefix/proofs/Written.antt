@@ -3,7 +3,7 @@
 use Prim.Native.Nat.{ℕ, ◌+◌, ◌≤◌}
 use native.Mathlib.Omega.{arith}
 use mathlib.Core.Path.{◌≡◌, refl, sym, ◌∙◌, ap, subst}
-use mathlib.Core.Bool.{true, false}
+use mathlib.Core.Bool.{true, false, cond}
 use mathlib.Core.List.{List, [], ◌∷◌}
 use lib.Dec.{eqb}
 use lib.ListN.{length}
@@ -57,12 +57,12 @@ unfolding extended_bytes
 bytes_made h n p i e t = cond_true (eqb (extension_in h n p e) 0) (appended h p i e) h t
 
 -- the row that is written is the entry's
-pub row_made : (h h' : Bytes) (n p : ℕ) (e : ShownEntry) → Making h n e → h' ≡ prefix_appended h p e.index.0 e.term.0 e.length e.content
+pub row_made : (h h' : Bytes) (n p : ℕ) (e : ShownEntry) → Making h n e → h' ≡ prefix_appended h p e.index.0 e.term.0 (cond e.configuration 1 0) e.length e.content
     → h' ≡ appended h p e.index.0 (entry_value e)
 row_made h h' n p e g w =
     let a = sym (value_length e) in
     let b = g.padded in
-    w ∙ (λ j. prefix_appended h p e.index.0 e.term.0 (a j) (b j))
+    w ∙ (λ j. prefix_appended h p e.index.0 e.term.0 (cond e.configuration 1 0) (a j) (b j))
 
 -- what the extension of p by e comes to
 abbrev Lengthened : Bytes → ℕ → ℕ → ShownEntry → Extended → Bytes → Type 0

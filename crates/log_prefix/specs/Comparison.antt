@@ -7,7 +7,7 @@ use Rattle.storage_bytes.specs.Words.{same_bytes}
 -- the last entries are the same
 unfoldable pub same_entry : PrefixRow → PrefixRow → Bool
 unfolding same_bytes
-same_entry r s = eqb r.term s.term && (eqb r.size s.size && same_bytes r.content s.content)
+same_entry r s = eqb r.term s.term && (eqb r.mark s.mark && (eqb r.size s.size && same_bytes r.content s.content))
 
 -- the prefixes of two numbers are the same: the same stored one, or the same last entry after the same prefix
 unfoldable pub same_from : (ℕ → PrefixRow) → ℕ → ℕ → ℕ → Bool

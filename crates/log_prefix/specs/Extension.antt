@@ -5,6 +5,7 @@ use Rattle.std.specs.Prelude.{ℕ, ◌+◌, ◌-◌, ◌≤◌, ◌<◌, ◌≡�
 use Rattle.model.specs.Entry.{Entry}
 use Rattle.model.specs.Sizes.{Bytes, content_limit, prefix_limit}
 use Rattle.storage.specs.Tables.{prefix_row, prefixes_part}
+use Rattle.storage.specs.Decode.{mark_of}
 use Rattle.storage.specs.Writes.{prefix_appended}
 use Rattle.storage.specs.Values.{number_index}
 use Rattle.storage.specs.Head.{prefixes_held}
@@ -28,7 +29,7 @@ stored_content e = e.content ++ replicate (content_limit - length e.content) 0
 
 -- the history with the extension of p by e to index i as its next row
 abbrev pub appended : Bytes → ℕ → ℕ → Entry → Bytes
-appended h p i e = prefix_appended h p i e.term (length e.content) (stored_content e)
+appended h p i e = prefix_appended h p i e.term (mark_of e) (length e.content) (stored_content e)
 
 -- found or made: the history, how many prefixes it holds, and the number of the extension
 unfoldable pub extended_bytes : Bytes → ℕ → ℕ → ℕ → Entry → Bytes

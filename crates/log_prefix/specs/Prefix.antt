@@ -7,6 +7,7 @@ use Rattle.model.specs.Sizes.{Bytes}
 use Rattle.model.specs.Entry.{Entry}
 use Rattle.storage.specs.Tables.{PrefixRow, row_of_node, nodes_part, prefix_row, prefixes_part}
 use Rattle.storage.specs.Values.{index_of}
+use Rattle.storage.specs.Decode.{mark_of}
 use Rattle.storage.specs.Rules.{same_row}
 use Rattle.units.specs.declared.LogPrefixWitness.{LogPrefixWitness}
 
@@ -20,7 +21,7 @@ stored_of p = cond (eqb p 0) None (Some (witness p))
 
 -- the row of the prefix of number p, extended by an entry to index i
 abbrev pub row_of : ℕ → ℕ → Entry → PrefixRow
-row_of p i e = record { parent = p; index = i; term = e.term; size = length e.content; content = e.content }
+row_of p i e = record { parent = p; index = i; term = e.term; mark = mark_of e; size = length e.content; content = e.content }
 
 -- the number of the first of n places, from place k on, that passes the test: one more than the place; 0 where none does
 unfoldable pub search_from : (ℕ → Bool) → ℕ → ℕ → ℕ

@@ -17,4 +17,4 @@ pub record Table (t : Bytes) (n : ℕ) : Type 0 where
 
 -- the entry that a shown one holds
 abbrev pub entry_value : ShownEntry → Entry
-entry_value e = record { term = e.term.0; content = bytes_at e.content 0 e.length }
+entry_value e = record { term = e.term.0; configuration = e.configuration; content = bytes_at e.content 0 e.length }

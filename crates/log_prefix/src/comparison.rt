@@ -1,12 +1,12 @@
 // Comparison of stored prefixes (the equality of types/prefix.rs). Equal numbers are the same stored prefix, which is the Rust's
-// shortcut; of unequal ones term and content at each index decide.
+// shortcut; of unequal ones term, mark and content at each index decide.
 ghost use Rattle.std.specs.Prelude.{◌≡◌, ℕ, ◌≤◌};
 ghost use Rattle.storage.specs.Tables.{prefix_row};
 ghost use Rattle.log_prefix.specs.Table.{Table};
 ghost use Rattle.log_prefix.specs.Comparison.{same_from};
 
 use storage_bytes::layout::PrefixTable;
-use storage_rows::prefixes::{content_at, parent_at, size_at, term_at};
+use storage_rows::prefixes::{content_at, mark_at, parent_at, size_at, term_at};
 use units::LogPrefixWitness;
 
 // Whether two stored prefixes are the same. From the last entries back, left at the first byte that differs; they are the same
@@ -26,6 +26,9 @@ pub fn same_prefix(prefixes: &PrefixTable, a: LogPrefixWitness, b: LogPrefixWitn
         let j = q.0 - 1;
         let size = size_at(prefixes, i);
         if term_at(prefixes, i) != term_at(prefixes, j) || size != size_at(prefixes, j) {
+            break;
+        }
+        if mark_at(prefixes, i) != mark_at(prefixes, j) {
             break;
         }
         let x = content_at(prefixes, i);

@@ -11,7 +11,7 @@ use record_entries::walk::ShownEntry;
 use storage::stored::Stored;
 use storage_bytes::layout::{PREFIXES, PrefixTable};
 use storage_rows::nodes::node_of;
-use storage_rows::prefixes::{content_at, index_at, parent_at, size_at, term_at, through};
+use storage_rows::prefixes::{content_at, index_at, mark_at, parent_at, size_at, term_at, through};
 use units::{LogIndex, LogPrefixWitness, NodeId, Term};
 
 // Row k extends the prefix by the entry (`matches_extension`). Field by field, as rows are compared where the rules are tested.
@@ -23,6 +23,9 @@ fn matches_extension(prefixes: &PrefixTable, k: usize, p: LogPrefixWitness, e: &
         return false;
     }
     if term_at(prefixes, k) != e.term {
+        return false;
+    }
+    if mark_at(prefixes, k) != e.mark() {
         return false;
     }
     if size_at(prefixes, k) != e.length {

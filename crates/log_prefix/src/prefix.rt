@@ -33,6 +33,7 @@ fn make(history: &mut History, count: usize, p: LogPrefixWitness, e: ShownEntry)
         parent: p,
         index: e.index,
         term: e.term,
+        mark: e.mark(),
         size: e.length,
         content,
     };

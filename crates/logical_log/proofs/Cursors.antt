@@ -11,9 +11,9 @@ use lib.ListN.{length}
 use borrow.Author.Tests.{eq-eqb, ne_eqb, eqb-true, eqb-false}
 use Rattle.model.specs.Entry.{Entry}
 use Rattle.model.specs.Record.{front_from}
-use Rattle.model.specs.Sizes.{Bytes, content_limit}
+use Rattle.model.specs.Sizes.{content_limit}
 use Rattle.model.proofs.Tests.{either, cond_true, cond_false}
-use Rattle.record_entries.specs.BitLayout.{Walk, first_entry, index_at, length_at, next_at, shown_at, entries_at, items_at}
+use Rattle.record_entries.specs.BitLayout.{ViewBits, Walk, first_entry, index_at, length_at, next_at, shown_at, entries_at, items_at, content_place}
 use Rattle.record_bits.proofs.Widths.{bytes_length}
 use Rattle.record_entries.proofs.Walks.{next_walk, walk_entered, here}
 use Rattle.storage.specs.Tables.{PrefixRow}
@@ -39,7 +39,7 @@ find_within row n r = search_within _ r.parent n
 
 -- ---- the front, entry by entry
 
-module _ (s : Bytes) (at n i : ℕ) where
+module _ (s : ViewBits) (at n i : ℕ) where
   pub front_suc : index_at s at ≡ i → front_from i (entries_at s at (suc n)) ≡ (shown_at s at).entry ∷ front_from (i + 1) (entries_at s (next_at s at) n)
   unfolding front_from items_at
   front_suc e = cond_true (eqb (index_at s at) i) _ [] (eq-eqb (index_at s at) i e)
@@ -48,22 +48,22 @@ module _ (s : Bytes) (at n i : ℕ) where
   unfolding front_from items_at
   front_cut e = cond_false (eqb (index_at s at) i) _ [] (ne_eqb (index_at s at) i e)
 
-pub front_zero : (s : Bytes) (at i : ℕ) → front_from i (entries_at s at zero) ≡ []
+pub front_zero : (s : ViewBits) (at i : ℕ) → front_from i (entries_at s at zero) ≡ []
 unfolding front_from items_at
 front_zero s at i = refl
 
-pub walk_more : (s : Bytes) (at n : ℕ) → Walk s at (suc n) → Walk s (next_at s at) n
+pub walk_more : (s : ViewBits) (at n : ℕ) → Walk s at (suc n) → Walk s (next_at s at) n
 walk_more s at n w = subst (Walk s (next_at s at)) (let z : suc n - 1 ≡ n = omega arith in z) (next_walk s at (suc n) w (omega arith))
 
-pub content_short : (s : Bytes) (at n : ℕ) → Walk s at (suc n) → length (shown_at s at).entry.content ≤ content_limit
+pub content_short : (s : ViewBits) (at n : ℕ) → Walk s at (suc n) → length (shown_at s at).entry.content ≤ content_limit
 content_short s at n w =
-    let a = bytes_length s (at + 48) (length_at s at) in
+    let a = bytes_length s.bytes (at + content_place s.marked) (length_at s at) in
     let b = (here s at (suc n) w (omega arith)).short in
     omega arith
 
 -- ---- one turn of the walk
 
-module _ (row : ℕ → PrefixRow) (count : ℕ) (s : Bytes) (at i p : ℕ) where
+module _ (row : ℕ → PrefixRow) (count : ℕ) (s : ViewBits) (at i p : ℕ) where
   -- the number of the next prefix
   abbrev pub next : ℕ
   next = next_number row count p (shown_at s at).entry
@@ -123,7 +123,7 @@ module _ (row : ℕ → PrefixRow) (count : ℕ) (s : Bytes) (at i p : ℕ) wher
 
 -- ---- the place as a whole
 
-module _ (row : ℕ → PrefixRow) (count : ℕ) (s : Bytes) where
+module _ (row : ℕ → PrefixRow) (count : ℕ) (s : ViewBits) where
   -- past an entry whose prefix is stored
   pub walkable_next : (n at i p : ℕ) → Walkable s count (cursor_at at (suc n) i p) → index_at s at ≡ i
       → Walkable s count (cursor_at (next_at s at) n (i + 1) (next row count s at i p))
@@ -168,11 +168,11 @@ module _ (row : ℕ → PrefixRow) (count : ℕ) (s : Bytes) where
       go (more g z) ih = subst Ended (sym (cursor_goes row count s at i p n (goes_on row count s at i p g z))) ih
 
 -- the place of a view begins at its first entry
-pub first_walkable : (s : Bytes) (count n : ℕ) → Walk s first_entry n → Walkable s count (cursor_at first_entry n 1 0)
+pub first_walkable : (s : ViewBits) (count n : ℕ) → Walk s first_entry n → Walkable s count (cursor_at first_entry n 1 0)
 first_walkable s count n w = record { walk = w; number = omega arith; positive = omega arith; small = omega arith }
 
 -- a front has no more entries than there are indexes from its first on
-pub front_most : (n : ℕ) (s : Bytes) (at i : ℕ) → Walk s at n → i ≤ 257 → length (front_from i (entries_at s at n)) + i ≤ 257
+pub front_most : (n : ℕ) (s : ViewBits) (at i : ℕ) → Walk s at n → i ≤ 257 → length (front_from i (entries_at s at n)) + i ≤ 257
 front_most zero s at i w l = (let z = ap length (front_zero s at i) in omega arith)
 front_most (suc n) s at i w l =
     ⊎_elim

@@ -12,9 +12,9 @@ use Rattle.model.specs.Entry.{Entry, Prefix, same, last_term}
 use Rattle.model.specs.Record.{front_from}
 use Rattle.model.specs.History.{Finding}
 use Rattle.model.specs.View.{prefixes_from, remembered, differing, mismatch, mismatches}
-use Rattle.model.specs.Sizes.{Bytes, content_limit}
+use Rattle.model.specs.Sizes.{content_limit}
 use Rattle.model.proofs.Tests.{no_same}
-use Rattle.record_entries.specs.BitLayout.{Walk, next_at, shown_at, entries_at, items_at}
+use Rattle.record_entries.specs.BitLayout.{ViewBits, Walk, next_at, shown_at, entries_at, items_at}
 use Rattle.storage.specs.Tables.{PrefixRow}
 use Rattle.storage.specs.Decode.{prefix_at, resolve}
 use Rattle.storage.specs.Rules.{same_row}
@@ -93,7 +93,7 @@ module _ (row : ℕ → PrefixRow) (rs : List PrefixRow) (rows : Rows row rs) wh
       ap (λ (x : ℕ). extend_all (cond (eqb x 0) (rs ++ (row_of p i e ∷ [])) rs) (or_next x (length rs)) (i + 1) es) (found_same p i e)
       ∙ (λ j. extend_all (cond (d j) (rs ++ (row_of p i e ∷ [])) rs) (cond (d j) (length rs + 1) k) (i + 1) es)
 
-  pub missing_made : (s : Bytes) (n at i p : ℕ) → length rs + length (front_at s (cursor_from row (length rs) s at n i p)) ≡ length (extend_all rs p i (front_from i (entries_at s at n)))
+  pub missing_made : (s : ViewBits) (n at i p : ℕ) → length rs + length (front_at s (cursor_from row (length rs) s at n i p)) ≡ length (extend_all rs p i (front_from i (entries_at s at n)))
   unfolding cursor_from extend_all
   missing_made s zero at i p = (let a = front_zero s at i in ap (λ (es : List Entry). length rs + length es) a ∙ (let z : length rs + 0 ≡ length rs = omega arith in z) ∙ sym (ap (λ (es : List Entry). length (extend_all rs p i es)) a))
   missing_made s (suc n) at i p = go (turn row (length rs) s at i p) (missing_made s n (next_at s at) (i + 1) (next row (length rs) s at i p))
@@ -241,7 +241,7 @@ module _ (row : ℕ → PrefixRow) (rs : List PrefixRow) (f : Facts rs) (at : Ro
       let a = noted_entry n (q ++ (e ∷ [])) i e.term (next_length q e i long) (last_term_snoc q e) k m in
       λ j. a j ++ b j
 
-  pub notes_are : (n : ℕ) (s : Bytes) (m k i p : ℕ) (q : Prefix) → Walk s k m → length q + 1 ≡ i → Numbers p q
+  pub notes_are : (n : ℕ) (s : ViewBits) (m k i p : ℕ) (q : Prefix) → Walk s k m → length q + 1 ≡ i → Numbers p q
       → notes_from row (length rs) n s k m i p ≡ mismatches (resolve rs) n (prefixes_from q (front_from i (entries_at s k m)))
   unfolding stored_notes cursor_from mismatches prefixes_from lack_notes front_from items_at
   notes_are n s zero k i p q w long y = refl

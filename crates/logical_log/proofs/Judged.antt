@@ -7,7 +7,7 @@ use mathlib.Core.List.{List, ◌++◌}
 use lib.ListN.{length}
 use Rattle.model.specs.History.{Finding}
 use Rattle.model.specs.Sizes.{Bytes, index_limit}
-use Rattle.record_entries.specs.BitLayout.{Walk, first_entry}
+use Rattle.record_entries.specs.BitLayout.{ViewBits, Walk, first_entry}
 use Rattle.storage.specs.Tables.{prefix_row, prefixes_part, findings_part}
 use Rattle.storage.specs.Head.{prefixes_held, findings_held}
 use Rattle.log_violation.specs.Violation.{held_all, bytes_all}
@@ -17,7 +17,7 @@ use Rattle.logical_log.specs.declared.judging.FrontCursor.{FrontCursor}
 use Rattle.logical_log.proofs.Cursors.{cursor_walkable, first_walkable, Ended, cursor_ended, front_most}
 
 -- both walks, over the history's prefixes and a copy of its findings
-pub view_judged : (h s : Bytes) (m node : ℕ) (q t₀ : Bytes) (count held : ℕ) → count ≡ prefixes_held h → held ≡ findings_held h → q ≡ prefixes_part h → t₀ ≡ findings_part h
+pub view_judged : (h : Bytes) (s : ViewBits) (m node : ℕ) (q t₀ : Bytes) (count held : ℕ) → count ≡ prefixes_held h → held ≡ findings_held h → q ≡ prefixes_part h → t₀ ≡ findings_part h
     → (held₁ : ℕ) (r : FrontCursor) (t₁ : Bytes) → ReachedAs q count s m node t₀ held held₁ r t₁
     → (missing held₂ : ℕ) (t₂ : Bytes) → LackingAs q count s r.at r.left r.index.0 node t₁ held₁ missing held₂ t₂
     → ViewJudged h s m node missing held₂ r t₂
@@ -43,11 +43,11 @@ view_judged h s m node q t₀ count held ec eh eq et held₁ r t₁ a missing he
 
 -- ---- what holds of the place, and of how many prefixes are missing
 
-pub cursor_in_ended : (h s : Bytes) (m : ℕ) → Ended (prefix_row (prefixes_part h)) (prefixes_held h) s (cursor_in h s m)
+pub cursor_in_ended : (h : Bytes) (s : ViewBits) (m : ℕ) → Ended (prefix_row (prefixes_part h)) (prefixes_held h) s (cursor_in h s m)
 unfolding cursor_in
 cursor_in_ended h s m = cursor_ended (prefix_row (prefixes_part h)) (prefixes_held h) s m first_entry 1 0
 
-module _ (h s : Bytes) (m : ℕ) (w : Walk s first_entry m) where
+module _ (h : Bytes) (s : ViewBits) (m : ℕ) (w : Walk s first_entry m) where
   pub cursor_in_walkable : Walkable s (prefixes_held h) (cursor_in h s m)
   unfolding cursor_in
   cursor_in_walkable = cursor_walkable (prefix_row (prefixes_part h)) (prefixes_held h) s m first_entry 1 0 (first_walkable s (prefixes_held h) m w)

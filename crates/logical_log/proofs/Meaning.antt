@@ -22,7 +22,7 @@ use Rattle.model.proofs.Tests.{cond_cases, cond_true, cond_false}
 use Rattle.model.specs.View.{prefixes_of, mismatches, stored, view_value, view_findings, view_refusal, view_effect}
 use Rattle.model.specs.Answer as model
 use Rattle.model.proofs.Growth.{made_stored}
-use Rattle.record_entries.specs.BitLayout.{Walk, first_entry, index_at, term_at, next_at, entries_at, items_at}
+use Rattle.record_entries.specs.BitLayout.{ViewBits, Walk, first_entry, index_at, term_at, next_at, entries_at, items_at}
 use Rattle.record_bits.proofs.Widths.{field_lt}
 use Rattle.record_entries.proofs.Walks.{walk_entered}
 use Rattle.storage_bytes.specs.Lists.{every}
@@ -86,7 +86,7 @@ lack_noted row n node (e ∷ es) i s f m =
     ⊎_elim (note_noted node i e.term f s.0 s.2 (is_remembered row n i e.term)) (lack_noted row n node es (i + 1) s.3 f)
     (Memᴰ.append_cases (note_of (is_remembered row n i e.term) node i e.term) m)
 
-stored_noted : (row : ℕ → PrefixRow) (n node : ℕ) (s : Bytes) (m k i p : ℕ) → Walk s k m
+stored_noted : (row : ℕ → PrefixRow) (n node : ℕ) (s : ViewBits) (m k i p : ℕ) → Walk s k m
     → (f : Finding) → Memᴰ f (stored_notes row n node s k m i p) → Noted node f
 unfolding stored_notes
 stored_noted row n node s zero k i p w f a = absurd (Memᴰ.not-nil a)
@@ -100,13 +100,13 @@ stored_noted row n node s (suc m) k i p w f a = go (turn row n s k i p) (stored_
     go (lost g z) ih = none_noted (ends_lost row n s k i p g z)
     go (more g z) ih =
         ⊎_elim
-        (note_noted node i (term_at s k) f (subst (λ (j : ℕ). j ≤ index_limit) g (walk_entered s k (suc m) w (omega arith)).within) (field_lt s (k + 10) 32) (other row n i (term_at s k) (next row n s k i p)))
+        (note_noted node i (term_at s k) f (subst (λ (j : ℕ). j ≤ index_limit) g (walk_entered s k (suc m) w (omega arith)).within) (field_lt s.bytes (k + 10) 32) (other row n i (term_at s k) (next row n s k i p)))
         ih
         (Memᴰ.append_cases (note_of (other row n i (term_at s k) (next row n s k i p)) node i (term_at s k)) (subst (Memᴰ f) (stored_goes row n s k i p m node (goes_on row n s k i p g z)) a))
 
 -- ---- a view's last index and a node's mark are within the limits
 
-last_small : (n : ℕ) (s : Bytes) (k d : ℕ) → Walk s k n → d ≤ index_limit → last_from d (entries_at s k n) ≤ index_limit
+last_small : (n : ℕ) (s : ViewBits) (k d : ℕ) → Walk s k n → d ≤ index_limit → last_from d (entries_at s k n) ≤ index_limit
 unfolding last_from items_at
 last_small zero s k d w h = h
 last_small (suc n) s k d w h = last_small n s (next_at s k) (index_at s k) (walk_more s k n w) (walk_entered s k (suc n) w (omega arith)).within
@@ -119,7 +119,7 @@ unseen_small h x st k l =
     (node_named _ row (subst (λ (r : NodeRow). node_right (length (tables_of h).rows) r ≡ true) there
     (every_at (node_right (length (tables_of h).rows)) (tables_of h).nodes k row (kept h x st).nodes (subst (λ (j : ℕ). k < j) (sym (tabulate_length (row_of_node (nodes_part h)) 0 node_count)) l)))).unseen
 
-module _ (limit : ℕ) (h : Bytes) (x : History) (s : Bytes) (m node : ℕ) (st : Represents h x) (w : Walk s first_entry m) (hn : node < node_count) (hl : limit ≤ prefix_limit) where
+module _ (limit : ℕ) (h : Bytes) (x : History) (s : ViewBits) (m node : ℕ) (st : Represents h x) (w : Walk s first_entry m) (hn : node < node_count) (hl : limit ≤ prefix_limit) where
   abbrev E : List Shown
   E = entries_at s first_entry m
 
@@ -314,7 +314,7 @@ module _ (limit : ℕ) (h : Bytes) (x : History) (s : Bytes) (m node : ℕ) (st 
       room_means)
 
 -- For every well-formed history and every readable view, at every limit; one past what the table holds counts as that.
-pub view_means : (limit : ℕ) (h : Bytes) (x : History) (s : Bytes) (m node : ℕ) → Represents h x → Walk s first_entry m → node < node_count
+pub view_means : (limit : ℕ) (h : Bytes) (x : History) (s : ViewBits) (m node : ℕ) → Represents h x → Walk s first_entry m → node < node_count
     → (let es = entries_at s first_entry m in
     MeansUnder (view_refusal (min limit prefix_limit) x node es) h x (view node es) (view_step (min limit prefix_limit) h s m node))
 view_means limit h x s m node st w l = step_means (min limit prefix_limit) h x s m node st w l (omega arith)

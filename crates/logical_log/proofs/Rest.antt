@@ -12,7 +12,7 @@ use borrow.Author.Tests.{ne_eqb}
 use Rattle.model.specs.Entry.{Entry}
 use Rattle.model.specs.Record.{front_from, front, last_from, last_index}
 use Rattle.model.specs.Sizes.{Bytes, content_limit}
-use Rattle.record_entries.specs.BitLayout.{Walk, first_entry, index_at, next_at, shown_at, entries_at, items_at}
+use Rattle.record_entries.specs.BitLayout.{ViewBits, Walk, first_entry, index_at, next_at, shown_at, entries_at, items_at}
 use Rattle.storage.specs.Tables.{PrefixRow, prefix_row, rows_of_prefixes, prefixes_part}
 use Rattle.storage.specs.Values.{number_index}
 use Rattle.storage.specs.Decode.{prefix_at, resolve}
@@ -28,14 +28,14 @@ use Rattle.logical_log.specs.declared.judging.FrontCursor.{FrontCursor}
 use Rattle.logical_log.proofs.Cursors.{next, cursor_keeps, front_suc, content_short, walkable_next, first_walkable}
 
 -- a place of a view of m entries such that what is before it writes nothing
-pub record Rest (h s : Bytes) (m : ℕ) (r : FrontCursor) : Type 0 where
+pub record Rest (h : Bytes) (s : ViewBits) (m : ℕ) (r : FrontCursor) : Type 0 where
   pub bytes : written_bytes h (prefixes_held h) 0 1 (front (entries_at s first_entry m)) ≡ written_bytes h (prefixes_held h) r.prefix.0 r.index.0 (front_at s r)
   pub counts : written_count h (prefixes_held h) 0 1 (front (entries_at s first_entry m)) ≡ written_count h (prefixes_held h) r.prefix.0 r.index.0 (front_at s r)
   pub number : written_number h (prefixes_held h) 0 1 (front (entries_at s first_entry m)) ≡ written_number h (prefixes_held h) r.prefix.0 r.index.0 (front_at s r)
   pub last : last_index (entries_at s first_entry m) ≡ last_at s r
   pub next : r.index.0 ≡ next_index h r.prefix.0
 
-module _ (h : Bytes) (f : Formed h) (s : Bytes) (m : ℕ) where
+module _ (h : Bytes) (f : Formed h) (s : ViewBits) (m : ℕ) where
   abbrev count : ℕ
   count = prefixes_held h
 

@@ -14,7 +14,7 @@ use Rattle.model.specs.History.{History, with_prefixes}
 use Rattle.model.specs.View.{prefixes_from}
 use Rattle.model.specs.Sizes.{Bytes, index_limit, content_limit, prefix_limit, term_end}
 use Rattle.model.proofs.Tests.{either}
-use Rattle.record_entries.specs.BitLayout.{Walk, index_at, next_at, entries_at}
+use Rattle.record_entries.specs.BitLayout.{ViewBits, Walk, index_at, next_at, entries_at}
 use Rattle.record_bits.proofs.Widths.{field_lt}
 use Rattle.record_entries.proofs.Walks.{walk_entered}
 use Rattle.storage.specs.Decode.{prefix_at}
@@ -33,7 +33,7 @@ Sound i [] = Unit {0}
 Sound i (e ∷ es) = (i ≤ index_limit) × (length e.content ≤ content_limit) × (e.term < term_end) × Sound (i + 1) es
 
 -- so are those of a readable view's front
-pub front_sound : (n : ℕ) (s : Bytes) (k i : ℕ) → Walk s k n → Sound i (front_from i (entries_at s k n))
+pub front_sound : (n : ℕ) (s : ViewBits) (k i : ℕ) → Walk s k n → Sound i (front_from i (entries_at s k n))
 front_sound zero s k i w = subst (Sound i) (sym (front_zero s k i)) tt
 front_sound (suc n) s k i w =
     ⊎_elim
@@ -42,7 +42,7 @@ front_sound (suc n) s k i w =
     subst (Sound i) (sym (front_suc s k n i e)) (
       subst (λ (j : ℕ). j ≤ index_limit) e (walk_entered s k (suc n) w (omega arith)).within,
       content_short s k n w,
-      field_lt s (k + 10) 32,
+      field_lt s.bytes (k + 10) 32,
       front_sound n s (next_at s k) (i + 1) (walk_more s k n w),
     ))
     (λ f. subst (Sound i) (sym (front_cut s k n i (eqb-false (index_at s k) i f))) tt)

@@ -16,7 +16,7 @@ use Rattle.model.proofs.Tests.{cond_true, cond_false}
 use Rattle.storage.specs.Tables.{prefix_row, prefixes_part, head_part, tables_in, tables_of}
 use Rattle.storage.specs.Writes.{prefix_appended, PrefixFits, prefix_of}
 use Rattle.storage.specs.Rules.{prefix_right}
-use Rattle.storage.specs.Decode.{prefix_at, extended, resolve}
+use Rattle.storage.specs.Decode.{prefix_at, extended, resolve, mark_of}
 use Rattle.storage.specs.Head.{prefixes_held}
 use Rattle.storage.proofs.RowFacts.{row_at, resolve_snoc, resolve_count}
 use Rattle.storage.proofs.DecodeLaws.{row_facts}
@@ -24,7 +24,7 @@ use Rattle.storage.proofs.WellFormed.{rows_count}
 use Rattle.storage.proofs.Meanings.{Represents, prefix_written, prefixes_read, prefixes_is, kept}
 use Rattle.log_prefix.specs.Prefix.{row_of, find}
 use Rattle.log_prefix.specs.Extension.{extension_in, stored_content, extended_bytes, extended_count, extended_number}
-use Rattle.log_prefix.proofs.PrefixLaws.{Rows}
+use Rattle.log_prefix.proofs.PrefixLaws.{Rows, mark_small}
 use Rattle.log_prefix.proofs.TableLaws.{rows_at}
 use Rattle.log_prefix.proofs.Extend.{Good, Extended, extend_rows, extend_number, extends_rows, right_row}
 use Rattle.logical_log.proofs.Judge.{find_ext, find_index}
@@ -102,22 +102,23 @@ module _ (h : Bytes) (x : History) (s : Represents h x) (n p i : ℕ) (e : Entry
       }
 
   -- made
-  row_fits : n < prefix_limit → PrefixFits p i e.term (length e.content) (stored_content e)
+  row_fits : n < prefix_limit → PrefixFits p i e.term (mark_of e) (length e.content) (stored_content e)
   row_fits l =
       record {
         parent = omega arith;
         index = omega arith;
         term = term;
+        mark = mark_small e;
         size = short;
         padded =
             (let a = length-append e.content (replicate (content_limit - length e.content) 0) in
             let b = length-replicate {A = ℕ} (content_limit - length e.content) 0 in omega arith);
       }
 
-  row_is : prefix_of p i e.term (length e.content) (stored_content e) ≡ row_of p i e
+  row_is : prefix_of p i e.term (mark_of e) (length e.content) (stored_content e) ≡ row_of p i e
   row_is =
       let c = take_at e.content (replicate (content_limit - length e.content) 0) (length e.content) refl in
-      λ j. record { parent = p; index = i; term = e.term; size = length e.content; content = c j }
+      λ j. record { parent = p; index = i; term = e.term; mark = mark_of e; size = length e.content; content = c j }
 
   made_step : extension_in h n p e ≡ 0 → Step h x n p e (extended_bytes h n p i e) (extended_count h n p e) (extended_number h n p e)
   unfolding extend_rows extend_number
@@ -126,7 +127,7 @@ module _ (h : Bytes) (x : History) (s : Represents h x) (n p i : ℕ) (e : Entry
       let g : eqb (find (row_at (tables_of h).rows) (length (tables_of h).rows) (row_of p i e)) 0 ≡ true = ap (λ (y : ℕ). eqb y 0) (sym same_search) ∙ t in
       let counts : extended_count h n p e ≡ n + 1 = count_made h n p e t in
       let l : n < prefix_limit = (let r = room in omega arith) in
-      let row = prefix_of p i e.term (length e.content) (stored_content e) in
+      let row = prefix_of p i e.term (mark_of e) (length e.content) (stored_content e) in
       let same_rows : extend_rows (tables_of h).rows p i e ≡ (tables_of h).rows ++ (row_of p i e ∷ []) = cond_true _ _ (tables_of h).rows g in
       let list : x.prefixes ++ (extended x.prefixes row ∷ []) ≡ with prefixes x.prefixes Q =
       (λ j. sym same_prefixes j ++ (extended (sym same_prefixes j) (row_is j) ∷ []))
@@ -136,8 +137,8 @@ module _ (h : Bytes) (x : History) (s : Represents h x) (n p i : ℕ) (e : Entry
       (ap (λ (ps : List Prefix). length (prefix_at ps p) + 1) same_prefixes ∙ next) small short (sym same_search ∙ z) in
       let after : Represents (extended_bytes h n p i e) (with_prefixes x (with prefixes x.prefixes Q)) =
       subst (λ (u : Bytes). Represents u (with_prefixes x (with prefixes x.prefixes Q))) (sym (bytes_made h n p i e t))
-      (subst (λ (ps : List Prefix). Represents (prefix_appended h p i e.term (length e.content) (stored_content e)) (with_prefixes x ps)) list
-      (prefix_written h x s p i e.term (length e.content) (stored_content e) (subst (λ (m : ℕ). m < prefix_limit) en l) (row_fits l) right)) in
+      (subst (λ (ps : List Prefix). Represents (prefix_appended h p i e.term (mark_of e) (length e.content) (stored_content e)) (with_prefixes x ps)) list
+      (prefix_written h x s p i e.term (mark_of e) (length e.content) (stored_content e) (subst (λ (m : ℕ). m < prefix_limit) en l) (row_fits l) right)) in
       let number : extended_number h n p e ≡ extend_number (tables_of h).rows p i e =
       number_made h n p e t ∙ ap (λ (m : ℕ). m + 1) (sym count) ∙ sym (cond_true _ (length (tables_of h).rows + 1) _ g) in
       let size : length (with prefixes x.prefixes Q) ≡ n + 1 =

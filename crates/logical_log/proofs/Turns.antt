@@ -13,7 +13,7 @@ use Rattle.model.specs.Record.{front_from}
 use Rattle.model.specs.History.{Finding}
 use Rattle.model.specs.Sizes.{Bytes, index_limit, content_limit}
 use Rattle.record_entries.specs.declared.walk.ShownEntry.{ShownEntry}
-use Rattle.record_entries.specs.BitLayout.{Walk, first_entry, index_at, term_at, length_at, content_at, next_at, shown_at, entries_at}
+use Rattle.record_entries.specs.BitLayout.{ViewBits, Walk, first_entry, index_at, term_at, length_at, content_at, next_at, shown_at, entries_at, content_place, mark_at}
 use Rattle.record_entries.specs.Values.{shown_entry}
 use Rattle.record_bits.proofs.Widths.{bytes_length}
 use Rattle.record_entries.proofs.Walks.{next_walk, walk_entered, here, entry_content}
@@ -72,18 +72,18 @@ remembered_is row n i t = by (eqb (first row n i t) 0)
 
 -- ---- an entry as it is read
 
-pub entry_read : (s : Bytes) (k : ℕ) (e : ShownEntry) → e ≡ shown_entry s k → length_at s k ≤ content_limit → entry_value e ≡ (shown_at s k).entry
+pub entry_read : (s : ViewBits) (k : ℕ) (e : ShownEntry) → e ≡ shown_entry s k → length_at s k ≤ content_limit → entry_value e ≡ (shown_at s k).entry
 entry_read s k e q h =
     ap entry_value q
     ∙ (let c = (shown_entry s k).content in
     let n = length_at s k in
-    let long : length c ≡ n + (content_limit - n) = length-append (content_at s k) (replicate (content_limit - n) 0) ∙ (λ i. bytes_length s (k + 48) n i + length-replicate {A = ℕ} (content_limit - n) 0 i) in
+    let long : length c ≡ n + (content_limit - n) = length-append (content_at s k) (replicate (content_limit - n) 0) ∙ (λ i. bytes_length s.bytes (k + content_place s.marked) n i + length-replicate {A = ℕ} (content_limit - n) 0 i) in
     let w = bytes_take c n (omega arith) ∙ entry_content s k in
-    λ i. record { term = term_at s k; content = w i })
+    λ i. record { term = term_at s k; configuration = mark_at s k; content = w i })
 
 -- ---- the front, entry by entry
 
-module _ (s : Bytes) (k n i : ℕ) where
+module _ (s : ViewBits) (k n i : ℕ) where
   one_more : 0 < n → n ≡ suc (n - 1)
   one_more h = omega arith
 
@@ -97,7 +97,7 @@ module _ (s : Bytes) (k n i : ℕ) where
   front_none h = ap (λ (m : ℕ). front_from i (entries_at s k m)) (let z : n ≡ 0 = omega arith in z) ∙ front_zero s k i
 
 -- the front goes on with the entry as it is read
-pub front_shown : (s : Bytes) (k n i : ℕ) (e : ShownEntry) → Walk s k n → 0 < n → e ≡ shown_entry s k → e.index.0 ≡ i
+pub front_shown : (s : ViewBits) (k n i : ℕ) (e : ShownEntry) → Walk s k n → 0 < n → e ≡ shown_entry s k → e.index.0 ≡ i
     → front_from i (entries_at s k n) ≡ entry_value e ∷ front_from (i + 1) (entries_at s e.next (n - 1))
 front_shown s k n i e w h q g =
     front_more s k n i h (sym (ap (λ (x : ShownEntry). x.index.0) q) ∙ g)
@@ -107,7 +107,7 @@ front_shown s k n i e w h q g =
 
 -- ---- an entry of a walk
 
-module _ (s : Bytes) (at left i : ℕ) (w : Walk s at left) (h : 0 < left) (e : ShownEntry) (q : e ≡ shown_entry s at) where
+module _ (s : ViewBits) (at left i : ℕ) (w : Walk s at left) (h : 0 < left) (e : ShownEntry) (q : e ≡ shown_entry s at) where
   pub entry_short : e.length ≤ content_limit
   entry_short = subst (λ (x : ShownEntry). x.length ≤ content_limit) (sym q) (here s at left w h).short
 
@@ -136,7 +136,7 @@ module _ (b : Bool) (f : Finding) (old new : Notes) where
 
 -- ---- the walk along the stored prefixes
 
-module _ (ps : Bytes) (count : ℕ) (s : Bytes) where
+module _ (ps : Bytes) (count : ℕ) (s : ViewBits) where
   -- the place where it ends, and its LG-03, from a place on
   abbrev End : FrontCursor → FrontCursor
   End x = cursor_from (prefix_row ps) count s x.at x.left x.index.0 x.prefix.0
@@ -144,13 +144,13 @@ module _ (ps : Bytes) (count : ℕ) (s : Bytes) where
   abbrev Noted : ℕ → FrontCursor → List Finding
   Noted node x = stored_notes (prefix_row ps) count node s x.at x.left x.index.0 x.prefix.0
 
-pub record Judging (ps : Bytes) (count : ℕ) (s : Bytes) (entries node : ℕ) (t₀ : Bytes) (held : ℕ) (t : Bytes) (x : FrontCursor) (n : ℕ) : Type 0 where
+pub record Judging (ps : Bytes) (count : ℕ) (s : ViewBits) (entries node : ℕ) (t₀ : Bytes) (held : ℕ) (t : Bytes) (x : FrontCursor) (n : ℕ) : Type 0 where
   pub cursor : End ps count s (cursor_at first_entry entries 1 0) ≡ End ps count s x
   pub holds : held_all t₀ held (Noted ps count s node (cursor_at first_entry entries 1 0)) ≡ held_all t n (Noted ps count s node x)
   pub table : bytes_all t₀ held (Noted ps count s node (cursor_at first_entry entries 1 0)) ≡ bytes_all t n (Noted ps count s node x)
   pub walkable : Walkable s count x
 
-module _ (ps : Bytes) (count : ℕ) (s : Bytes) (entries node : ℕ) (t₀ : Bytes) (held : ℕ) where
+module _ (ps : Bytes) (count : ℕ) (s : ViewBits) (entries node : ℕ) (t₀ : Bytes) (held : ℕ) where
   pub judging_starts : Walk s first_entry entries → (x : FrontCursor) → x ≡ cursor_at first_entry entries 1 0
       → Judging ps count s entries node t₀ held t₀ x held
   judging_starts w x ex =
@@ -246,10 +246,10 @@ unfolding lack_notes
 lack_cons row n node i e es = refl
 
 -- its LG-03, from a place on
-abbrev Lacked : Bytes → ℕ → Bytes → ℕ → FrontCursor → List Finding
+abbrev Lacked : Bytes → ℕ → ViewBits → ℕ → FrontCursor → List Finding
 Lacked ps count s node x = lack_notes (prefix_row ps) count node x.index.0 (front_at s x)
 
-pub record Lacking (ps : Bytes) (count : ℕ) (s : Bytes) (r : FrontCursor) (node : ℕ) (t₀ : Bytes) (held : ℕ) (t : Bytes) (x : FrontCursor) (missing n : ℕ) : Type 0 where
+pub record Lacking (ps : Bytes) (count : ℕ) (s : ViewBits) (r : FrontCursor) (node : ℕ) (t₀ : Bytes) (held : ℕ) (t : Bytes) (x : FrontCursor) (missing n : ℕ) : Type 0 where
   pub lacks : length (front_at s r) ≡ missing + length (front_at s x)
   pub holds : held_all t₀ held (Lacked ps count s node r) ≡ held_all t n (Lacked ps count s node x)
   pub table : bytes_all t₀ held (Lacked ps count s node r) ≡ bytes_all t n (Lacked ps count s node x)
@@ -257,7 +257,7 @@ pub record Lacking (ps : Bytes) (count : ℕ) (s : Bytes) (r : FrontCursor) (nod
   pub small : x.index.0 ≤ 257
   pub below : missing < x.index.0
 
-module _ (ps : Bytes) (count : ℕ) (s : Bytes) (r : FrontCursor) (node : ℕ) (t₀ : Bytes) (held : ℕ) where
+module _ (ps : Bytes) (count : ℕ) (s : ViewBits) (r : FrontCursor) (node : ℕ) (t₀ : Bytes) (held : ℕ) where
   module _ (t : Bytes) (x : FrontCursor) (missing n : ℕ) (j : Lacking ps count s r node t₀ held t x missing n) where
     pub lacking_ends : front_at s x ≡ [] → LackingAs ps count s r.at r.left r.index.0 node t₀ held missing n t
     unfolding lack_notes held_all bytes_all

@@ -14,7 +14,7 @@ use Rattle.model.specs.Sizes.{Bytes, prefix_limit, finding_limit}
 use Rattle.model.specs.Entry.{Entry}
 use Rattle.model.specs.Record.{front}
 use Rattle.model.proofs.Tests.{cond_true, cond_false}
-use Rattle.record_entries.specs.BitLayout.{Walk, first_entry, entries_at}
+use Rattle.record_entries.specs.BitLayout.{ViewBits, Walk, first_entry, entries_at}
 use Rattle.storage_bytes.specs.Layout.{findings_length}
 use Rattle.storage.specs.Tables.{prefix_row, prefixes_part, findings_part}
 use Rattle.storage.specs.Rules.{well_formed}
@@ -67,7 +67,7 @@ unfolding written_count
 no_count h n p i = omega arith
 
 -- from a place on where no prefix is stored any more
-rest_count : (h : Bytes) (n : ℕ) (s : Bytes) (r : FrontCursor) → Ended (prefix_row (prefixes_part h)) n s r
+rest_count : (h : Bytes) (n : ℕ) (s : ViewBits) (r : FrontCursor) → Ended (prefix_row (prefixes_part h)) n s r
     → written_count h n r.prefix.0 r.index.0 (front_at s r) ≡ n + length (front_at s r)
 rest_count h n s r (inl e) =
     ap (written_count h n r.prefix.0 r.index.0) e ∙ no_count h n r.prefix.0 r.index.0 ∙ sym (ap (λ (es : List Entry). n + length es) e)
@@ -82,36 +82,36 @@ rest_count h n s r (inr (e, es, q, z)) =
     ∙ (let y : n + 1 + length es ≡ n + suc (length es) = omega arith in y)
     ∙ sym (ap (λ (xs : List Entry). n + length xs) q)
 
-missing_count : (h s : Bytes) (m : ℕ)
+missing_count : (h : Bytes) (s : ViewBits) (m : ℕ)
     → written_count h (prefixes_held h) (cursor_in h s m).prefix.0 (cursor_in h s m).index.0 (front_at s (cursor_in h s m)) ≡ prefixes_held h + missing_in h s m
 unfolding missing_in
 missing_count h s m = rest_count h (prefixes_held h) s (cursor_in h s m) (cursor_in_ended h s m)
 
-pub front_count : (h s : Bytes) (m : ℕ) → well_formed h ≡ true → Walk s first_entry m
+pub front_count : (h : Bytes) (s : ViewBits) (m : ℕ) → well_formed h ≡ true → Walk s first_entry m
     → written_count h (prefixes_held h) 0 1 (front (entries_at s first_entry m)) ≡ prefixes_held h + missing_in h s m
 front_count h s m right w = (rest_of h (formed h right) s m w).counts ∙ missing_count h s m
 
 -- ---- written
 
 -- from the first prefix that is not stored on as from the first entry
-rest_written_lem : (h s : Bytes) (m node : ℕ) (t : Bytes) (held : ℕ)
+rest_written_lem : (h : Bytes) (s : ViewBits) (m node : ℕ) (t : Bytes) (held : ℕ)
     → Rest h s m (cursor_in h s m) → rest_written h (prefixes_held h) s (cursor_in h s m) node t held ≡ view_written h (prefixes_held h) s m node t held
 unfolding rest_written view_written
 rest_written_lem h s m node t held w = sym (λ i. findings_kept (view_replaced (w.bytes i) node (w.number i) (w.last i)) t held)
 
 -- and so many are made
-rest_made_lem : (h s : Bytes) (m : ℕ) → Rest h s m (cursor_in h s m) → rest_made h (prefixes_held h) s (cursor_in h s m) ≡ made_in h s m
+rest_made_lem : (h : Bytes) (s : ViewBits) (m : ℕ) → Rest h s m (cursor_in h s m) → rest_made h (prefixes_held h) s (cursor_in h s m) ≡ made_in h s m
 unfolding rest_made made_in
 rest_made_lem h s m w = sym (ap (λ (k : ℕ). k - prefixes_held h) w.counts)
 
 -- as many are made as judging found missing
-pub made_is_missing : (h s : Bytes) (m : ℕ) → well_formed h ≡ true → Walk s first_entry m → made_in h s m ≡ missing_in h s m
+pub made_is_missing : (h : Bytes) (s : ViewBits) (m : ℕ) → well_formed h ≡ true → Walk s first_entry m → made_in h s m ≡ missing_in h s m
 unfolding made_in
 made_is_missing h s m right w = let a = front_count h s m right w in omega arith
 
 -- ---- the answer
 
-module _ {h s : Bytes} {m node missing held count : ℕ} {r : FrontCursor} {t : Bytes} (right : well_formed h ≡ true) (walk : ∥ Walk s first_entry m ∥₁)
+module _ {h : Bytes} {s : ViewBits} {m node missing held count : ℕ} {r : FrontCursor} {t : Bytes} (right : well_formed h ≡ true) (walk : ∥ Walk s first_entry m ∥₁)
     (j : ViewJudged h s m node missing held r t) (e : count ≡ prefixes_held h) where
   total : count + missing ≡ prefixes_held h + missing_in h s m
   total = λ i. e i + j.lack i
@@ -163,6 +163,6 @@ module _ {h s : Bytes} {m node missing held count : ℕ} {r : FrontCursor} {t : 
           }
 
 -- the table with its LG-03 is as long as the history's
-pub table_length : (h s : Bytes) (m node : ℕ) → well_formed h ≡ true → length (table_in h s m node) ≡ findings_length
+pub table_length : (h : Bytes) (s : ViewBits) (m node : ℕ) → well_formed h ≡ true → length (table_in h s m node) ≡ findings_length
 unfolding table_in
 table_length h s m node right = all_length (notes_in h s m node) (findings_part h) (findings_held h) ∙ findings_long h right

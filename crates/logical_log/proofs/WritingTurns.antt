@@ -11,7 +11,7 @@ use Rattle.model.specs.Entry.{Entry}
 use Rattle.model.specs.Sizes.{Bytes, index_limit, content_limit, prefix_limit, term_end}
 use Rattle.record_bits.proofs.Widths.{field_lt, bytes_length}
 use Rattle.record_entries.specs.declared.walk.ShownEntry.{ShownEntry}
-use Rattle.record_entries.specs.BitLayout.{length_at, content_at}
+use Rattle.record_entries.specs.BitLayout.{ViewBits, length_at, content_at, content_place}
 use Rattle.record_entries.specs.Values.{shown_entry}
 use Rattle.record_entries.proofs.Walks.{here}
 use Rattle.storage.specs.Decode.{prefix_at, decode}
@@ -29,10 +29,10 @@ use Rattle.log_prefix.proofs.Written.{value_length, Longer, count_grows, written
 use Rattle.logical_log.proofs.StoredRows.{Step, extension_step}
 
 -- an entry as it is read has zeros after its content
-entry_padded : (s : Bytes) (k : ℕ) (e : ShownEntry) → e ≡ shown_entry s k → length_at s k ≤ content_limit → e.content ≡ stored_content (entry_value e)
+entry_padded : (s : ViewBits) (k : ℕ) (e : ShownEntry) → e ≡ shown_entry s k → length_at s k ≤ content_limit → e.content ≡ stored_content (entry_value e)
 entry_padded s k e q h =
     ap (λ (x : ShownEntry). x.content) q
-    ∙ ap (λ (m : ℕ). content_at s k ++ replicate (content_limit - m) 0) (sym (bytes_length s (k + 48) (length_at s k)))
+    ∙ ap (λ (m : ℕ). content_at s k ++ replicate (content_limit - m) 0) (sym (bytes_length s.bytes (k + content_place s.marked) (length_at s k)))
     ∙ ap stored_content (sym (entry_read s k e q h))
 
 -- the index after an extension is one more
@@ -46,7 +46,7 @@ extended_index h n p e right en hp h' n' p' a =
 
 -- ---- storing goes on with an entry
 
-module _ (h : Bytes) (n : ℕ) (s : Bytes) (x : FrontCursor) (g : Storing h n s x) (l : 0 < x.left) (e : ShownEntry) (q : e ≡ shown_entry s x.at) where
+module _ (h : Bytes) (n : ℕ) (s : ViewBits) (x : FrontCursor) (g : Storing h n s x) (l : 0 < x.left) (e : ShownEntry) (q : e ≡ shown_entry s x.at) where
   abbrev p : ℕ
   p = x.prefix.0
 
@@ -98,7 +98,7 @@ module _ (h : Bytes) (n : ℕ) (s : Bytes) (x : FrontCursor) (g : Storing h n s 
         extension_step h (decode h) st n p i E g.count g.walkable.number
         (ap (λ (m : ℕ). m + 1) (sym (number_length h (decode h) st p (subst (λ (m : ℕ). p ≤ m) g.count g.walkable.number))) ∙ sym g.next) small
         (subst (λ (m : ℕ). m ≤ content_limit) (sym (value_length e)) writing_asks.short)
-        (subst (λ (z : ShownEntry). z.term.0 < term_end) (sym q) (field_lt s (x.at + 10) 32))
+        (subst (λ (z : ShownEntry). z.term.0 < term_end) (sym q) (field_lt s.bytes (x.at + 10) 32))
         (room o)
 
     storing_next : Storing (extended_bytes h n p i E) (extended_count h n p E) s (Behind (extended_number h n p E))
@@ -119,13 +119,13 @@ module _ (h : Bytes) (n : ℕ) (s : Bytes) (x : FrontCursor) (g : Storing h n s 
 -- ---- turn by turn
 
 -- what is left to write, to bytes that are well formed
-pub record Written (h₀ : Bytes) (n₀ : ℕ) (s : Bytes) (r : FrontCursor) (h : Bytes) (x : FrontCursor) (n : ℕ) : Type 0 where
+pub record Written (h₀ : Bytes) (n₀ : ℕ) (s : ViewBits) (r : FrontCursor) (h : Bytes) (x : FrontCursor) (n : ℕ) : Type 0 where
   pub bytes : written_bytes h₀ n₀ r.prefix.0 r.index.0 (front_at s r) ≡ written_bytes h n x.prefix.0 x.index.0 (front_at s x)
   pub number : written_number h₀ n₀ r.prefix.0 r.index.0 (front_at s r) ≡ written_number h n x.prefix.0 x.index.0 (front_at s x)
   pub count : written_count h₀ n₀ r.prefix.0 r.index.0 (front_at s r) ≡ written_count h n x.prefix.0 x.index.0 (front_at s x)
   pub storing : Storing h n s x
 
-module _ (h₀ : Bytes) (n₀ : ℕ) (s : Bytes) (r : FrontCursor) where
+module _ (h₀ : Bytes) (n₀ : ℕ) (s : ViewBits) (r : FrontCursor) where
   pub writing_starts : Storing h₀ n₀ s r → Written h₀ n₀ s r h₀ r (n₀ + 0)
   writing_starts g = subst (Written h₀ n₀ s r h₀ r) (let z : n₀ ≡ n₀ + 0 = omega arith in z) (record { bytes = refl; number = refl; count = refl; storing = g })
 

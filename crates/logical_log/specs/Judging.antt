@@ -5,7 +5,7 @@ use Rattle.model.specs.Entry.{Entry}
 use Rattle.model.specs.History.{Finding}
 use Rattle.model.specs.Sizes.{Bytes}
 use Rattle.model.specs.Record.{front_from, last_from}
-use Rattle.record_entries.specs.BitLayout.{Walk, first_entry, index_at, next_at, shown_at, entries_at}
+use Rattle.record_entries.specs.BitLayout.{ViewBits, Walk, first_entry, index_at, next_at, shown_at, entries_at}
 use Rattle.storage.specs.Tables.{PrefixRow, prefix_row, prefixes_part, findings_part}
 use Rattle.storage.specs.Head.{prefixes_held, findings_held}
 use Rattle.logical_log.specs.declared.judging.FrontCursor.{FrontCursor}
@@ -52,29 +52,29 @@ abbrev pub cursor_at : ℕ → ℕ → ℕ → ℕ → FrontCursor
 cursor_at at left i p = record { at = at; left = left; index = record { 0 = i }; prefix = record { 0 = p } }
 
 -- the front from a place on
-abbrev pub front_at : Bytes → FrontCursor → List Entry
+abbrev pub front_at : ViewBits → FrontCursor → List Entry
 front_at s r = front_from r.index.0 (entries_at s r.at r.left)
 
 -- a place whose entries can be walked, after a prefix that has a number
-pub record Walkable (s : Bytes) (count : ℕ) (r : FrontCursor) : Type 0 where
+pub record Walkable (s : ViewBits) (count : ℕ) (r : FrontCursor) : Type 0 where
   pub walk : Walk s r.at r.left
   pub number : r.prefix.0 ≤ count
   pub positive : 1 ≤ r.index.0
   pub small : r.index.0 ≤ 257
 
 -- the last index of what is left; where nothing is, the index before the place
-abbrev pub last_at : Bytes → FrontCursor → ℕ
+abbrev pub last_at : ViewBits → FrontCursor → ℕ
 last_at s r = last_from (r.index.0 - 1) (entries_at s r.at r.left)
 
 -- ---- the walk along the stored prefixes
 -- At bit `at` with n entries left, at index i, after the prefix of number p.
 
 -- it ends at an entry of another index, and at one whose prefix is not stored
-abbrev pub ends_at : (ℕ → PrefixRow) → ℕ → Bytes → ℕ → ℕ → ℕ → Bool
+abbrev pub ends_at : (ℕ → PrefixRow) → ℕ → ViewBits → ℕ → ℕ → ℕ → Bool
 ends_at row count s at i p = not (eqb (index_at s at) i) || eqb (next_number row count p (shown_at s at).entry) 0
 
 -- the place where it ends
-unfoldable pub cursor_from : (ℕ → PrefixRow) → ℕ → Bytes → ℕ → ℕ → ℕ → ℕ → FrontCursor
+unfoldable pub cursor_from : (ℕ → PrefixRow) → ℕ → ViewBits → ℕ → ℕ → ℕ → ℕ → FrontCursor
 unfolding find
 cursor_from row count s at zero i p = cursor_at at zero i p
 cursor_from row count s at (suc n) i p =
@@ -82,7 +82,7 @@ cursor_from row count s at (suc n) i p =
     (cursor_from row count s (next_at s at) n (i + 1) (next_number row count p (shown_at s at).entry))
 
 -- its LG-03
-unfoldable pub stored_notes : (ℕ → PrefixRow) → ℕ → ℕ → Bytes → ℕ → ℕ → ℕ → ℕ → List Finding
+unfoldable pub stored_notes : (ℕ → PrefixRow) → ℕ → ℕ → ViewBits → ℕ → ℕ → ℕ → ℕ → List Finding
 unfolding find other
 stored_notes row count node s at zero i p = []
 stored_notes row count node s at (suc n) i p =
@@ -91,7 +91,7 @@ stored_notes row count node s at (suc n) i p =
     cond (ends_at row count s at i p) [] (note_of (other row count i t k) node i t ++ stored_notes row count node s (next_at s at) n (i + 1) k)
 
 -- and those of the rest, from the place on
-abbrev pub notes_from : (ℕ → PrefixRow) → ℕ → ℕ → Bytes → ℕ → ℕ → ℕ → ℕ → List Finding
+abbrev pub notes_from : (ℕ → PrefixRow) → ℕ → ℕ → ViewBits → ℕ → ℕ → ℕ → ℕ → List Finding
 notes_from row count node s at n i p =
     let r = cursor_from row count s at n i p in
     stored_notes row count node s at n i p ++ lack_notes row count node r.index.0 (front_at s r)
@@ -99,13 +99,13 @@ notes_from row count node s at n i p =
 -- ---- what the walks come to
 
 -- the walk along the stored prefixes of a view of n entries
-pub record ReachedAs (ps : Bytes) (count : ℕ) (s : Bytes) (n node : ℕ) (t : Bytes) (held held' : ℕ) (r : FrontCursor) (t' : Bytes) : Type 0 where
+pub record ReachedAs (ps : Bytes) (count : ℕ) (s : ViewBits) (n node : ℕ) (t : Bytes) (held held' : ℕ) (r : FrontCursor) (t' : Bytes) : Type 0 where
   pub cursor : r ≡ cursor_from (prefix_row ps) count s first_entry n 1 0
   pub holds : held' ≡ held_all t held (stored_notes (prefix_row ps) count node s first_entry n 1 0)
   pub table : t' ≡ bytes_all t held (stored_notes (prefix_row ps) count node s first_entry n 1 0)
 
 -- the walk along the rest, from index i on: the next of `left` entries is at bit `at`
-pub record LackingAs (ps : Bytes) (count : ℕ) (s : Bytes) (at left i node : ℕ) (t : Bytes) (held missing held' : ℕ) (t' : Bytes) : Type 0 where
+pub record LackingAs (ps : Bytes) (count : ℕ) (s : ViewBits) (at left i node : ℕ) (t : Bytes) (held missing held' : ℕ) (t' : Bytes) : Type 0 where
   pub lack : missing ≡ length (front_from i (entries_at s at left))
   pub holds : held' ≡ held_all t held (lack_notes (prefix_row ps) count node i (front_from i (entries_at s at left)))
   pub table : t' ≡ bytes_all t held (lack_notes (prefix_row ps) count node i (front_from i (entries_at s at left)))
@@ -113,31 +113,31 @@ pub record LackingAs (ps : Bytes) (count : ℕ) (s : Bytes) (at left i node : �
 -- ---- a view of m entries against a history
 
 -- the place before the first prefix that is not stored
-unfoldable pub cursor_in : Bytes → Bytes → ℕ → FrontCursor
+unfoldable pub cursor_in : Bytes → ViewBits → ℕ → FrontCursor
 unfolding cursor_from
 cursor_in h s m = cursor_from (prefix_row (prefixes_part h)) (prefixes_held h) s first_entry m 1 0
 
 -- how many prefixes of its front are not stored
-unfoldable pub missing_in : Bytes → Bytes → ℕ → ℕ
+unfoldable pub missing_in : Bytes → ViewBits → ℕ → ℕ
 unfolding cursor_in
 missing_in h s m = length (front_at s (cursor_in h s m))
 
 -- its LG-03
-unfoldable pub notes_in : Bytes → Bytes → ℕ → ℕ → List Finding
+unfoldable pub notes_in : Bytes → ViewBits → ℕ → ℕ → List Finding
 unfolding stored_notes lack_notes cursor_from
 notes_in h s m node = notes_from (prefix_row (prefixes_part h)) (prefixes_held h) node s first_entry m 1 0
 
 -- the findings with them: how many, and the table
-unfoldable pub held_in : Bytes → Bytes → ℕ → ℕ → ℕ
+unfoldable pub held_in : Bytes → ViewBits → ℕ → ℕ → ℕ
 unfolding held_all notes_in
 held_in h s m node = held_all (findings_part h) (findings_held h) (notes_in h s m node)
 
-unfoldable pub table_in : Bytes → Bytes → ℕ → ℕ → Bytes
+unfoldable pub table_in : Bytes → ViewBits → ℕ → ℕ → Bytes
 unfolding bytes_all notes_in
 table_in h s m node = bytes_all (findings_part h) (findings_held h) (notes_in h s m node)
 
 -- what judging a view comes to
-pub record ViewJudged (h s : Bytes) (m node missing held : ℕ) (r : FrontCursor) (t : Bytes) : Type 0 where
+pub record ViewJudged (h : Bytes) (s : ViewBits) (m node missing held : ℕ) (r : FrontCursor) (t : Bytes) : Type 0 where
   pub cursor : r ≡ cursor_in h s m
   pub lack : missing ≡ missing_in h s m
   pub holds : held ≡ held_in h s m node

@@ -1,7 +1,7 @@
 // A view judged along its front (`observe_entries` of observation.rs), with nothing written: first as far as its prefixes are
 // stored, then the rest, where none is.
 ghost use Rattle.std.specs.Prelude.{◌≡◌, ◌+◌, ◌-◌, ◌≤◌};
-ghost use Rattle.record_entries.specs.BitLayout.{first_entry};
+ghost use Rattle.record_entries.specs.BitLayout.{bits_of, first_entry};
 ghost use Rattle.storage.specs.Tables.{prefix_row};
 ghost use Rattle.log_prefix.specs.Table.{Table};
 ghost use Rattle.storage_rows.specs.Rows.{finding_value};
@@ -86,12 +86,12 @@ fn lg03(node: NodeId, e: ShownEntry) -> Found
 // is remembered for an entry (`reconcile_prefix`).
 fn judge_stored(prefixes: Prefixes<'_>, view: View<'_>, notes: &mut Notes) -> FrontCursor
     requires { Table prefixes.rows.now prefixes.count }
-    ensures { ReachedAs prefixes.entry.rows.now prefixes.entry.count view.entry.bytes.now view.entry.entries view.entry.node.0 notes.old.rows notes.old.held notes.new.held result notes.new.rows }
+    ensures { ReachedAs prefixes.entry.rows.now prefixes.entry.count (bits_of view.entry.shown.bytes.now view.entry.shown.marked) view.entry.entries view.entry.node.0 notes.old.rows notes.old.held notes.new.held result notes.new.rows }
 {
     let mut here = first_cursor(view.entries);
     // the place is the answer: the second walk and the writing begin there, by its bit, its index and what is left, and a `Peekable` tells none
     while 0 < here.left {
-        let e = entry_at(view.bytes, here.at);
+        let e = entry_at(view.shown, here.at);
         if e.index != here.index {
             break;
         }
@@ -114,11 +114,11 @@ fn judge_missing(
     rest: FrontCursor,
     notes: &mut Notes,
 ) -> usize
-    requires { Table prefixes.rows.now prefixes.count × Walkable view.bytes.now prefixes.count rest }
-    ensures { LackingAs prefixes.entry.rows.now prefixes.entry.count view.entry.bytes.now rest.at rest.left rest.index.0 view.entry.node.0 notes.old.rows notes.old.held result notes.new.held notes.new.rows }
+    requires { Table prefixes.rows.now prefixes.count × Walkable (bits_of view.shown.bytes.now view.shown.marked) prefixes.count rest }
+    ensures { LackingAs prefixes.entry.rows.now prefixes.entry.count (bits_of view.entry.shown.bytes.now view.entry.shown.marked) rest.at rest.left rest.index.0 view.entry.node.0 notes.old.rows notes.old.held result notes.new.held notes.new.rows }
 {
     let entries = Entries {
-        bytes: view.bytes,
+        view: view.shown,
         next: rest.at,
         left: rest.left,
     };
@@ -137,7 +137,7 @@ fn judge_missing(
 
 // A view is judged against the history, on a copy of its findings, by both walks.
 pub fn judge_view(history: Stored<'_>, view: View<'_>) -> JudgedView
-    ensures { ViewJudged history.entry.bytes.now view.entry.bytes.now view.entry.entries view.entry.node.0 result.missing result.notes.held result.rest result.notes.rows }
+    ensures { ViewJudged history.entry.bytes.now (bits_of view.entry.shown.bytes.now view.entry.shown.marked) view.entry.entries view.entry.node.0 result.missing result.notes.held result.rest result.notes.rows }
 {
     let bytes = history.bytes;
     let prefixes = Prefixes::of(bytes);

@@ -1,11 +1,13 @@
 // An accepted view is written: its prefixes, the node's row, the findings.
 ghost use Rattle.std.specs.Prelude.{◌≡◌, ◌<◌};
 ghost use Rattle.logical_log.specs.Writing.{Storing, StoredAs, view_replaced, rest_made, rest_written};
+ghost use Rattle.record_entries.specs.BitLayout.{bits_of};
 ghost use Rattle.model.specs.Sizes.{node_count};
 
 use crate::judging::FrontCursor;
 use log_prefix::prefix::{Extended, extend};
 use log_violation::violation::Notes;
+use record_entries::view::ViewBytes;
 use record_entries::walk::{Entries, last_index};
 use storage::rows::set;
 use storage_bytes::layout::History;
@@ -20,12 +22,12 @@ struct StoredFront {
 }
 
 // Each prefix of the front, from a place on, is stored once.
-fn store(history: &mut History, count: usize, view: &[u8], rest: FrontCursor) -> StoredFront
-    requires { Storing history.old count view.now rest }
-    ensures { StoredAs history.old count view.now rest result.front.0 result.made history.new }
+fn store(history: &mut History, count: usize, view: ViewBytes<'_>, rest: FrontCursor) -> StoredFront
+    requires { Storing history.old count (bits_of view.bytes.now view.marked) rest }
+    ensures { StoredAs history.old count (bits_of view.entry.bytes.now view.entry.marked) rest result.front.0 result.made history.new }
 {
     let entries = Entries {
-        bytes: view,
+        view,
         next: rest.at,
         left: rest.left,
     };
@@ -59,13 +61,13 @@ fn replace_view(history: &mut History, node: NodeId, front: LogPrefixWitness, la
 pub fn write_view(
     history: &mut History,
     count: usize,
-    view: &[u8],
+    view: ViewBytes<'_>,
     rest: FrontCursor,
     node: NodeId,
     notes: &Notes,
 ) -> usize
-    requires { Storing history.old count view.now rest × (node.0 < node_count) }
-    ensures { (result ≡ rest_made history.old count view.now rest) × (history.new ≡ rest_written history.old count view.now rest node.0 notes.now.rows notes.now.held) }
+    requires { Storing history.old count (bits_of view.bytes.now view.marked) rest × (node.0 < node_count) }
+    ensures { (result ≡ rest_made history.old count (bits_of view.entry.bytes.now view.entry.marked) rest) × (history.new ≡ rest_written history.old count (bits_of view.entry.bytes.now view.entry.marked) rest node.0 notes.now.rows notes.now.held) }
 {
     let stored = store(history, count, view, rest);
     let before = LogIndex(rest.index.0 - 1);

@@ -1,15 +1,18 @@
--- Document 01, "Prefix": a prefix is the entries 1 to n, and equality covers term and content at each index.
+-- Document 01, "Prefix": a prefix is the entries 1 to n, and equality covers term and content at each index; and the mark (T-09).
 -- So a prefix is a list of entries, its end is its length, and equality is equality of lists.
 -- docs/SCOPE.md, "Prefixes".
 -- Assumes nothing.
 use Rattle.std.specs.Prelude.{ℕ, min, ◌≡◌, refl, Bool, true, false, cond, ◌||◌, length, take}
 use Rattle.std.proofs.Math.Decide.{ℕ_discrete}
 use Rattle.std.proofs.Common.{ap}
+use mathlib.Core.Bool.{true≢false, false≢true}
 use mathlib.Core.List.{List, [], ◌∷◌, ◌++◌, nil≢cons, cons≢nil, head-eq_of_cons-eq, tail-eq_of_cons-eq}
 
--- an entry: its term and its content bytes. Its index is its place in the prefix.
+-- an entry: its term, its mark, yes for a configuration entry and no for a portion record, and its content bytes. Its index
+-- is its place in the prefix.
 pub record Entry : Type 0 where
   pub term : ℕ
+  pub configuration : Bool
   pub content : List ℕ
 
 -- the entries 1 to n
@@ -31,15 +34,21 @@ lists d [] (y ∷ ys) = no nil≢cons
 lists d (x ∷ xs) [] = no cons≢nil
 lists d (x ∷ xs) (y ∷ ys) = both (d x y) (lists d xs ys)
 
-fields : {a b : Entry} → Dec (a.term ≡ b.term) → Dec (a.content ≡ b.content) → Dec (a ≡ b)
-fields (yes p) (yes q) = yes (λ i. record { term = p i; content = q i })
-fields (yes p) (no q) = no (λ e. q (ap (λ (x : Entry). x.content) e))
-fields (no p) (yes q) = no (λ e. p (ap (λ (x : Entry). x.term) e))
-fields (no p) (no q) = no (λ e. p (ap (λ (x : Entry). x.term) e))
+unfoldable bools : Discrete Bool
+bools true true = yes refl
+bools true false = no true≢false
+bools false true = no false≢true
+bools false false = yes refl
+
+fields : {a b : Entry} → Dec (a.term ≡ b.term) → Dec (a.configuration ≡ b.configuration) → Dec (a.content ≡ b.content) → Dec (a ≡ b)
+fields (yes p) (yes m) (yes q) = yes (λ i. record { term = p i; configuration = m i; content = q i })
+fields (yes p) (yes m) (no q) = no (λ e. q (ap (λ (x : Entry). x.content) e))
+fields (yes p) (no m) q = no (λ e. m (ap (λ (x : Entry). x.configuration) e))
+fields (no p) m q = no (λ e. p (ap (λ (x : Entry). x.term) e))
 
 unfoldable pub entries : Discrete Entry
-unfolding fields lists ℕ_discrete
-entries a b = fields (ℕ_discrete a.term b.term) (lists ℕ_discrete a.content b.content)
+unfolding fields lists bools ℕ_discrete
+entries a b = fields (ℕ_discrete a.term b.term) (bools a.configuration b.configuration) (lists ℕ_discrete a.content b.content)
 
 unfoldable pub prefixes : Discrete Prefix
 unfolding lists entries

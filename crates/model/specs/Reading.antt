@@ -6,7 +6,7 @@
 -- looked at last.
 -- docs/SCOPE.md, "Records".
 -- Assumes nothing.
-use Rattle.std.specs.Prelude.{ℕ, zero, suc, ◌+◌, ◌-◌, ◌*◌, ◌/◌, ◌%◌, ◌^◌, Bool, cond, ◌&&◌, List, [], ◌∷◌, leb, ltb, eqb, length, get_or}
+use Rattle.std.specs.Prelude.{ℕ, zero, suc, ◌+◌, ◌-◌, ◌*◌, ◌/◌, ◌%◌, ◌^◌, Bool, true, false, cond, ◌&&◌, List, [], ◌∷◌, leb, ltb, eqb, length, get_or}
 use Rattle.model.specs.Sizes.{Bytes, index_limit, content_limit}
 use Rattle.model.specs.Refusal.{Refusal, unknownKind, bitsMissing, filling, outOfLimit, notAbove}
 use Rattle.model.specs.Record.{Shown, Configuration, Row, Record, view, commit, terms, election, check, rows}
@@ -124,15 +124,21 @@ many item key least (suc n) = do
   xs ← many item key (key x + 1) n
   return (x ∷ xs)
 
--- an entry of a view: index, term, content length, content
-unfoldable pub shown : ℕ → Reader Shown
-unfolding entry_index field limited content
-shown least = do
+-- an entry's mark: shown in kind 9, where yes is a configuration entry; in kind 1 each entry is a portion record
+unfoldable pub mark : Bool → Reader Bool
+unfolding yes_no
+mark marked = cond marked yes_no (return false)
+
+-- an entry of a view: index, term, mark, content length, content
+unfoldable pub shown : Bool → ℕ → Reader Shown
+unfolding entry_index field mark limited content
+shown marked least = do
   i ← entry_index least
   t ← term
+  m ← mark marked
   n ← content_length
   c ← content n
-  return (record { index = i; entry = record { term = t; content = c } })
+  return (record { index = i; entry = record { term = t; configuration = m; content = c } })
 
 -- a configuration: present, index, identity. An identity takes 32 bits, and has no limit but that.
 unfoldable pub configuration : Reader Configuration
@@ -155,13 +161,13 @@ row least = do
   ac ← configuration
   return (record { node = n; floor = f; commit = c; last = l; floor_configuration = fc; actual_configuration = ac })
 
--- 1 view: node, count, then the entries
-unfoldable pub view_fields : Reader Record
+-- 1 view, and 9 view with marks: node, count, then the entries
+unfoldable pub view_fields : Bool → Reader Record
 unfolding field limited many shown
-view_fields = do
+view_fields marked = do
   n ← node
   c ← index
-  es ← many shown (λ x. x.index) 0 c
+  es ← many (shown marked) (λ x. x.index) 0 c
   return (view n es)
 
 -- 2 commit: node, commit index
@@ -203,13 +209,14 @@ rows_fields = do
 unfoldable pub fields_of : ℕ → Reader Record
 unfolding view_fields commit_fields terms_fields election_fields rows_fields
 fields_of kind =
-    cond (eqb kind 1) view_fields
+    cond (eqb kind 1) (view_fields false)
     (cond (eqb kind 2) commit_fields
     (cond (eqb kind 3) terms_fields
     (cond (eqb kind 4) election_fields
     (cond (eqb kind 5) (return check)
     (cond (eqb kind 6) rows_fields
-    (λ s k. fault unknownKind))))))
+    (cond (eqb kind 9) (view_fields true)
+    (λ s k. fault unknownKind)))))))
 
 -- ---- the whole record
 

@@ -1,4 +1,4 @@
--- Document 01, "Record bits": the six kinds of records with their fields, and the front of a view.
+-- Document 01, "Record bits": the kinds of records with their fields, and the front of a view. Kinds 1 and 9 are views (T-09).
 -- docs/SCOPE.md, "Records".
 -- Assumes nothing.
 use Rattle.std.specs.Prelude.{ℕ, ◌+◌, Bool, cond, List, [], ◌∷◌, eqb}
@@ -23,7 +23,7 @@ pub record Row : Type 0 where
   pub actual_configuration : Configuration
 
 pub data Record : Type 0 where
-  -- 1 view: node, entries
+  -- 1 view, 9 view with marks: node, entries
   view : ℕ → List Shown → Record
   -- 2 commit: node, commit index
   commit : ℕ → ℕ → Record

@@ -5,7 +5,7 @@ use Prim.Native.Nat.{ℕ, ◌+◌, ◌-◌, ◌*◌, ◌^◌, ◌≤◌, ◌<◌
 use mathlib.Core.Path.{◌≡◌, refl, ap, sym, ◌∙◌, subst}
 use mathlib.Core.Bool.{Bool, true, false, cond}
 use mathlib.Core.List.{List}
-use native.Mathlib.Nat.{add_assoc}
+use native.Mathlib.Nat.{add_assoc, add-zero}
 use native.Mathlib.Omega.{arith}
 use borrow.Author.Tests.{leb-true, ltb-true}
 use lib.ListN.{length}
@@ -13,9 +13,9 @@ use lib.Dec.{leb, ltb, eqb}
 use Rattle.model.specs.Sizes.{Bytes}
 use Rattle.model.specs.Refusal.{Refusal, bitsMissing, outOfLimit, notAbove}
 use Rattle.model.specs.Record.{Shown, Configuration, Row}
-use Rattle.model.specs.Reading.{field_at, bytes_at, Part, got, fault, Reader, onward, require, return, field, limited, governed, yes_no, content, entry_index, row_node, shown, configuration, row}
+use Rattle.model.specs.Reading.{field_at, bytes_at, Part, got, fault, Reader, onward, require, return, field, limited, governed, yes_no, content, entry_index, row_node, mark, shown, configuration, row}
 use Rattle.record_bits.proofs.Widths.{field_lt}
-use Rattle.record_entries.specs.BitLayout.{index_at, term_at, length_at, content_at, next_at, shown_at, configuration_at, row_at, after_row}
+use Rattle.record_entries.specs.BitLayout.{ViewBits, bits_of, mark_width, length_place, content_place, index_at, term_at, mark_at, length_at, content_at, next_at, shown_at, configuration_at, row_at, after_row}
 
 -- ---- chains
 
@@ -169,44 +169,67 @@ module _ (s : Bytes) (k : ℕ) where
 
 -- ---- an entry
 
--- an entry that was read, with all that is known of it
-pub record Entered (s : Bytes) (least k : ℕ) (x : Shown) (j : ℕ) : Type 0 where
-  pub value : x ≡ shown_at s k
-  pub next : j ≡ next_at s k
-  pub positive : 0 < index_at s k
-  pub within : index_at s k ≤ 256
-  pub above : least ≤ index_at s k
-  pub short : length_at s k ≤ 32
-  pub whole : next_at s k ≤ 8 * length s
+-- a mark, and where it ends
+pub record Marked (m : Bool) (s : Bytes) (k : ℕ) (b : Bool) (j : ℕ) : Type 0 where
+  pub value : b ≡ cond m (eqb (field_at s k 1) 1) false
+  pub next : j ≡ k + mark_width m
 
-pub shown_is : (s : Bytes) (least k : ℕ) {x : Shown} {j : ℕ} → shown least s k ≡ got x j → Entered s least k x j
+pub mark_is : (m : Bool) (s : Bytes) (k : ℕ) {b : Bool} {j : ℕ} → mark m s k ≡ got b j → Marked m s k b j
+unfolding mark
+mark_is true s k e = let f = yes_no_is s k e in record { value = f.value; next = f.next }
+mark_is false s k e = let q = got_same e in record { value = q.0; next = q.1 ∙ sym (add-zero k) }
+
+pub mark_small : (m : Bool) → mark_width m ≤ 1
+mark_small true = omega arith
+mark_small false = omega arith
+
+-- an entry that was read, with all that is known of it
+pub record Entered (v : ViewBits) (least k : ℕ) (x : Shown) (j : ℕ) : Type 0 where
+  pub value : x ≡ shown_at v k
+  pub next : j ≡ next_at v k
+  pub positive : 0 < index_at v k
+  pub within : index_at v k ≤ 256
+  pub above : least ≤ index_at v k
+  pub short : length_at v k ≤ 32
+  pub whole : next_at v k ≤ 8 * length v.bytes
+
+pub shown_is : (m : Bool) (s : Bytes) (least k : ℕ) {x : Shown} {j : ℕ} → shown m least s k ≡ got x j
+    → Entered (bits_of s m) least k x j
 unfolding shown
-shown_is s least k e =
+shown_is m s least k e =
     after s (entry_index least s k) _ e (λ a₁ k₁ r₁ e₁.
     after s (field 32 s k₁) _ e₁ (λ a₂ k₂ r₂ e₂.
-    after s (limited 6 32 s k₂) _ e₂ (λ a₃ k₃ r₃ e₃.
-    after s (content a₃ s k₃) _ e₃ (λ a₄ k₄ r₄ e₄.
+    after s (mark m s k₂) _ e₂ (λ a₃ k₃ r₃ e₃.
+    after s (limited 6 32 s k₃) _ e₃ (λ a₄ k₄ r₄ e₄.
+    after s (content a₄ s k₄) _ e₄ (λ a₅ k₅ r₅ e₅.
+    let v = bits_of s m in
     let i = entry_index_is s k least r₁ in
     let t = field_is s k₁ 32 r₂ in
-    let n = limited_is s k₂ 6 32 r₃ in
-    let c = content_is s k₃ a₃ r₄ in
+    let y = mark_is m s k₂ r₃ in
+    let n = limited_is s k₃ 6 32 r₄ in
+    let c = content_is s k₄ a₄ r₅ in
     let p₁ = i.limited.field.next in
     let p₂ : k₂ ≡ k + 42 = further k 10 32 t.next p₁ in
-    let p₃ : k₃ ≡ k + 48 = further k 42 6 n.field.next p₂ in
+    let p₃ : k₃ ≡ k + length_place m = further k 42 (mark_width m) y.next p₂ in
+    let w : length_place m + 6 ≡ content_place m = omega arith in
+    let p₄ : k₄ ≡ k + content_place m = further k (length_place m) 6 n.field.next p₃ ∙ ap (λ (a : ℕ). k + a) w in
     let v₁ = i.limited.field.value in
-    let v₂ : a₂ ≡ term_at s k = t.value ∙ ap (λ (a : ℕ). field_at s a 32) p₁ in
-    let v₃ : a₃ ≡ length_at s k = n.field.value ∙ ap (λ (a : ℕ). field_at s a 6) p₂ in
-    let v₄ : a₄ ≡ content_at s k = c.value ∙ (λ i. bytes_at s (p₃ i) (v₃ i)) in
-    let p₄ : k₄ ≡ next_at s k = c.next ∙ (λ i. p₃ i + 8 * v₃ i) in
+    let v₂ : a₂ ≡ term_at v k = t.value ∙ ap (λ (a : ℕ). field_at s a 32) p₁ in
+    let v₃ : a₃ ≡ mark_at v k = y.value ∙ ap (λ (a : ℕ). cond m (eqb (field_at s a 1) 1) false) p₂ in
+    let v₄ : a₄ ≡ length_at v k = n.field.value ∙ ap (λ (a : ℕ). field_at s a 6) p₃ in
+    let v₅ : a₅ ≡ content_at v k = c.value ∙ (λ i. bytes_at s (p₄ i) (v₄ i)) in
+    let p₅ : k₅ ≡ next_at v k = c.next ∙ (λ i. p₄ i + 8 * v₄ i) in
     record {
-      value = (got_same e₄).0 ∙ (λ i. record { index = v₁ i; entry = record { term = v₂ i; content = v₄ i } });
-      next = (got_same e₄).1 ∙ p₄;
+      value =
+          (got_same e₅).0
+          ∙ (λ i. record { index = v₁ i; entry = record { term = v₂ i; configuration = v₃ i; content = v₅ i } });
+      next = (got_same e₅).1 ∙ p₅;
       positive = subst (λ (a : ℕ). 0 < a) v₁ i.positive;
       within = subst (λ (a : ℕ). a ≤ 256) v₁ i.limited.within;
       above = subst (λ (a : ℕ). least ≤ a) v₁ i.above;
-      short = subst (λ (a : ℕ). a ≤ 32) v₃ n.within;
-      whole = subst (λ (j : ℕ). j ≤ 8 * length s) (λ i. p₃ i + 8 * v₃ i) c.whole;
-    }))))
+      short = subst (λ (a : ℕ). a ≤ 32) v₄ n.within;
+      whole = subst (λ (j : ℕ). j ≤ 8 * length s) (λ i. p₄ i + 8 * v₄ i) c.whole;
+    })))))
 
 -- ---- a row
 

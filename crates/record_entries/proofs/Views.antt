@@ -15,7 +15,7 @@ use Rattle.model.specs.Refusal.{outOfLimit, notAbove}
 use Rattle.model.specs.Record.{Shown}
 use Rattle.model.specs.Reading.{Part, got, fault, require, limited, entry_index, shown, many}
 use Rattle.model.proofs.Tests.{tf, cond_true}
-use Rattle.record_entries.specs.BitLayout.{index_of, shown_at, next_at, Walk}
+use Rattle.record_entries.specs.BitLayout.{ViewBits, index_of, bits_of, shown_in, next_in, Walk}
 use Rattle.record_entries.proofs.Given.{went, required}
 use Rattle.record_entries.proofs.Listed.{walk_read}
 use Rattle.record_entries.proofs.Scanned.{entry_listed}
@@ -33,21 +33,24 @@ module _ (s : Bytes) where
       let q = required (leb least h.value) notAbove h.value h.place h.rest in
       rw (g.first, h.first) (cond_true (leb 0 h.value) _ _ (le-leb 0 h.value (omega arith)) ∙ (λ d. got (q.same d) (q.next d)))
 
-  entry_low : (least k : ℕ) {x : Shown} {j : ℕ} → shown least s k ≡ got x j → shown 0 s k ≡ got x j
-  unfolding shown
-  entry_low least k e = let g = went s (entry_index least s k) _ e in rw (index_low least k g.first) g.rest
+  module _ (m : Bool) where
+    entry_low : (least k : ℕ) {x : Shown} {j : ℕ} → shown m least s k ≡ got x j → shown m 0 s k ≡ got x j
+    unfolding shown
+    entry_low least k e = let g = went s (entry_index least s k) _ e in rw (index_low least k g.first) g.rest
 
-  entries_low : (least k n : ℕ) {xs : List Shown} {j : ℕ} → many shown index_of least n s k ≡ got xs j → many shown index_of 0 n s k ≡ got xs j
-  unfolding many
-  entries_low least k zero e = e
-  entries_low least k (suc n) e = let g = went s (shown least s k) _ e in rw (entry_low least k g.first) g.rest
+    entries_low : (least k n : ℕ) {xs : List Shown} {j : ℕ} → many (shown m) index_of least n s k ≡ got xs j
+        → many (shown m) index_of 0 n s k ≡ got xs j
+    unfolding many
+    entries_low least k zero e = e
+    entries_low least k (suc n) e = let g = went s (shown m least s k) _ e in rw (entry_low least k g.first) g.rest
 
-  read_walk : (k n : ℕ) → k + 304 * n ≤ 2 ^ 32 → (p : Part (List Shown)) → many shown index_of 0 n s k ≡ p → is_got p ≡ true → Walk s k n
-  read_walk k n h (got xs j) e t = walk_read shown index_of shown_at next_at 304 s (entry_listed s) 0 k n h e
-  read_walk k n h (fault r) e t = absurd (tf (sym t))
+    read_walk : (k n : ℕ) → k + 305 * n ≤ 2 ^ 32 → (p : Part (List Shown)) → many (shown m) index_of 0 n s k ≡ p → is_got p ≡ true
+        → Walk (bits_of s m) k n
+    read_walk k n h (got xs j) e t = walk_read (shown m) index_of (shown_in m) (next_in m) 305 s (entry_listed m s) 0 k n h e
+    read_walk k n h (fault r) e t = absurd (tf (sym t))
 
-  -- the walk that a view keeps
-  pub walked : (k n : ℕ) → ∥ Walk s k n ∥₁ → Walk s k n
-  walked k n w =
-      read_walk k n (∥∥₁_elim w le_prop (λ x. x.near)) (many shown index_of 0 n s k) refl
-      (∥∥₁_elim w (Bool-set _ _) (λ x. ap is_got (entries_low x.least k n x.reads)))
+-- the walk that a view keeps
+pub walked : (v : ViewBits) (k n : ℕ) → ∥ Walk v k n ∥₁ → Walk v k n
+walked v k n w =
+    read_walk v.bytes v.marked k n (∥∥₁_elim w le_prop (λ x. x.near)) (many (shown v.marked) index_of 0 n v.bytes k) refl
+    (∥∥₁_elim w (Bool-set _ _) (λ x. ap is_got (entries_low v.bytes v.marked x.least k n x.reads)))

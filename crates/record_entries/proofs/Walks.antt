@@ -10,7 +10,7 @@ use Rattle.std.specs.Prelude.{Some}
 use Rattle.model.specs.Sizes.{Bytes, content_limit}
 use Rattle.model.specs.Record.{last_from}
 use Rattle.model.specs.Reading.{shown, row}
-use Rattle.record_entries.specs.BitLayout.{index_of, node_of, shown_at, next_at, entries_at, index_at, length_at, content_at, row_at, after_row, rows_at, Walk, RowWalk}
+use Rattle.record_entries.specs.BitLayout.{ViewBits, index_of, node_of, content_place, shown_in, next_in, shown_at, next_at, entries_at, index_at, length_at, content_at, row_at, after_row, rows_at, Walk, RowWalk}
 use Rattle.record_entries.specs.declared.walk.ShownEntry.{ShownEntry}
 use Rattle.record_entries.specs.Values.{shown_entry, Here, RowHere, EntryTaken}
 use Rattle.record_bits.proofs.Widths.{bytes_length}
@@ -20,22 +20,25 @@ use Rattle.record_entries.proofs.Listed.{walk_item, walk_next, items_none, items
 
 -- With 0 < n left at bit k, the model's remaining entries are the one there and those after it
 
-module _ (s : Bytes) (k n : ℕ) where
+module _ (s : ViewBits) (k n : ℕ) where
   pub entries_none : n ≤ 0 → entries_at s k n ≡ []
-  entries_none h = items_none shown_at next_at s k n h
+  entries_none h = items_none (shown_in s.marked) (next_in s.marked) s.bytes k n h
 
   pub entries_next : 0 < n → entries_at s k n ≡ shown_at s k ∷ entries_at s (next_at s k) (n - 1)
-  entries_next h = items_next shown_at next_at s k n h
+  entries_next h = items_next (shown_in s.marked) (next_in s.marked) s.bytes k n h
 
   pub entries_length : length (entries_at s k n) ≡ n
-  entries_length = items_length shown_at next_at s k n
+  entries_length = items_length (shown_in s.marked) (next_in s.marked) s.bytes k n
 
   pub next_walk : Walk s k n → 0 < n → Walk s (next_at s k) (n - 1)
-  next_walk w h = walk_next shown index_of shown_at next_at 304 s (entry_listed s) k n w h
+  next_walk w h =
+      walk_next (shown s.marked) index_of (shown_in s.marked) (next_in s.marked) 305 s.bytes (entry_listed s.marked s.bytes) k n w h
 
   -- all that is known of the entry there
   pub walk_entered : (w : Walk s k n) → 0 < n → Entered s w.least k (shown_at s k) (next_at s k)
-  walk_entered w h = shown_is s w.least k (walk_item shown index_of shown_at next_at 304 s (entry_listed s) k n w h)
+  walk_entered w h =
+      shown_is s.marked s.bytes w.least k
+      (walk_item (shown s.marked) index_of (shown_in s.marked) (next_in s.marked) 305 s.bytes (entry_listed s.marked s.bytes) k n w h)
 
   -- what `entry_at`, `index_at` and `next_at` ask
   pub here : Walk s k n → 0 < n → Here s k
@@ -44,32 +47,33 @@ module _ (s : Bytes) (k n : ℕ) where
       record { near = omega (arith, w.near); short = e.short; whole = e.whole }
 
 -- what an iterator of entries took from the bytes s, at bit k with n left
-pub record Taken (s : Bytes) (k n : ℕ) (e : ShownEntry) (t : Bytes) (j m : ℕ) : Type 0 where
+pub record Taken (s : ViewBits) (k n : ℕ) (e : ShownEntry) (t : ViewBits) (j m : ℕ) : Type 0 where
   pub some : 0 < n
   pub is : e ≡ shown_entry s k
-  pub bytes : t ≡ s
+  pub view : t ≡ s
   pub next : j ≡ e.next
   pub left : m ≡ n - 1
 
-pub entry_taken : {s b : Bytes} (same : b ≡ s) {k n j m : ℕ} {e : ShownEntry} {t : Bytes} → EntryTaken b k n (Some e) t j m → Taken s k n e t j m
+pub entry_taken : {s b : ViewBits} (same : b ≡ s) {k n j m : ℕ} {e : ShownEntry} {t : ViewBits} → EntryTaken b k n (Some e) t j m → Taken s k n e t j m
 entry_taken same {k} took =
     record {
       some = omega (arith, took.3);
-      is = took.0 ∙ ap (λ (x : Bytes). shown_entry x k) same;
-      bytes = took.1 ∙ same;
+      is = took.0 ∙ ap (λ (x : ViewBits). shown_entry x k) same;
+      view = took.1 ∙ same;
       next = took.2 ∙ sym (ap (λ (x : ShownEntry). x.next) took.0);
       left = omega (arith, took.3);
     }
 
 -- the model's content is the first `length` bytes of the array
-pub entry_content : (s : Bytes) (k : ℕ) → take (length_at s k) (shown_entry s k).content ≡ (shown_at s k).entry.content
-entry_content s k = take_at (content_at s k) _ (length_at s k) (bytes_length s (k + 48) (length_at s k))
+pub entry_content : (s : ViewBits) (k : ℕ) → take (length_at s k) (shown_entry s k).content ≡ (shown_at s k).entry.content
+entry_content s k = take_at (content_at s k) _ (length_at s k) (bytes_length s.bytes (k + content_place s.marked) (length_at s k))
 
 -- the array is as long as the longest content
-pub entry_length : (s : Bytes) (k : ℕ) → length_at s k ≤ content_limit → length (shown_entry s k).content ≡ content_limit
+pub entry_length : (s : ViewBits) (k : ℕ) → length_at s k ≤ content_limit → length (shown_entry s k).content ≡ content_limit
 entry_length s k h =
     let n : ℕ = length_at s k in
-    length-append (content_at s k) (replicate (content_limit - n) 0) ∙ omega (arith, bytes_length s (k + 48) n, length-replicate {A = ℕ} (content_limit - n) 0)
+    length-append (content_at s k) (replicate (content_limit - n) 0)
+    ∙ omega (arith, bytes_length s.bytes (k + content_place s.marked) n, length-replicate {A = ℕ} (content_limit - n) 0)
 
 -- the same for rows
 
@@ -95,7 +99,7 @@ module _ (s : Bytes) (k n : ℕ) where
 
 -- ---- the last index, entry by entry
 
-module _ (s : Bytes) (k n : ℕ) where
+module _ (s : ViewBits) (k n : ℕ) where
   pub last_next : {t : ℕ} (m i : ℕ) → t ≡ last_from m (entries_at s k n) → 0 < n → i ≡ index_at s k
       → t ≡ last_from i (entries_at s (next_at s k) (n - 1))
   unfolding last_from

@@ -1,7 +1,7 @@
 -- The entries and rows of a record by their bits: what stands at a bit, with no faults. Where the record is readable, this
 -- is what the model reads.
 -- Assumes nothing.
-use Rattle.std.specs.Prelude.{ℕ, zero, suc, ◌+◌, ◌*◌, ◌^◌, ◌≤◌, ◌≡◌, List, [], ◌∷◌, eqb}
+use Rattle.std.specs.Prelude.{ℕ, zero, suc, ◌+◌, ◌*◌, ◌^◌, ◌≤◌, ◌≡◌, Bool, false, cond, List, [], ◌∷◌, eqb}
 use Rattle.model.specs.Sizes.{Bytes}
 use Rattle.model.specs.Record.{Shown, Configuration, Row}
 use Rattle.model.specs.Reading.{field_at, bytes_at, got, Reader, many, shown, row}
@@ -25,30 +25,68 @@ unfoldable pub end_at : (Bytes → ℕ → ℕ) → Bytes → ℕ → ℕ → �
 end_at next s k zero = k
 end_at next s k (suc n) = end_at next s (next s k) n
 
--- ---- entries: index, term, content length, content
+-- ---- entries: index, term, mark, content length, content
 
-abbrev pub index_at : Bytes → ℕ → ℕ
-index_at s k = field_at s k 10
+-- a view's bytes, and whether each entry shows its mark there, as in kind 9
+pub record ViewBits : Type 0 where
+  pub bytes : Bytes
+  pub marked : Bool
 
-abbrev pub term_at : Bytes → ℕ → ℕ
-term_at s k = field_at s (k + 10) 32
+abbrev pub bits_of : Bytes → Bool → ViewBits
+bits_of s m = record { bytes = s; marked = m }
 
-abbrev pub length_at : Bytes → ℕ → ℕ
-length_at s k = field_at s (k + 42) 6
+-- a record of kind 9
+abbrev pub is_marked : Bytes → Bool
+is_marked s = eqb (field_at s 0 4) 9
 
-abbrev pub content_at : Bytes → ℕ → List ℕ
-content_at s k = bytes_at s (k + 48) (length_at s k)
+-- a record as a view of its kind
+abbrev pub view_bits : Bytes → ViewBits
+view_bits s = bits_of s (is_marked s)
+
+-- the bits of a mark
+abbrev pub mark_width : Bool → ℕ
+mark_width m = cond m 1 0
+
+-- where an entry's content length stands in it, and where its content does
+abbrev pub length_place : Bool → ℕ
+length_place m = 42 + mark_width m
+
+abbrev pub content_place : Bool → ℕ
+content_place m = 48 + mark_width m
+
+abbrev pub index_at : ViewBits → ℕ → ℕ
+index_at v k = field_at v.bytes k 10
+
+abbrev pub term_at : ViewBits → ℕ → ℕ
+term_at v k = field_at v.bytes (k + 10) 32
+
+abbrev pub mark_at : ViewBits → ℕ → Bool
+mark_at v k = cond v.marked (eqb (field_at v.bytes (k + 42) 1) 1) false
+
+abbrev pub length_at : ViewBits → ℕ → ℕ
+length_at v k = field_at v.bytes (k + length_place v.marked) 6
+
+abbrev pub content_at : ViewBits → ℕ → List ℕ
+content_at v k = bytes_at v.bytes (k + content_place v.marked) (length_at v k)
 
 -- the bit after the entry
-abbrev pub next_at : Bytes → ℕ → ℕ
-next_at s k = k + 48 + 8 * length_at s k
+abbrev pub next_at : ViewBits → ℕ → ℕ
+next_at v k = k + content_place v.marked + 8 * length_at v k
 
-abbrev pub shown_at : Bytes → ℕ → Shown
-shown_at s k = record { index = index_at s k; entry = record { term = term_at s k; content = content_at s k } }
+abbrev pub shown_at : ViewBits → ℕ → Shown
+shown_at v k =
+    record { index = index_at v k; entry = record { term = term_at v k; configuration = mark_at v k; content = content_at v k } }
+
+-- the entry and the bit after it, of any bytes
+abbrev pub shown_in : Bool → Bytes → ℕ → Shown
+shown_in m s k = shown_at (bits_of s m) k
+
+abbrev pub next_in : Bool → Bytes → ℕ → ℕ
+next_in m s k = next_at (bits_of s m) k
 
 -- n entries from bit k on
-abbrev pub entries_at : Bytes → ℕ → ℕ → List Shown
-entries_at s k n = items_at shown_at next_at s k n
+abbrev pub entries_at : ViewBits → ℕ → ℕ → List Shown
+entries_at v k n = items_at (shown_in v.marked) (next_in v.marked) v.bytes k n
 
 -- ---- rows: node, floor, commit, last index, floor configuration, actual configuration
 
@@ -86,8 +124,8 @@ pub record Listed {A : Type 0} (item : ℕ → Reader A) (key : A → ℕ) (at :
   pub reads : many item key least n s k ≡ got (items_at at next s k n) (end_at next s k n)
 
 -- the n entries from bit k on
-abbrev pub Walk : Bytes → ℕ → ℕ → Type 0
-Walk s k n = Listed shown index_of shown_at next_at 304 s k n
+abbrev pub Walk : ViewBits → ℕ → ℕ → Type 0
+Walk v k n = Listed (shown v.marked) index_of (shown_in v.marked) (next_in v.marked) 305 v.bytes k n
 
 -- the n rows from bit k on
 abbrev pub RowWalk : Bytes → ℕ → ℕ → Type 0

@@ -7,28 +7,29 @@ use Rattle.model.specs.Reading.{field_at}
 use Rattle.record_entries.specs.declared.walk.ShownEntry.{ShownEntry}
 use Rattle.record_entries.specs.declared.walk.Configuration.{Configuration}
 use Rattle.record_entries.specs.declared.walk.Row.{Row}
-use Rattle.record_entries.specs.BitLayout.{index_at, term_at, length_at, content_at, next_at, after_row}
+use Rattle.record_entries.specs.BitLayout.{ViewBits, index_at, term_at, mark_at, length_at, content_at, next_at, after_row}
 
 -- n bytes, and zeros up to the most that an entry has
 abbrev pub padded : List ℕ → ℕ → List ℕ
 padded bs n = bs ++ replicate (content_limit - n) 0
 
 -- the entry at bit k
-abbrev pub shown_entry : Bytes → ℕ → ShownEntry
-shown_entry s k =
+abbrev pub shown_entry : ViewBits → ℕ → ShownEntry
+shown_entry v k =
     record {
-      index = record { 0 = index_at s k };
-      term = record { 0 = term_at s k };
-      length = length_at s k;
-      content = padded (content_at s k) (length_at s k);
-      next = next_at s k;
+      index = record { 0 = index_at v k };
+      term = record { 0 = term_at v k };
+      configuration = mark_at v k;
+      length = length_at v k;
+      content = padded (content_at v k) (length_at v k);
+      next = next_at v k;
     }
 
 -- an entry stands at bit k: what a walk knows of each of its entries
-pub record Here (s : Bytes) (k : ℕ) : Type 0 where
+pub record Here (v : ViewBits) (k : ℕ) : Type 0 where
   pub near : k ≤ 2 ^ 32
-  pub short : length_at s k ≤ content_limit
-  pub whole : next_at s k ≤ 8 * length s
+  pub short : length_at v k ≤ content_limit
+  pub whole : next_at v k ≤ 8 * length v.bytes
 
 -- the configuration at bit k, where one is present
 abbrev pub configuration_value : Bytes → ℕ → Option Configuration
@@ -54,6 +55,6 @@ pub record RowHere (s : Bytes) (k : ℕ) : Type 0 where
   pub whole : after_row s k ≤ 8 * length s
 
 -- a step of a walk: with none left there is none to give, and else the entry at bit k, with the walk moved past it
-abbrev pub EntryTaken : Bytes → ℕ → ℕ → Option ShownEntry → Bytes → ℕ → ℕ → Type 0
-EntryTaken s k n None t j m = (n ≡ 0) × (t ≡ s) × (j ≡ k) × (m ≡ n)
-EntryTaken s k n (Some e) t j m = (e ≡ shown_entry s k) × (t ≡ s) × (j ≡ next_at s k) × (n ≡ suc m)
+abbrev pub EntryTaken : ViewBits → ℕ → ℕ → Option ShownEntry → ViewBits → ℕ → ℕ → Type 0
+EntryTaken v k n None t j m = (n ≡ 0) × (t ≡ v) × (j ≡ k) × (m ≡ n)
+EntryTaken v k n (Some e) t j m = (e ≡ shown_entry v k) × (t ≡ v) × (j ≡ next_at v k) × (n ≡ suc m)

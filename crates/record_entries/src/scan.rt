@@ -1,11 +1,11 @@
 // The entries of a view and the rows, looked at from the left for their first fault. Of an item that is passed over its key, the
 // entry's index or the row's node, is kept, and the bit after it; contents are not read here. Each field's bit is counted from the
 // item's: a field asks nothing of its place, and a reader that moves would.
-ghost use Rattle.std.specs.Prelude.{ℕ, ◌≡◌, ◌+◌, ◌*◌, ◌^◌, ◌≤◌, IfOk};
+ghost use Rattle.std.specs.Prelude.{ℕ, ◌≡◌, ◌+◌, ◌*◌, ◌^◌, ◌≤◌, IfOk, true, false};
 ghost use Rattle.model.specs.Record as model;
 ghost use Rattle.model.specs.Reading as reading;
 ghost use Rattle.record_entries.specs.Scans.{keyed, ended, scan_part, end_part, done_part};
-ghost use Rattle.record_entries.specs.BitLayout.{index_of, node_of};
+ghost use Rattle.record_entries.specs.BitLayout.{index_of, node_of, mark_width};
 ghost use Rattle.model.specs.Sizes.{index_limit};
 
 use record_bits::bits::{Fault, holds};
@@ -38,36 +38,79 @@ pub trait Item {
         ensures near { IfOk result (λ p. (p.key ≤ index_limit) × (p.next ≤ at + size)) };
 }
 
-// An entry: index, term, content length, content.
+// An entry: index, term, mark, content length, content. A mark has a bit where it is shown, as in kind 9.
+#[tactic(auto, unfolding(model::specs::Reading::shown, model::specs::Reading::mark, model::specs::Reading::yes_no))]
+fn pass_entry(s: &[u8], at: usize, least: u64, marked: bool) -> Result<Passed, Fault>
+    requires { at ≤ 2 ^ 32 }
+    ensures reads { keyed index_of (reading.shown marked least s.now at) ≡ scan_part result }
+    ensures near { IfOk result (λ p. (p.key ≤ index_limit) × (p.next ≤ at + 305)) }
+{
+    let i = entry_index(s, at, least)?;
+    let a = at + 10;
+    if !holds(s, a, 32) {
+        return Err(Fault::BitsMissing);
+    }
+    let b = a + 32;
+    let c = pass_mark(s, b, marked)?;
+    let n = limited(s, c, 6, CONTENT_MOST)?;
+    let d = c + 6;
+    let w = 8 * n as usize;
+    if !holds(s, d, w) {
+        return Err(Fault::BitsMissing);
+    }
+    Ok(Passed {
+        key: i,
+        next: d + w,
+    })
+}
+
+// The bit after a mark.
+#[tactic(auto, unfolding(model::specs::Reading::mark, model::specs::Reading::yes_no))]
+fn pass_mark(s: &[u8], at: usize, marked: bool) -> Result<usize, Fault>
+    requires { at ≤ 2 ^ 33 }
+    ensures reads { ended (reading.mark marked s.now at) ≡ end_part result }
+    ensures near { IfOk result (λ k. k ≡ at + mark_width marked) }
+{
+    if !marked {
+        return Ok(at);
+    }
+    if !holds(s, at, 1) {
+        return Err(Fault::BitsMissing);
+    }
+    Ok(at + 1)
+}
+
+// An entry of kind 1.
 pub struct Entry;
 
 impl Item for Entry {
     ghost Value = { model.Shown };
 
-    ghost read = { reading.shown };
+    ghost read = { reading.shown false };
 
     ghost key = { index_of };
 
-    ghost size = { 304 };
+    ghost size = { 305 };
 
-    #[tactic(auto, unfolding(model::specs::Reading::shown))]
     fn pass(s: &[u8], at: usize, least: u64) -> Result<Passed, Fault> {
-        let i = entry_index(s, at, least)?;
-        let a = at + 10;
-        if !holds(s, a, 32) {
-            return Err(Fault::BitsMissing);
-        }
-        let b = a + 32;
-        let n = limited(s, b, 6, CONTENT_MOST)?;
-        let c = b + 6;
-        let w = 8 * n as usize;
-        if !holds(s, c, w) {
-            return Err(Fault::BitsMissing);
-        }
-        Ok(Passed {
-            key: i,
-            next: c + w,
-        })
+        pass_entry(s, at, least, false)
+    }
+}
+
+// An entry of kind 9.
+pub struct MarkedEntry;
+
+impl Item for MarkedEntry {
+    ghost Value = { model.Shown };
+
+    ghost read = { reading.shown true };
+
+    ghost key = { index_of };
+
+    ghost size = { 305 };
+
+    fn pass(s: &[u8], at: usize, least: u64) -> Result<Passed, Fault> {
+        pass_entry(s, at, least, true)
     }
 }
 
@@ -130,4 +173,16 @@ pub fn scan_items<I: Item>(s: &[u8], first: usize, count: usize) -> Result<usize
         at = passed.next;
     }
     Ok(at)
+}
+
+// The entries of a view of `count`, each with its mark where the view shows them.
+pub fn scan_entries(s: &[u8], first: usize, count: usize, marked: bool) -> Result<usize, Fault>
+    requires { first + 305 * count ≤ 2 ^ 32 }
+    ensures { ended (reading.many (reading.shown marked) index_of 0 count s.now first) ≡ end_part result }
+{
+    if marked {
+        scan_items::<MarkedEntry>(s, first, count)
+    } else {
+        scan_items::<Entry>(s, first, count)
+    }
 }

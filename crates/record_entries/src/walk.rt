@@ -1,13 +1,16 @@
 // The entries and rows of a readable record, by value, each with the bit after it, and the last index of a view. A walk
 // starts at FIRST_ENTRY or FIRST_ROW with the count that `record_reading::head::read` gave.
-ghost use Rattle.std.specs.Prelude.{◌≡◌, ◌+◌, ◌*◌, ◌^◌, ◌≤◌, length, take};
+ghost use Rattle.std.specs.Prelude.{◌≡◌, ◌+◌, ◌*◌, ◌^◌, ◌≤◌, cond, length, take};
 ghost use Rattle.model.specs.Reading as reading;
+ghost use Rattle.model.specs.Reading.{field_at};
 ghost use Rattle.model.specs.Record as model;
 ghost use Rattle.record_entries.specs.BitLayout as places;
+ghost use Rattle.record_entries.specs.BitLayout.{bits_of};
 ghost use Rattle.record_entries.specs.Values.{padded, shown_entry, configuration_value, row_value, Here, RowHere, EntryTaken};
 ghost use Rattle.std.specs.Iterator.{at_most};
 ghost use Rattle.model.specs.Sizes.{content_limit};
 
+use crate::view::ViewBytes;
 use record_bits::bits::bits_at;
 use units::{CONTENT_LIMIT, LogIndex, NodeId, Term};
 
@@ -26,6 +29,7 @@ pub struct ShownEntry {
     pub content: [u8; CONTENT_LIMIT],
     pub index: LogIndex,
     pub term: Term,
+    pub configuration: bool,
     pub length: u8,
     pub next: usize,
 }
@@ -37,6 +41,13 @@ impl ShownEntry {
         ensures { result.now ≡ take self.now.length self.now.content }
     {
         &self.content[..usize::from(self.length)]
+    }
+
+    // Its mark as it is stored: 1 for a configuration entry, 0 for a portion record.
+    pub fn mark(&self) -> u8
+        ensures { result ≡ cond self.now.configuration 1 0 }
+    {
+        u8::from(self.configuration)
     }
 }
 
@@ -79,37 +90,68 @@ fn content_at(s: &[u8], at: usize, n: usize) -> [u8; CONTENT_LIMIT]
 
 // The index of the entry at bit `at`. Readers of one entry ask that its bits are there: a type of such places would be made at each step
 // of a walk.
-pub fn index_at(s: &[u8], at: usize) -> LogIndex
-    requires { Here s.now at }
-    ensures { result.0 ≡ places.index_at s.now at }
+pub fn index_at(view: ViewBytes<'_>, at: usize) -> LogIndex
+    requires { Here (bits_of view.bytes.now view.marked) at }
+    ensures { result.0 ≡ places.index_at (bits_of view.entry.bytes.now view.entry.marked) at }
 {
-    LogIndex(bits_at(s, at, 10) as usize)
+    LogIndex(bits_at(view.bytes, at, 10) as usize)
 }
 
 // The bit after the entry at bit `at`.
-pub fn next_at(s: &[u8], at: usize) -> usize
-    requires { Here s.now at }
-    ensures { result ≡ places.next_at s.now at }
+pub fn next_at(view: ViewBytes<'_>, at: usize) -> usize
+    requires { Here (bits_of view.bytes.now view.marked) at }
+    ensures { result ≡ places.next_at (bits_of view.entry.bytes.now view.entry.marked) at }
 {
-    at + 48 + 8 * bits_at(s, at + 42, 6) as usize
+    let m = usize::from(view.marked);
+    at + (48 + m) + 8 * bits_at(view.bytes, at + (42 + m), 6) as usize
 }
 
-// The entry at bit `at`. Its index, term and content length are 48 bits, taken at once.
-#[tactic(auto, using(record_bits::proofs::Widths::head_parts))]
-pub fn entry_at(s: &[u8], at: usize) -> ShownEntry
-    requires { Here s.now at }
-    ensures { result ≡ shown_entry s.now at }
+// An entry's mark and its content length, of which the mark stands first where it is shown.
+#[derive(Clone, Copy)]
+struct Tail {
+    configuration: bool,
+    length: u8,
+}
+
+// They of the entry at bit `at`, the 48 bits from there being `head`.
+#[tactic(auto, using(crate::proofs::Tails::unmarked, crate::proofs::Tails::unmarked_length, crate::proofs::Tails::marked_mark, crate::proofs::Tails::marked_length))]
+fn tail_at(view: ViewBytes<'_>, at: usize, head: u64) -> Tail
+    requires { Here (bits_of view.bytes.now view.marked) at × (head ≡ field_at view.bytes.now at 48) }
+    ensures configuration { result.configuration ≡ places.mark_at (bits_of view.entry.bytes.now view.entry.marked) at }
+    ensures length { result.length ≡ places.length_at (bits_of view.entry.bytes.now view.entry.marked) at }
 {
-    let head = bits_at(s, at, 48);
-    let length = (head % 64) as u8;
-    let n = usize::from(length);
-    let content = content_at(s, at + 48, n);
+    if !view.marked {
+        return Tail {
+            configuration: false,
+            length: (head % 64) as u8,
+        };
+    }
+    let tail = bits_at(view.bytes, at + 42, 7);
+    Tail {
+        configuration: tail >= 64,
+        length: (tail % 64) as u8,
+    }
+}
+
+// The entry at bit `at`. Its index, its term and the six bits after them are taken at once: its content length, or where its mark
+// is shown that and the length's first bits.
+#[tactic(auto, using(record_bits::proofs::Widths::head_parts))]
+pub fn entry_at(view: ViewBytes<'_>, at: usize) -> ShownEntry
+    requires { Here (bits_of view.bytes.now view.marked) at }
+    ensures { result ≡ shown_entry (bits_of view.entry.bytes.now view.entry.marked) at }
+{
+    let head = bits_at(view.bytes, at, 48);
+    let tail = tail_at(view, at, head);
+    let n = usize::from(tail.length);
+    let first = at + (48 + usize::from(view.marked));
+    let content = content_at(view.bytes, first, n);
     ShownEntry {
         content,
         index: LogIndex((head >> 38) as usize),
         term: Term(((head >> 6) % 4294967296) as u32),
-        length,
-        next: at + 48 + 8 * n,
+        configuration: tail.configuration,
+        length: tail.length,
+        next: first + 8 * n,
     }
 }
 
@@ -117,7 +159,7 @@ pub fn entry_at(s: &[u8], at: usize) -> ShownEntry
 // place along its front.
 #[derive(Drop)]
 pub struct Entries<'a> {
-    pub bytes: &'a [u8],
+    pub view: ViewBytes<'a>,
     pub next: usize,
     pub left: usize,
 }
@@ -125,18 +167,17 @@ pub struct Entries<'a> {
 impl<'a> Iterator for Entries<'a> {
     type Item = ShownEntry;
 
-    ghost can_next = { λ w. places.Walk w.bytes.now w.next w.left };
+    ghost can_next = { λ w. places.Walk (bits_of w.view.bytes.now w.view.marked) w.next w.left };
 
-    ghost next_gives = { λ w r t. EntryTaken w.bytes.now w.next w.left r t.bytes.now t.next t.left };
+    ghost next_gives = { λ w r t. EntryTaken (bits_of w.view.bytes.now w.view.marked) w.next w.left r (bits_of t.view.bytes.now t.view.marked) t.next t.left };
 
     ghost remaining = { λ w. at_most w.left };
 
-    #[tactic(auto, using(crate::proofs::Walks::here))]
     fn next(&mut self) -> Option<ShownEntry> {
         if self.left == 0 {
             return None;
         }
-        let e = entry_at(self.bytes, self.next);
+        let e = entry_at(self.view, self.next);
         self.next = e.next;
         self.left -= 1;
         Some(e)
@@ -184,16 +225,15 @@ pub fn row_at(s: &[u8], at: usize) -> Row
 
 // The index of the last of `count` entries from bit `from` on, past a gap too; `before` where there is none. It reads the indexes alone:
 // `Entries` would copy each content.
-#[tactic(auto, using(crate::proofs::Walks::here, crate::proofs::Walks::last_end))]
-pub fn last_index(s: &[u8], from: usize, count: usize, before: LogIndex) -> LogIndex
-    requires { places.Walk s.now from count }
-    ensures { result.0 ≡ model.last_from before.0 (places.entries_at s.now from count) }
+pub fn last_index(view: ViewBytes<'_>, from: usize, count: usize, before: LogIndex) -> LogIndex
+    requires { places.Walk (bits_of view.bytes.now view.marked) from count }
+    ensures { result.0 ≡ model.last_from before.0 (places.entries_at (bits_of view.entry.bytes.now view.entry.marked) from count) }
 {
     let mut at = from;
     let mut last = before;
     for _ in 0..count {
-        last = index_at(s, at);
-        at = next_at(s, at);
+        last = index_at(view, at);
+        at = next_at(view, at);
     }
     last
 }

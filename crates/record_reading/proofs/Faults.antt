@@ -10,7 +10,7 @@ use lib.ListN.{length}
 use Rattle.model.specs.Sizes.{Bytes, index_limit}
 use Rattle.model.specs.Refusal.{Refusal, bitsMissing, filling, outOfLimit, notAbove}
 use Rattle.model.specs.Record.{Shown, Row, Record, view, commit, terms, election, check, rows}
-use Rattle.model.specs.Reading.{Reading, readable, unreadable, Part, got, fault, Reader, onward, field_at, bytes_at, field, limited, yes_no, content, governed, entry_index, row_node, many, shown, configuration, row, view_fields, commit_fields, terms_fields, election_fields, rows_fields, fields_of, filled, finish, record_fields, read}
+use Rattle.model.specs.Reading.{Reading, readable, unreadable, Part, got, fault, Reader, onward, field_at, bytes_at, field, limited, yes_no, content, governed, entry_index, row_node, many, mark, shown, configuration, row, view_fields, commit_fields, terms_fields, election_fields, rows_fields, fields_of, filled, finish, record_fields, read}
 use Rattle.record_bits.specs.Answers.{refusal_of}
 use Rattle.record_reading.specs.Heads.{fault_of, reading_of, head_of, Told}
 use Rattle.record_reading.proofs.Readable.{view_read, rows_read, told, election_read}
@@ -87,13 +87,19 @@ module _ (s : Bytes) where
       onward_plain s (item least s k) _ (f least k) (λ x j.
       onward_plain s (many item key (key x + 1) n s j) _ (many_plain item key f n (key x + 1) j) (λ xs l. got_plain _ _))
 
-  shown_plain : (least k : ℕ) → Plain (shown least s k)
+  mark_plain : (m : Bool) (k : ℕ) → Plain (mark m s k)
+  unfolding mark
+  mark_plain true k = yes_no_plain k
+  mark_plain false k = got_plain _ _
+
+  shown_plain : (m : Bool) (least k : ℕ) → Plain (shown m least s k)
   unfolding shown
-  shown_plain least k =
+  shown_plain m least k =
       onward_plain s (entry_index least s k) _ (entry_index_plain least k) (λ i k₁.
       onward_plain s (field 32 s k₁) _ (field_plain 32 k₁) (λ t k₂.
-      onward_plain s (limited 6 32 s k₂) _ (limited_plain 6 32 k₂) (λ n k₃.
-      onward_plain s (content n s k₃) _ (content_plain n k₃) (λ c k₄. got_plain _ _))))
+      onward_plain s (mark m s k₂) _ (mark_plain m k₂) (λ b k₃.
+      onward_plain s (limited 6 32 s k₃) _ (limited_plain 6 32 k₃) (λ n k₄.
+      onward_plain s (content n s k₄) _ (content_plain n k₄) (λ c k₅. got_plain _ _)))))
 
   configuration_plain : (k : ℕ) → Plain (configuration s k)
   unfolding configuration
@@ -114,12 +120,12 @@ module _ (s : Bytes) where
 
   -- ---- kinds
 
-  view_plain : (k : ℕ) → Plain (view_fields s k)
+  view_plain : (m : Bool) (k : ℕ) → Plain (view_fields m s k)
   unfolding view_fields
-  view_plain k =
+  view_plain m k =
       onward_plain s (field 6 s k) _ (field_plain 6 k) (λ n k₁.
       onward_plain s (limited 10 index_limit s k₁) _ (limited_plain 10 index_limit k₁) (λ c k₂.
-      onward_plain s (many shown _ 0 c s k₂) _ (many_plain shown _ shown_plain c 0 k₂) (λ es k₃. got_plain _ _)))
+      onward_plain s (many (shown m) _ 0 c s k₂) _ (many_plain (shown m) _ (shown_plain m) c 0 k₂) (λ es k₃. got_plain _ _)))
 
   commit_plain : (k : ℕ) → Plain (commit_fields s k)
   unfolding commit_fields
@@ -155,12 +161,13 @@ module _ (s : Bytes) where
   kind_plain : (kind k : ℕ) → Plain (fields_of kind s k)
   unfolding fields_of
   kind_plain kind k =
-      pick_plain (eqb kind 1) _ _ k (view_plain k)
+      pick_plain (eqb kind 1) _ _ k (view_plain false k)
       (pick_plain (eqb kind 2) _ _ k (commit_plain k)
       (pick_plain (eqb kind 3) _ _ k (terms_plain k)
       (pick_plain (eqb kind 4) _ _ k (election_plain k)
       (pick_plain (eqb kind 5) _ _ k (got_plain check k)
-      (pick_plain (eqb kind 6) _ _ k (rows_plain k) (fault_plain Record _ refl))))))
+      (pick_plain (eqb kind 6) _ _ k (rows_plain k)
+      (pick_plain (eqb kind 9) _ _ k (view_plain true k) (fault_plain Record _ refl)))))))
 
   -- ---- the whole record
 

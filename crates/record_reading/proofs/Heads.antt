@@ -16,7 +16,7 @@ use Rattle.units.specs.declared.Term.{Term}
 use Rattle.record_bits.specs.declared.bits.Fault.{Fault}
 use Rattle.record_reading.specs.declared.head.Head.{Head}
 use Rattle.record_bits.specs.Answers.{refusal_of, part_of, unit_part}
-use Rattle.record_entries.specs.BitLayout.{shown_at, next_at, row_at, after_row, first_entry, first_row}
+use Rattle.record_entries.specs.BitLayout.{is_marked, shown_in, next_in, row_at, after_row, first_entry, first_row}
 use Rattle.record_reading.specs.Heads.{reading_of, finished, head_of, fault_of}
 use Rattle.record_entries.proofs.Listed.{items_length}
 
@@ -42,7 +42,7 @@ option_back (Some n) = refl
 
 -- an answer that stands for what the model reads is the model's
 pub head_back : (s : Bytes) (r : Result Head Fault) → r ≡ head_of (reading_of s r)
-head_back s (Ok (Head.View n c)) = ap (λ (c : ℕ). Ok (Head.View n c)) (sym (items_length shown_at next_at s first_entry c))
+head_back s (Ok (Head.View n c)) = ap (λ (c : ℕ). Ok (Head.View n c)) (sym (items_length (shown_in (is_marked s)) (next_in (is_marked s)) s first_entry c))
 head_back s (Ok (Head.Commit n i)) = refl
 head_back s (Ok (Head.Terms x)) = refl
 head_back s (Ok (Head.Election x)) = ap (λ (n : Option ℕ). Ok (Head.Election (record { leader = x.leader; term = x.term; length = n }))) (option_back x.length)

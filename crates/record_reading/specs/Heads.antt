@@ -9,11 +9,11 @@ use Rattle.model.specs.Sizes.{Bytes, node_count, index_limit}
 use Rattle.record_bits.specs.declared.bits.Fault.{Fault}
 use Rattle.record_reading.specs.declared.head.Head.{Head}
 use Rattle.record_bits.specs.Answers.{refusal_of}
-use Rattle.record_entries.specs.BitLayout.{entries_at, rows_at, first_entry, first_row}
+use Rattle.record_entries.specs.BitLayout.{view_bits, entries_at, rows_at, first_entry, first_row}
 
 -- the record that an answer stands for: the entries and rows are those in the bytes
 abbrev pub reading_of : Bytes → Result Head Fault → Reading
-reading_of s (Ok (Head.View n c)) = readable (view n.0 (entries_at s first_entry c))
+reading_of s (Ok (Head.View n c)) = readable (view n.0 (entries_at (view_bits s) first_entry c))
 reading_of s (Ok (Head.Commit n i)) = readable (commit n.0 i.0)
 reading_of s (Ok (Head.Terms x)) = readable (terms x.old.0 x.new.0 x.term.0)
 reading_of s (Ok (Head.Election x)) = readable (election x.leader.0 x.term.0 (is_some x.length) (unwrap_or x.length 0))

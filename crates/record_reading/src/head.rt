@@ -1,12 +1,14 @@
 // A whole record, read: its kind with its plain fields, or the first fault from the left. Nothing is asked of the bytes.
-ghost use Rattle.std.specs.Prelude.{◌≡◌, ◌+◌, ◌^◌, ◌≤◌, ◌<◌, IfOk};
+ghost use Rattle.std.specs.Prelude.{◌≡◌, ◌+◌, ◌^◌, ◌≤◌, ◌<◌, IfOk, length};
 ghost use Rattle.model.specs.Reading as reading;
 ghost use Rattle.record_reading.specs.Heads.{Reads, finished, Told};
+ghost use Rattle.record_entries.specs.BitLayout.{is_marked};
 
 use record_bits::bits::{Fault, field, filled};
 use record_bits::fields::INDEX_MOST;
 use record_bits::reader::RecordReader;
-use record_entries::scan::{Entry, Row, scan_items};
+use record_entries::scan::{Row, scan_entries, scan_items};
+use record_entries::view::ViewBytes;
 use units::{LogIndex, NodeId, Term};
 
 // The bits of a kind; a record's fields come after them.
@@ -54,15 +56,16 @@ fn finish(s: &[u8], at: usize, head: Head) -> Result<Head, Fault>
     }
 }
 
-// 1 view: node, count, entries.
+// 1 view, 9 view with marks: node, count, entries.
 #[tactic(auto, unfolding(model::specs::Reading::view_fields))]
 fn read_view(s: &[u8]) -> Result<Head, Fault>
-    ensures { Reads reading.view_fields s.now result }
+    requires { 0 < length s.now }
+    ensures { Reads (reading.view_fields (is_marked s.now)) s.now result }
 {
     let mut fields = RecordReader::new(s, KIND);
     let node = fields.take_node()?;
     let count = fields.take_limited(10, INDEX_MOST)? as usize;
-    let end = scan_items::<Entry>(s, fields.next, count)?;
+    let end = scan_entries(s, fields.next, count, ViewBytes::of(s).marked)?;
     finish(s, end, Head::View { node, count })
 }
 
@@ -125,7 +128,7 @@ pub fn read(s: &[u8]) -> Result<Head, Fault>
     ensures { Told s.now result }
 {
     match field(s, 0, KIND)? {
-        1 => read_view(s),
+        1 | 9 => read_view(s),
         2 => read_commit(s),
         3 => read_terms(s),
         4 => read_election(s),

@@ -195,19 +195,19 @@ module _ (h : Bytes) (x : History) (s : Represents h x) where
       (ap (λ (y : History). with_committed y (prefix_at y.prefixes p) o) is)
 
   -- one more prefix
-  pub prefix_written : (p i t n : ℕ) (c : Bytes) → prefixes_held h < prefix_limit → PrefixFits p i t n c
-      → prefix_right (tables_of h).rows (prefix_of p i t n c) ≡ true
-      → Represents (prefix_appended h p i t n c) (with_prefixes x (x.prefixes ++ (extended x.prefixes (prefix_of p i t n c) ∷ [])))
+  pub prefix_written : (p i t q n : ℕ) (c : Bytes) → prefixes_held h < prefix_limit → PrefixFits p i t q n c
+      → prefix_right (tables_of h).rows (prefix_of p i t q n c) ≡ true
+      → Represents (prefix_appended h p i t q n c) (with_prefixes x (x.prefixes ++ (extended x.prefixes (prefix_of p i t q n c) ∷ [])))
   unfolding prefix_appended
-  prefix_written p i t n c l f e =
+  prefix_written p i t q n c l f e =
       let r = rows_count h in
       let m = prefixes_held h in
-      represents (prefix_appended h p i t n c) (with_prefix_row (tables_of h) (prefix_of p i t n c)) _
-      (head_kept prefixes_field (put_bytes h (prefixes_start + m * prefix_width) (prefix_bytes p i t n c)) (m + 1) ∙ put_length h (prefixes_start + m * prefix_width) (prefix_bytes p i t n c) ∙ long)
-      (prefix_appended_lem h long p i t n c l f)
-      (kept_row (tables_of h) kept (prefix_of p i t n c) (omega arith) e)
-      (history_row (tables_of h) (prefix_of p i t n c) kept
-      ∙ ap (λ (y : History). with_prefixes y (y.prefixes ++ (extended y.prefixes (prefix_of p i t n c) ∷ []))) is)
+      represents (prefix_appended h p i t q n c) (with_prefix_row (tables_of h) (prefix_of p i t q n c)) _
+      (head_kept prefixes_field (put_bytes h (prefixes_start + m * prefix_width) (prefix_bytes p i t q n c)) (m + 1) ∙ put_length h (prefixes_start + m * prefix_width) (prefix_bytes p i t q n c) ∙ long)
+      (prefix_appended_lem h long p i t q n c l f)
+      (kept_row (tables_of h) kept (prefix_of p i t q n c) (omega arith) e)
+      (history_row (tables_of h) (prefix_of p i t q n c) kept
+      ∙ ap (λ (y : History). with_prefixes y (y.prefixes ++ (extended y.prefixes (prefix_of p i t q n c) ∷ []))) is)
 
   -- a commit term set
   pub term_written : (k v : ℕ) → k < index_limit → v < term_end

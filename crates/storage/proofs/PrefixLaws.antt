@@ -35,8 +35,16 @@ unfolding same_row
 same_row_eq s r e =
     let a = both (eqb s.parent r.parent) _ e in
     let b = both (eqb s.term r.term) _ a.1 in
-    let c = both (eqb s.size r.size) _ b.1 in
-    (eqb-true _ _ a.0, (λ i. record { term = eqb-true s.term r.term b.0 i; content = same_bytes_eq s.content r.content c.1 i }))
+    let m = both (eqb s.mark r.mark) _ b.1 in
+    let c = both (eqb s.size r.size) _ m.1 in (
+      eqb-true _ _ a.0,
+      (λ i.
+          record {
+            term = eqb-true s.term r.term b.0 i;
+            configuration = eqb (eqb-true s.mark r.mark m.0 i) 1;
+            content = same_bytes_eq s.content r.content c.1 i;
+          }),
+    )
 
 -- a row that stores the same prefix, with its place
 pub record Found (r : PrefixRow) (rows : List PrefixRow) (a : ℕ) : Type 0 where
@@ -72,15 +80,16 @@ module _ (rows : List PrefixRow) (f : Facts rows) where
       f.entry j l ∙ (λ i. prefix_at (resolve rows) (q.0 i) ++ (q.1 i ∷ []))
 
   -- a prefix that has no number may have the next one
-  pub new_right : (r : PrefixRow) → r.parent ≤ length rows → r.index ≡ length (prefix_at (resolve rows) r.parent) + 1 → r.index ≤ index_limit → r.size ≤ content_limit
+  pub new_right : (r : PrefixRow) → r.parent ≤ length rows → r.index ≡ length (prefix_at (resolve rows) r.parent) + 1 → r.index ≤ index_limit → r.mark ≤ 1 → r.size ≤ content_limit
       → ((q : ℕ) → q ≤ length rows → prefix_at (resolve rows) q ≡ extended (resolve rows) r → ⊥)
       → prefix_right rows r ≡ true
-  new_right r p i l s no_number =
+  new_right r p i l m s no_number =
       row_right_test rows r
       (record {
         parent = p;
         index = i ∙ ap (λ (n : ℕ). n + 1) (f.index r.parent p);
         limit = l;
+        mark = m;
         size = s;
         new = decided (is_among r (drop r.parent rows)) refl;
       })

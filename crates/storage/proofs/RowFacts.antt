@@ -72,7 +72,7 @@ resolve_count rs = resolve_length [] rs ∙ (let e : 0 + length rs ≡ length rs
 -- ---- the facts
 
 abbrev pub empty_row : PrefixRow
-empty_row = record { parent = 0; index = 0; term = 0; size = 0; content = [] }
+empty_row = record { parent = 0; index = 0; term = 0; mark = 0; size = 0; content = [] }
 
 -- the row of place k
 abbrev pub row_at : List PrefixRow → ℕ → PrefixRow
@@ -84,7 +84,8 @@ Sized r = length r.content ≡ min r.size content_limit
 
 pub record Facts (rows : List PrefixRow) : Type 0 where
   pub sized : (k : ℕ) → k < length rows → length (row_at rows k).content ≡ (row_at rows k).size
-  pub small : (k : ℕ) → k < length rows → ((row_at rows k).index ≤ index_limit) × ((row_at rows k).size ≤ content_limit)
+  pub small : (k : ℕ) → k < length rows
+      → ((row_at rows k).index ≤ index_limit) × ((row_at rows k).size ≤ content_limit) × ((row_at rows k).mark ≤ 1)
   -- a parent has a smaller number
   pub parent : (k : ℕ) → k < length rows → (row_at rows k).parent ≤ k
   -- number k + 1 is the parent's prefix and the row's entry
@@ -124,6 +125,7 @@ pub record RowRight (rows : List PrefixRow) (r : PrefixRow) : Type 0 where
   pub parent : r.parent ≤ length rows
   pub index : r.index ≡ index_among rows r.parent + 1
   pub limit : r.index ≤ index_limit
+  pub mark : r.mark ≤ 1
   pub size : r.size ≤ content_limit
   pub new : is_among r (drop r.parent rows) ≡ false
 
@@ -133,11 +135,13 @@ row_right rows r e =
     let a = both (leb r.parent (length rows) && eqb r.index (index_among rows r.parent + 1)) _ e in
     let x = both (leb r.parent (length rows)) _ a.0 in
     let b = both (leb r.index index_limit) _ a.1 in
-    let s = both (leb r.size content_limit) _ b.1 in
+    let m = both (leb r.mark 1) _ b.1 in
+    let s = both (leb r.size content_limit) _ m.1 in
     record {
       parent = leb-true _ _ x.0;
       index = eqb-true _ _ x.1;
       limit = leb-true _ _ b.0;
+      mark = leb-true _ _ m.0;
       size = leb-true _ _ s.0;
       new = not-true _ s.1;
     }
@@ -149,6 +153,7 @@ row_right_test rows r f =
       le-leb r.parent (length rows) f.parent,
       eq-eqb r.index (index_among rows r.parent + 1) f.index,
       le-leb r.index index_limit f.limit,
+      le-leb r.mark 1 f.mark,
       le-leb r.size content_limit f.size,
       f.new,
     )
@@ -160,10 +165,21 @@ unfolding same_bytes
 same_bytes_refl [] = refl
 same_bytes_refl (x ∷ xs) = ap (λ (b : Bool). b && same_bytes xs xs) (eq-eqb x x refl) ∙ same_bytes_refl xs
 
-pub same_row_true : (s r : PrefixRow) → s.parent ≡ r.parent → s.term ≡ r.term → s.size ≡ r.size → s.content ≡ r.content → same_row s r ≡ true
+pub same_row_true : (s r : PrefixRow) → s.parent ≡ r.parent → s.term ≡ r.term → s.mark ≡ r.mark → s.size ≡ r.size → s.content ≡ r.content
+    → same_row s r ≡ true
 unfolding same_row
-same_row_true s r p t z c =
-    rw (eq-eqb s.parent r.parent p, eq-eqb s.term r.term t, eq-eqb s.size r.size z, c) (same_bytes_refl r.content)
+same_row_true s r p t m z c =
+    rw (eq-eqb s.parent r.parent p, eq-eqb s.term r.term t, eq-eqb s.mark r.mark m, eq-eqb s.size r.size z, c) (same_bytes_refl r.content)
+
+differ : (n : ℕ) → n ≡ 0 → eqb 0 1 ≡ eqb (suc n) 1 → ⊥
+differ n z e = let q : false ≡ true = e ∙ ap (λ (k : ℕ). eqb (suc k) 1) z in let y : ◌≡◌ {A = ℕ} 0 1 = cc in omega arith
+
+-- marks that stand for the same are the same
+pub same_mark : (a b : ℕ) → a ≤ 1 → b ≤ 1 → eqb a 1 ≡ eqb b 1 → a ≡ b
+same_mark zero zero h l e = refl
+same_mark zero (suc b) h l e = absurd (differ b (omega arith) e)
+same_mark (suc a) zero h l e = absurd (differ a (omega arith) (sym e))
+same_mark (suc a) (suc b) h l e = omega arith
 
 among_at : (r : PrefixRow) (rows : List PrefixRow) (a j : ℕ) → a ≤ j → j < length rows → same_row (row_at rows j) r ≡ true → is_among r (drop a rows) ≡ true
 unfolding some
@@ -270,8 +286,9 @@ module _ (rows : List PrefixRow) (r : PrefixRow) (f : Facts rows) (right : RowRi
       let same = snoc_injective (prefix_at P s.parent) (prefix_at P r.parent) (sym up ∙ e) in
       let p : s.parent ≡ r.parent = f.distinct s.parent r.parent (omega (arith, f.parent j l)) right.parent same.0 in
       let c : s.content ≡ r.content = ap (λ (x : Entry). x.content) same.1 in
+      let m : s.mark ≡ r.mark = same_mark s.mark r.mark (f.small j l).2 right.mark (ap (λ (x : Entry). x.configuration) same.1) in
       let z : s.size ≡ r.size = sym (f.sized j l) ∙ ap length c ∙ fit ∙ min-eq_left right.size in
-      let found = among_at r rows r.parent j (omega (arith, f.parent j l)) l (same_row_true s r p (ap (λ (x : Entry). x.term) same.1) z c) in
+      let found = among_at r rows r.parent j (omega (arith, f.parent j l)) l (same_row_true s r p (ap (λ (x : Entry). x.term) same.1) m z c) in
       clash (sym found ∙ right.new)
     where
       clash : true ≡ false → ⊥
@@ -298,7 +315,7 @@ module _ (rows : List PrefixRow) (r : PrefixRow) (f : Facts rows) (right : RowRi
   facts_snoc =
       record {
         sized = each (λ k x. length x.content ≡ x.size) f.sized (fit ∙ min-eq_left right.size);
-        small = each (λ k x. (x.index ≤ index_limit) × (x.size ≤ content_limit)) f.small (right.limit, right.size);
+        small = each (λ k x. (x.index ≤ index_limit) × (x.size ≤ content_limit) × (x.mark ≤ 1)) f.small (right.limit, right.size, right.mark);
         parent = each (λ k x. x.parent ≤ k) f.parent right.parent;
         entry = grown_entry;
         index = grown_index;

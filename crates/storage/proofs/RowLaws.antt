@@ -14,7 +14,7 @@ use Rattle.model.specs.History.{Finding}
 use Rattle.model.specs.Sizes.{Bytes, content_limit, certificate_limit, term_end}
 use Rattle.storage_bytes.specs.Lists.{tabulate}
 use Rattle.storage_bytes.specs.Words.{word_at, word_bytes, bytes_at, put_bytes}
-use Rattle.storage_bytes.specs.Layout.{certificates_length, node_width, term_width, certificate_width, finding_width, prefix_width, number_width, index_width, byte_width, node_last, node_unseen, certificate_log, certificate_mark, certificate_leader, certificate_number, certificate_present, finding_node, finding_index, finding_term, prefix_index, prefix_term, prefix_size, prefix_content}
+use Rattle.storage_bytes.specs.Layout.{certificates_length, node_width, term_width, certificate_width, finding_width, prefix_width, number_width, index_width, byte_width, node_last, node_unseen, certificate_log, certificate_mark, certificate_leader, certificate_number, certificate_present, finding_node, finding_index, finding_term, prefix_index, prefix_term, prefix_mark, prefix_size, prefix_content}
 use Rattle.storage.specs.Tables.{NodeRow, CertificateRow, row_of_node, term_row, certificate_row, rows_of_certificates, finding_row, prefix_row, content_size}
 use Rattle.storage.specs.Writes.{certificate_inserted, node_bytes, certificate_bytes, finding_bytes, prefix_bytes, prefix_of, NodeFits, CertificateFits, FindingFits, PrefixFits}
 use Rattle.storage_bytes.proofs.ListLaws.{tabulate_insert, tabulate_same, tabulate_snoc, tabulate_set, tabulate_length, tabulate_at}
@@ -116,6 +116,7 @@ prefix_own t u k g =
       parent = row_first t u prefix_width k number_width (omega arith) g i;
       index = in_row t u prefix_width k prefix_index index_width (omega arith) g i;
       term = in_row t u prefix_width k prefix_term term_width (omega arith) g i;
+      mark = in_row t u prefix_width k prefix_mark byte_width (omega arith) g i;
       size = size i;
       content = content i;
     }
@@ -193,55 +194,60 @@ bytes_take vs n h =
     let m : i < n = omega (arith, tabulate_length (λ j. get_or vs j 0) 0 n) in
     tabulate_at (λ j. get_or vs j 0) 0 n i 0 m ∙ ap (λ (k : ℕ). get_or vs k 0) (zero-add i) ∙ sym (get_or-take n vs i 0 m))
 
-before_content : ℕ → ℕ → ℕ → ℕ → Bytes
-before_content p i t s =
-    word_bytes number_width p ++ (word_bytes index_width i ++ (word_bytes term_width t ++ word_bytes byte_width s))
+before_content : ℕ → ℕ → ℕ → ℕ → ℕ → Bytes
+before_content p i t q s =
+    word_bytes number_width p
+    ++ (word_bytes index_width i ++ (word_bytes term_width t ++ (word_bytes byte_width q ++ word_bytes byte_width s)))
 
 -- where the content starts in what is written
-content_written : (p i t s : ℕ) (c : Bytes) (j : ℕ) → get_or (prefix_bytes p i t s c) (prefix_content + j) 0 ≡ get_or c j 0
+content_written : (p i t q s : ℕ) (c : Bytes) (j : ℕ) → get_or (prefix_bytes p i t q s c) (prefix_content + j) 0 ≡ get_or c j 0
 unfolding prefix_bytes before_content
-content_written p i t s c j = get_or-append-add (before_content p i t s) c j 0
+content_written p i t q s c j = get_or-append-add (before_content p i t q s) c j 0
 
-pub prefix_length : (p i t s : ℕ) (c : Bytes) → length c ≡ content_limit → length (prefix_bytes p i t s c) ≡ prefix_width
+pub prefix_length : (p i t q s : ℕ) (c : Bytes) → length c ≡ content_limit → length (prefix_bytes p i t q s c) ≡ prefix_width
 unfolding prefix_bytes
-prefix_length p i t s c l = omega arith
+prefix_length p i t q s c l = omega arith
 
-pub prefix_back : (r : Bytes) (k p i t s : ℕ) (c : Bytes) → PrefixFits p i t s c → k * prefix_width + prefix_width ≤ length r
-    → prefix_row (put_bytes r (k * prefix_width) (prefix_bytes p i t s c)) k ≡ prefix_of p i t s c
-prefix_back r k p i t s c f h =
+pub prefix_back : (r : Bytes) (k p i t q s : ℕ) (c : Bytes) → PrefixFits p i t q s c → k * prefix_width + prefix_width ≤ length r
+    → prefix_row (put_bytes r (k * prefix_width) (prefix_bytes p i t q s c)) k ≡ prefix_of p i t q s c
+prefix_back r k p i t q s c f h =
     let o = k * prefix_width in
-    let vs = prefix_bytes p i t s c in
+    let vs = prefix_bytes p i t q s c in
     let u = put_bytes r o vs in
-    let l : length vs ≡ prefix_width = prefix_length p i t s c f.padded in
+    let l : length vs ≡ prefix_width = prefix_length p i t q s c f.padded in
     let g : o + length vs ≤ length r = omega arith in
     let size : word_at u (o + prefix_size) byte_width ≡ s
-    = word_put r o vs prefix_size byte_width g (omega arith) ∙ at_size p i t s c ∙ word_back byte_width s (omega (arith, f.size)) in
+    = word_put r o vs prefix_size byte_width g (omega arith) ∙ at_size p i t q s c ∙ word_back byte_width s (omega (arith, f.size)) in
     let content : bytes_at u (o + prefix_content) (content_size u o) ≡ take s c
     = ap (λ (n : ℕ). bytes_at u (o + prefix_content) (min n content_limit)) size
     ∙ ap (bytes_at u (o + prefix_content)) (min-eq_left f.size)
     ∙ bytes_put r o vs prefix_content s g (omega (arith, f.size))
-    ∙ bytes_shift vs c prefix_content 0 s (λ j b. content_written p i t s c j ∙ ap (λ (n : ℕ). get_or c n 0) (sym (zero-add j)))
+    ∙ bytes_shift vs c prefix_content 0 s (λ j b. content_written p i t q s c j ∙ ap (λ (n : ℕ). get_or c n 0) (sym (zero-add j)))
     ∙ bytes_take c s (omega (arith, f.size, f.padded)) in
     λ j.
     record {
-      parent = (word_first r o vs number_width g (omega arith) ∙ at_parent p i t s c ∙ word_back number_width p f.parent) j;
-      index = (word_put r o vs prefix_index index_width g (omega arith) ∙ at_index p i t s c ∙ word_back index_width i f.index) j;
-      term = (word_put r o vs prefix_term term_width g (omega arith) ∙ at_term p i t s c ∙ word_back term_width t f.term) j;
+      parent = (word_first r o vs number_width g (omega arith) ∙ at_parent p i t q s c ∙ word_back number_width p f.parent) j;
+      index = (word_put r o vs prefix_index index_width g (omega arith) ∙ at_index p i t q s c ∙ word_back index_width i f.index) j;
+      term = (word_put r o vs prefix_term term_width g (omega arith) ∙ at_term p i t q s c ∙ word_back term_width t f.term) j;
+      mark = (word_put r o vs prefix_mark byte_width g (omega arith) ∙ at_mark p i t q s c ∙ word_back byte_width q (omega (arith, f.mark))) j;
       size = size j;
       content = content j;
     }
   where
-    at_parent : (p i t s : ℕ) (c : Bytes) → word_at (prefix_bytes p i t s c) 0 number_width ≡ word_at (word_bytes number_width p) 0 number_width
-    at_parent p i t s c = unfold prefix_bytes word_at in refl
+    at_parent : (p i t q s : ℕ) (c : Bytes) → word_at (prefix_bytes p i t q s c) 0 number_width ≡ word_at (word_bytes number_width p) 0 number_width
+    at_parent p i t q s c = unfold prefix_bytes word_at in refl
 
-    at_index : (p i t s : ℕ) (c : Bytes) → word_at (prefix_bytes p i t s c) prefix_index index_width ≡ word_at (word_bytes index_width i) 0 index_width
-    at_index p i t s c = unfold prefix_bytes word_at in refl
+    at_index : (p i t q s : ℕ) (c : Bytes) → word_at (prefix_bytes p i t q s c) prefix_index index_width ≡ word_at (word_bytes index_width i) 0 index_width
+    at_index p i t q s c = unfold prefix_bytes word_at in refl
 
-    at_term : (p i t s : ℕ) (c : Bytes) → word_at (prefix_bytes p i t s c) prefix_term term_width ≡ word_at (word_bytes term_width t) 0 term_width
-    at_term p i t s c = unfold prefix_bytes word_at in refl
+    at_term : (p i t q s : ℕ) (c : Bytes) → word_at (prefix_bytes p i t q s c) prefix_term term_width ≡ word_at (word_bytes term_width t) 0 term_width
+    at_term p i t q s c = unfold prefix_bytes word_at in refl
 
-    at_size : (p i t s : ℕ) (c : Bytes) → word_at (prefix_bytes p i t s c) prefix_size byte_width ≡ word_at (word_bytes byte_width s) 0 byte_width
-    at_size p i t s c = unfold prefix_bytes word_at in refl
+    at_mark : (p i t q s : ℕ) (c : Bytes) → word_at (prefix_bytes p i t q s c) prefix_mark byte_width ≡ word_at (word_bytes byte_width q) 0 byte_width
+    at_mark p i t q s c = unfold prefix_bytes word_at in refl
+
+    at_size : (p i t q s : ℕ) (c : Bytes) → word_at (prefix_bytes p i t q s c) prefix_size byte_width ≡ word_at (word_bytes byte_width s) 0 byte_width
+    at_size p i t q s c = unfold prefix_bytes word_at in refl
 
 -- ---- a certificate put in its place, those behind it moved up
 

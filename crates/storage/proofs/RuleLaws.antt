@@ -29,7 +29,7 @@ index_among_lem t k (suc p) h =
     ∙ ap (λ (q : ℕ). (prefix_row t q).index) e)
   where
     none : PrefixRow
-    none = record { parent = 0; index = 0; term = 0; size = 0; content = [] }
+    none = record { parent = 0; index = 0; term = 0; mark = 0; size = 0; content = [] }
 
 -- ---- tests in a row, and the limits
 

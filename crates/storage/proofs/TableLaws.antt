@@ -126,19 +126,19 @@ module _ (h : Bytes) (right : length h ≡ history_length) where
       ∙ (λ i. tables_by (set_number (numbers_set h right committed_field p lp i) owner_field n) (in_head h right committed_field p lp i))
 
   -- one more prefix
-  pub prefix_appended_lem : (p i t s : ℕ) (c : Bytes) → prefixes_held h < prefix_limit → PrefixFits p i t s c
-      → tables_of (prefix_appended h p i t s c) ≡ with_prefix_row (tables_of h) (prefix_of p i t s c)
+  pub prefix_appended_lem : (p i t q s : ℕ) (c : Bytes) → prefixes_held h < prefix_limit → PrefixFits p i t q s c
+      → tables_of (prefix_appended h p i t q s c) ≡ with_prefix_row (tables_of h) (prefix_of p i t q s c)
   unfolding prefix_appended tables_in
-  prefix_appended_lem p i t s c l f =
+  prefix_appended_lem p i t q s c l f =
       let n = prefixes_held h in
-      let vs = prefix_bytes p i t s c in
-      let lv : length vs ≡ prefix_width = prefix_length p i t s c f.padded in
+      let vs = prefix_bytes p i t q s c in
+      let lv : length vs ≡ prefix_width = prefix_length p i t q s c f.padded in
       let long : length (prefixes_part h) ≡ prefixes_length = part_length h prefixes_start prefixes_length (omega arith) in
       rows_and_number h right prefixes_region (n * prefix_width) vs (omega arith) prefixes_field (n + 1) (omega arith)
       ∙ ap (with_prefix_rows (tables_of h))
-      (rows_append prefix_width prefix_row prefix_own (prefixes_part h) vs n (prefix_of p i t s c) lv
-      (prefix_back (prefixes_part h) n p i t s c f (omega arith))
-      ∙ ap (λ (m : ℕ). rows_of_prefixes (prefixes_part h) m ++ (prefix_of p i t s c ∷ [])) (sym (head_read h prefixes_field)))
+      (rows_append prefix_width prefix_row prefix_own (prefixes_part h) vs n (prefix_of p i t q s c) lv
+      (prefix_back (prefixes_part h) n p i t q s c f (omega arith))
+      ∙ ap (λ (m : ℕ). rows_of_prefixes (prefixes_part h) m ++ (prefix_of p i t q s c ∷ [])) (sym (head_read h prefixes_field)))
 
   -- the commit term at a place
   pub set_term : (k v : ℕ) → k < index_limit → v < term_end

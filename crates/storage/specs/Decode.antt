@@ -12,7 +12,11 @@ abbrev pub prefix_at : List Prefix → ℕ → Prefix
 prefix_at ps p = get_or ([] ∷ ps) p []
 
 abbrev pub entry_of : PrefixRow → Entry
-entry_of r = record { term = r.term; content = r.content }
+entry_of r = record { term = r.term; configuration = eqb r.mark 1; content = r.content }
+
+-- a mark as it is stored
+abbrev pub mark_of : Entry → ℕ
+mark_of e = cond e.configuration 1 0
 
 -- the prefix that a row adds to those before it: its parent's, with its entry
 abbrev pub extended : List Prefix → PrefixRow → Prefix

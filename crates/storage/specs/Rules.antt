@@ -79,7 +79,7 @@ unfoldable pub same_row : PrefixRow → PrefixRow → Bool
 unfolding same_bytes
 same_row s r =
     eqb s.parent r.parent
-    && (eqb s.term r.term && (eqb s.size r.size && same_bytes s.content r.content))
+    && (eqb s.term r.term && (eqb s.mark r.mark && (eqb s.size r.size && same_bytes s.content r.content)))
 
 -- one of the rows stores the same prefix as r
 abbrev pub is_among : PrefixRow → List PrefixRow → Bool
@@ -90,7 +90,7 @@ unfoldable pub prefix_right : List PrefixRow → PrefixRow → Bool
 unfolding same_row some
 prefix_right before r =
     extends before r
-    && (is_index r.index && (leb r.size content_limit && not (is_among r (drop r.parent before))))
+    && (is_index r.index && (leb r.mark 1 && (leb r.size content_limit && not (is_among r (drop r.parent before)))))
 
 unfoldable pub prefixes_right_after : List PrefixRow → List PrefixRow → Bool
 unfolding prefix_right

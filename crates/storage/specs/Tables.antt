@@ -6,14 +6,16 @@ use Rattle.model.specs.History.{Finding}
 use Rattle.model.specs.Sizes.{Bytes, node_count, content_limit}
 use Rattle.storage_bytes.specs.Lists.{tabulate}
 use Rattle.storage_bytes.specs.Words.{word_at, bytes_at}
-use Rattle.storage_bytes.specs.Layout.{part, start_in, length_in, regions, head_region, nodes_region, terms_region, certificates_region, findings_region, prefixes_region, prefixes_field, terms_field, committed_field, certificates_field, findings_field, owner_field, number_width, index_width, term_width, byte_width, node_last, node_unseen, node_width, certificate_log, certificate_mark, certificate_leader, certificate_number, certificate_present, certificate_width, finding_node, finding_index, finding_term, finding_width, prefix_index, prefix_term, prefix_size, prefix_content, prefix_width}
+use Rattle.storage_bytes.specs.Layout.{part, start_in, length_in, regions, head_region, nodes_region, terms_region, certificates_region, findings_region, prefixes_region, prefixes_field, terms_field, committed_field, certificates_field, findings_field, owner_field, number_width, index_width, term_width, byte_width, node_last, node_unseen, node_width, certificate_log, certificate_mark, certificate_leader, certificate_number, certificate_present, certificate_width, finding_node, finding_index, finding_term, finding_width, prefix_index, prefix_term, prefix_mark, prefix_size, prefix_content, prefix_width}
 use Rattle.storage.specs.Head.{head_field}
 
--- a stored prefix: the number of the prefix that it extends, its own index, and its last entry's term and content
+-- a stored prefix: the number of the prefix that it extends, its own index, and its last entry's term, mark and content. A mark is
+-- 1 for a configuration entry and 0 for a portion record.
 pub record PrefixRow : Type 0 where
   pub parent : ℕ
   pub index : ℕ
   pub term : ℕ
+  pub mark : ℕ
   pub size : ℕ
   pub content : Bytes
 
@@ -84,6 +86,7 @@ prefix_row r k =
       parent = word_at r o number_width;
       index = word_at r (o + prefix_index) index_width;
       term = word_at r (o + prefix_term) term_width;
+      mark = word_at r (o + prefix_mark) byte_width;
       size = word_at r (o + prefix_size) byte_width;
       content = bytes_at r (o + prefix_content) (content_size r o);
     }

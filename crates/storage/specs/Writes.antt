@@ -28,12 +28,13 @@ finding_bytes x =
     word_bytes byte_width x.name
     ++ (word_bytes byte_width x.node ++ (word_bytes index_width x.index ++ word_bytes term_width x.term))
 
--- parent, index, term, size, and the bytes of which the content is the first
-unfoldable pub prefix_bytes : ℕ → ℕ → ℕ → ℕ → Bytes → Bytes
+-- parent, index, term, mark, size, and the bytes of which the content is the first
+unfoldable pub prefix_bytes : ℕ → ℕ → ℕ → ℕ → ℕ → Bytes → Bytes
 unfolding word_bytes
-prefix_bytes parent index term size padded =
+prefix_bytes parent index term mark size padded =
     word_bytes number_width parent
-    ++ (word_bytes index_width index ++ (word_bytes term_width term ++ (word_bytes byte_width size ++ padded)))
+    ++ (word_bytes index_width index
+    ++ (word_bytes term_width term ++ (word_bytes byte_width mark ++ (word_bytes byte_width size ++ padded))))
 
 -- ---- each number fits its field
 
@@ -56,26 +57,27 @@ pub record FindingFits (x : Finding) : Type 0 where
   pub index : Fits index_width x.index
   pub term : Fits term_width x.term
 
-pub record PrefixFits (p i t s : ℕ) (c : Bytes) : Type 0 where
+pub record PrefixFits (p i t q s : ℕ) (c : Bytes) : Type 0 where
   pub parent : Fits number_width p
   pub index : Fits index_width i
   pub term : Fits term_width t
+  pub mark : q ≤ 1
   pub size : s ≤ content_limit
   pub padded : length c ≡ content_limit
 
 -- the row that is read where those numbers were written
-abbrev pub prefix_of : ℕ → ℕ → ℕ → ℕ → Bytes → PrefixRow
-prefix_of parent index term size padded =
-    record { parent = parent; index = index; term = term; size = size; content = take size padded }
+abbrev pub prefix_of : ℕ → ℕ → ℕ → ℕ → ℕ → Bytes → PrefixRow
+prefix_of parent index term mark size padded =
+    record { parent = parent; index = index; term = term; mark = mark; size = size; content = take size padded }
 
 -- ---- the writes of a whole history that are more than one row's
 
 -- one more prefix: its row, and the count
-unfoldable pub prefix_appended : Bytes → ℕ → ℕ → ℕ → ℕ → Bytes → Bytes
+unfoldable pub prefix_appended : Bytes → ℕ → ℕ → ℕ → ℕ → ℕ → Bytes → Bytes
 unfolding word_at put_bytes prefix_bytes
-prefix_appended h p i t s c =
+prefix_appended h p i t q s c =
     let n = prefixes_held h in
-    put_head_field prefixes_field (put_bytes h (prefixes_start + n * prefix_width) (prefix_bytes p i t s c)) (n + 1)
+    put_head_field prefixes_field (put_bytes h (prefixes_start + n * prefix_width) (prefix_bytes p i t q s c)) (n + 1)
 
 -- commit terms lengthened with zeros to m: their places, and the count
 unfoldable pub terms_lengthened : Bytes → ℕ → Bytes

@@ -98,15 +98,18 @@ finding_term = finding_index + index_width
 abbrev pub finding_width : ℕ
 finding_width = finding_term + term_width
 
--- a prefix: parent, index, term, size, content
+-- a prefix: parent, index, term, mark, size, content
 abbrev pub prefix_index : ℕ
 prefix_index = number_width
 
 abbrev pub prefix_term : ℕ
 prefix_term = prefix_index + index_width
 
+abbrev pub prefix_mark : ℕ
+prefix_mark = prefix_term + term_width
+
 abbrev pub prefix_size : ℕ
-prefix_size = prefix_term + term_width
+prefix_size = prefix_mark + byte_width
 
 abbrev pub prefix_content : ℕ
 prefix_content = prefix_size + byte_width

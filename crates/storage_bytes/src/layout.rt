@@ -8,7 +8,7 @@ use units::{
 };
 
 // How many bytes a prefix's number takes, an index, a term, and what one byte holds: a node, a count of certificates or findings, the
-// name of a finding, the length of a content, a yes or no.
+// name of a finding, the length of a content, a yes or no, an entry's mark.
 const NUMBER: usize = 2;
 
 const INDEX: usize = 2;
@@ -62,12 +62,14 @@ pub const FINDING_TERM: usize = FINDING_INDEX + INDEX;
 
 pub const FINDING_WIDTH: usize = FINDING_TERM + TERM;
 
-// A prefix: parent, index, term, size, content.
+// A prefix: parent, index, term, mark, size, content.
 pub const PREFIX_INDEX: usize = NUMBER;
 
 pub const PREFIX_TERM: usize = PREFIX_INDEX + INDEX;
 
-pub const PREFIX_SIZE: usize = PREFIX_TERM + TERM;
+pub const PREFIX_MARK: usize = PREFIX_TERM + TERM;
+
+pub const PREFIX_SIZE: usize = PREFIX_MARK + BYTE;
 
 pub const PREFIX_CONTENT: usize = PREFIX_SIZE + BYTE;
 

@@ -6,8 +6,8 @@ use Rattle.storage.specs.Writes.{prefix_bytes, prefix_appended}
 
 -- the bytes of the row
 abbrev pub row_bytes : PrefixRow → List ℕ
-row_bytes x = prefix_bytes x.parent.0 x.index.0 x.term.0 x.size x.content
+row_bytes x = prefix_bytes x.parent.0 x.index.0 x.term.0 x.mark x.size x.content
 
 -- the history with the row behind the others
 abbrev pub row_appended : List ℕ → PrefixRow → List ℕ
-row_appended h x = prefix_appended h x.parent.0 x.index.0 x.term.0 x.size x.content
+row_appended h x = prefix_appended h x.parent.0 x.index.0 x.term.0 x.mark x.size x.content

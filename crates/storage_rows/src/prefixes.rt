@@ -4,7 +4,7 @@ ghost use Rattle.std.specs.Prelude.{◌≡◌, ◌+◌, ◌*◌, ◌≤◌, ◌<
 ghost use Rattle.std.proofs.Common.{lit≤};
 ghost use Rattle.storage_bytes.specs.declared.layout.TheConstants.{PREFIXES};
 ghost use Rattle.storage_bytes.specs.Words.{Word, word_at};
-ghost use Rattle.storage_bytes.specs.Layout.{prefix_width, number_width, index_width, term_width, byte_width, prefix_index, prefix_term, prefix_size};
+ghost use Rattle.storage_bytes.specs.Layout.{prefix_width, number_width, index_width, term_width, byte_width, prefix_index, prefix_term, prefix_mark, prefix_size};
 ghost use Rattle.storage.specs.Writes.{prefix_appended};
 ghost use Rattle.storage.specs.Tables.{prefix_row};
 ghost use Rattle.storage.specs.Values.{Index};
@@ -17,20 +17,21 @@ use storage::head::{committed, prefix_count, set_prefix_count};
 use storage::rows::{Row, set};
 use storage::stored::Stored;
 use storage_bytes::layout::{
-    History, PREFIX_CONTENT, PREFIX_INDEX, PREFIX_SIZE, PREFIX_TERM, PREFIX_WIDTH, PREFIXES,
-    PrefixTable, Region, part,
+    History, PREFIX_CONTENT, PREFIX_INDEX, PREFIX_MARK, PREFIX_SIZE, PREFIX_TERM, PREFIX_WIDTH,
+    PREFIXES, PrefixTable, Region, part,
 };
 use storage_bytes::words::{Field, put_bytes};
 use units::{CONTENT_LIMIT, LogIndex, LogPrefixWitness, Term};
 
-// A prefix to be stored: the one that it extends, and its last entry, whose content is the first `size` of the 32 bytes. Memory is
-// fixed, and a row is copied whole, as the entry is that it is made of. That entry is no part of it: a `ShownEntry` says where the
+// A prefix to be stored: the one that it extends, and its last entry, whose mark is 1 for a configuration entry and 0 for a portion
+// record, and whose content is the first `size` of the 32 bytes. Memory is fixed, and a row is copied whole, as the entry is that it is made of. That entry is no part of it: a `ShownEntry` says where the
 // record goes on, which no row has.
 #[derive(Clone, Copy)]
 pub struct PrefixRow {
     pub parent: LogPrefixWitness,
     pub index: LogIndex,
     pub term: Term,
+    pub mark: u8,
     pub size: u8,
     pub content: [u8; CONTENT_LIMIT],
 }
@@ -50,7 +51,7 @@ impl Row for PrefixRow {
 
     ghost filled = { refl };
 
-    ghost wide = { λ x long. prefix_length x.parent.0 x.index.0 x.term.0 x.size x.content long };
+    ghost wide = { λ x long. prefix_length x.parent.0 x.index.0 x.term.0 x.mark x.size x.content long };
 
     const TABLE: Region = PREFIXES;
 
@@ -60,12 +61,13 @@ impl Row for PrefixRow {
         self.parent.write(prefixes, o);
         self.index.write(prefixes, o + PREFIX_INDEX);
         self.term.write(prefixes, o + PREFIX_TERM);
+        self.mark.write(prefixes, o + PREFIX_MARK);
         self.size.write(prefixes, o + PREFIX_SIZE);
         put_bytes(prefixes, o + PREFIX_CONTENT, &self.content);
     }
 }
 
-// Fields alone, each by its name: a search reads two of them of every row, and a row has 41 bytes. One generic function would take a
+// Fields alone, each by its name: a search reads two of them of every row, and a row has 42 bytes. One generic function would take a
 // field's place and type at each call, where its name stands now.
 pub fn parent_at(prefixes: &PrefixTable, k: usize) -> LogPrefixWitness
     requires { k < prefix_limit }
@@ -86,6 +88,13 @@ pub fn term_at(prefixes: &PrefixTable, k: usize) -> Term
     ensures { result.0 ≡ word_at prefixes.now (k * prefix_width + prefix_term) term_width }
 {
     Term::read(prefixes, k * PREFIX_WIDTH + PREFIX_TERM)
+}
+
+pub fn mark_at(prefixes: &PrefixTable, k: usize) -> u8
+    requires { k < prefix_limit }
+    ensures { Word prefixes.now (k * prefix_width + prefix_mark) byte_width result }
+{
+    u8::read(prefixes, k * PREFIX_WIDTH + PREFIX_MARK)
 }
 
 pub fn size_at(prefixes: &PrefixTable, k: usize) -> u8

@@ -12,7 +12,7 @@ use Rattle.std.specs.List.{range_with_len, list_all}
 use Rattle.model.specs.Sizes.{Bytes, index_limit, content_limit}
 use Rattle.storage_bytes.specs.Lists.{tabulate}
 use Rattle.storage_bytes.specs.Words.{word_at}
-use Rattle.storage_bytes.specs.Layout.{prefix_width, number_width, index_width, byte_width, prefix_index, prefix_size}
+use Rattle.storage_bytes.specs.Layout.{prefix_width, number_width, index_width, byte_width, prefix_index, prefix_mark, prefix_size}
 use Rattle.storage.specs.Tables.{PrefixRow, prefix_row, rows_of_prefixes}
 use Rattle.storage.specs.Rules.{is_among, prefix_right, prefixes_right_after}
 use Rattle.storage.specs.Values.{number_index}
@@ -32,8 +32,9 @@ module _ (t : Bytes) (k : ℕ) where
       → prefix_right (rows_of_prefixes t k) (prefix_row t k)
       ≡ (eqb (word_at t (k * prefix_width + prefix_index) index_width) (number_index t (word_at t (k * prefix_width) number_width) + 1)
       && (leb (word_at t (k * prefix_width + prefix_index) index_width) index_limit
+      && (leb (word_at t (k * prefix_width + prefix_mark) byte_width) 1
       && (leb (word_at t (k * prefix_width + prefix_size) byte_width) content_limit
-      && not (is_among (prefix_row t k) (tabulate (prefix_row t) (word_at t (k * prefix_width) number_width) (k - word_at t (k * prefix_width) number_width))))))
+      && not (is_among (prefix_row t k) (tabulate (prefix_row t) (word_at t (k * prefix_width) number_width) (k - word_at t (k * prefix_width) number_width)))))))
   unfolding prefix_right
   right_rest h =
       let p = word_at t (k * prefix_width) number_width in

@@ -6,9 +6,9 @@ ghost use Rattle.storage.specs.Rules.{same_row, is_among};
 ghost use Rattle.model.specs.Sizes.{prefix_limit};
 
 use storage_bytes::layout::PrefixTable;
-use storage_rows::prefixes::{content_at, parent_at, size_at, term_at};
+use storage_rows::prefixes::{content_at, mark_at, parent_at, size_at, term_at};
 
-// Rows j and k store the same prefix. Field by field, since most rows differ in the first that is read: a row has 41 bytes.
+// Rows j and k store the same prefix. Field by field, since most rows differ in the first that is read: a row has 42 bytes.
 #[tactic(auto, unfolding(storage::specs::Rules::same_row), using(storage_bytes::proofs::ByteTurns::pointwise_bytes))]
 fn same_row(prefixes: &PrefixTable, j: usize, k: usize) -> bool
     requires { (j < prefix_limit) × (k < prefix_limit) }
@@ -18,6 +18,9 @@ fn same_row(prefixes: &PrefixTable, j: usize, k: usize) -> bool
         return false;
     }
     if term_at(prefixes, j) != term_at(prefixes, k) {
+        return false;
+    }
+    if mark_at(prefixes, j) != mark_at(prefixes, k) {
         return false;
     }
     // Two rows that break the storage rules can have the same content and not the same size.

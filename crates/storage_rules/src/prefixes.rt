@@ -6,7 +6,7 @@ ghost use Rattle.model.specs.Sizes.{prefix_limit};
 
 use crate::once::is_among;
 use storage_bytes::layout::PrefixTable;
-use storage_rows::prefixes::{index_at, parent_at, size_at, through};
+use storage_rows::prefixes::{index_at, mark_at, parent_at, size_at, through};
 use units::{CONTENT_LIMIT, LogIndex};
 
 // The storage rules of row k, by the rows before it.
@@ -24,6 +24,9 @@ fn prefix_right(prefixes: &PrefixTable, k: usize) -> bool
         return false;
     }
     if LogIndex::LAST < i {
+        return false;
+    }
+    if 1 < mark_at(prefixes, k) {
         return false;
     }
     if CONTENT_LIMIT < usize::from(size_at(prefixes, k)) {

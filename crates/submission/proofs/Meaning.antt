@@ -17,7 +17,7 @@ use Rattle.record_bits.specs.declared.bits.Fault.{Fault}
 use Rattle.record_reading.specs.declared.head.Head.{Head}
 use Rattle.record_bits.specs.Answers.{refusal_of}
 use Rattle.record_reading.specs.Heads.{Told, head_of}
-use Rattle.record_entries.specs.BitLayout.{rows_at, first_row}
+use Rattle.record_entries.specs.BitLayout.{rows_at, first_row, view_bits}
 use Rattle.record_reading.proofs.Readable.{view_walk}
 use Rattle.record_reading.proofs.Faults.{told_always}
 use Rattle.storage.specs.Rules.{well_formed}
@@ -79,7 +79,7 @@ module _ (h : Bytes) (x : History) (st : Represents h x) where
 
   told_means : (s : Bytes) (d : Result Head Fault) → Told s d → Means h x s (step_to h s d)
   told_means s (Ok (Head.View n c)) t =
-      took s _ _ t.reading (view_means prefix_limit h x s c n.0 st (view_walk s _ n c t refl) t.within.0)
+      took s _ _ t.reading (view_means prefix_limit h x (view_bits s) c n.0 st (view_walk s _ n c t refl) t.within.0)
   told_means s (Ok (Head.Commit n i)) t = took s _ _ t.reading (commit_means h x n.0 i.0 st t.within.0 t.within.1)
   told_means s (Ok (Head.Terms c)) t =
       took s _ _ t.reading (terms_mean h x c.old.0 c.new.0 c.term.0 st t.within.1 t.within.2)

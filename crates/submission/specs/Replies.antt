@@ -5,7 +5,7 @@ use Rattle.std.specs.Prelude.{cond, is_some, unwrap_or, Result, Ok, Err}
 use Rattle.model.specs.Sizes.{Bytes, prefix_limit}
 use Rattle.model.specs.Reading.{read}
 use Rattle.record_reading.specs.Heads.{head_of}
-use Rattle.record_entries.specs.BitLayout.{rows_at, first_row}
+use Rattle.record_entries.specs.BitLayout.{rows_at, first_row, view_bits}
 use Rattle.storage.specs.Rules.{well_formed}
 use Rattle.logical_log.specs.Observation.{view_step}
 use Rattle.commit.specs.Prefix.{commit_step}
@@ -21,7 +21,7 @@ use Rattle.answers.specs.Step.{Step, refusing}
 
 -- by the head of the record
 abbrev pub step_to : Bytes → Bytes → Result Head Fault → Step
-step_to h s (Ok (Head.View n c)) = view_step prefix_limit h s c n.0
+step_to h s (Ok (Head.View n c)) = view_step prefix_limit h (view_bits s) c n.0
 step_to h s (Ok (Head.Commit n i)) = commit_step h n.0 i.0
 step_to h s (Ok (Head.Terms x)) = terms_step h x.old.0 x.new.0 x.term.0
 step_to h s (Ok (Head.Election x)) = election_step h x.leader.0 x.term.0 (is_some x.length) (unwrap_or x.length 0)

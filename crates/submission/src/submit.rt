@@ -12,7 +12,7 @@ use election::certificate::record_election;
 use invariants::commit_safety::check_rows;
 use leader_completeness::leader_completeness::record_leader_completeness;
 use logical_log::observation::observe_prefixes;
-use record_entries::view::View;
+use record_entries::view::{View, ViewBytes};
 use record_reading::head::{Head, read};
 use storage_bytes::layout::History;
 use storage_rules::whole::well_formed;
@@ -26,7 +26,7 @@ fn dispatch(history: &mut History, s: &[u8], head: Head) -> Result<Accepted, Ref
     match head {
         Head::View { node, count } => {
             let view = View {
-                bytes: s,
+                shown: ViewBytes::of(s),
                 entries: count,
                 node,
             };

@@ -20,7 +20,7 @@ loop-e-preserved c =
     let l = c.loop-e in
     let took = entry_taken l.invariant.0 c.in-Some.ensures.steps in
     let sum = c.content_sum-sum.ensures.0 ∙ ap (λ (e : ShownEntry). sum_of (take e.length e.content)) took.is ∙ ap sum_of (entry_content _ _) in (
-      took.bytes,
+      took.view,
       omega (arith, took.left),
       omega (arith, took.left, took.some, c.content_sum-sum.ensures.1),
       rw (took.next, took.is, took.left) (contents_next _ _ _ _ _ l.invariant.3 took.some sum),

@@ -8,9 +8,9 @@ use borrow.Author.Tests.{eqb-true, eqb-false, eq-eqb, ne_eqb}
 use Rattle.storage.specs.Tables.{prefix_row}
 use Rattle.log_prefix.proofs.TableLaws.{table_parent, table_size}
 use Rattle.log_prefix.proofs.Loops.{are_same, are_other, place_before, parent_within, parent_below}
-use Rattle.log_prefix.proofs.Turns.{compare_equal, compare_first_empty, compare_second_empty, compare_differs, compare_next, content_sized, entry_terms, entry_sizes, entry_by_bytes, bytes_next, bytes_differ, bytes_end}
+use Rattle.log_prefix.proofs.Turns.{compare_equal, compare_first_empty, compare_second_empty, compare_differs, compare_next, content_sized, entry_terms, entry_marks, entry_sizes, entry_by_bytes, bytes_next, bytes_differ, bytes_end}
 use Rattle.log_prefix.proofs.comparison.same_prefix.Goals as goal
-use Rattle.log_prefix.proofs.comparison.same_prefix.Goals.{else-entries-test, then-entries-test+then-eq, then-eq-via-then-eq, then-eq-via-else-eq+then-eq-2, then-entries-test+else-eq+else-eq-2+then-ne, then-ne-via-then-ne, then-ne-via-else-ne+then-size-size_at, then-entries-test+else-eq+else-eq-2+else-ne+else-size-size_at+then-loop-k-test+then-x-at}
+use Rattle.log_prefix.proofs.comparison.same_prefix.Goals.{else-entries-test, then-entries-test+then-eq, then-eq-via-then-eq, then-eq-via-else-eq+then-eq-2, then-entries-test+else-eq+else-eq-2+then-ne, then-ne-via-then-ne, then-ne-via-else-ne+then-size-size_at, then-entries-test+else-eq+else-eq-2+else-ne+else-size-size_at+then-mark_at, then-entries-test+else-eq+else-eq-2+else-ne+else-size-size_at+else-mark_at+then-loop-k-test+then-x-at}
 
 pub loop-k-init : goal.loop-k-init
 loop-k-init c =
@@ -24,7 +24,8 @@ loop-k-init c =
       ap length c.content_at-x.ensures ∙ content_sized t _ _ (table_size t i.0 _ i.1 (place_before i.2 some)) sa,
       ap length c.content_at-y.ensures ∙ content_sized t _ _ (table_size t i.0 _ i.1 (place_before i.3 some-2)) sb ∙ sym same,
       rw (c.content_at-x.ensures, c.content_at-y.ensures)
-          (entry_by_bytes t _ _ _ _ sa sb same _ _ c.term_at.ensures c.term_at-in-entries.ensures (are_same c.if-ne.ensures)),
+          (entry_by_bytes t _ _ _ _ sa sb same _ _ c.term_at.ensures c.term_at-in-entries.ensures (are_same c.if-ne.ensures)
+          _ _ c.mark_at.ensures.is c.mark_at-in-entries.ensures.is c.if-mark_at.false),
     )
 
 pub loop-k-preserved : goal.loop-k-preserved
@@ -61,7 +62,7 @@ entries-preserved c =
           (bytes_end x y c.loop-k.k k.2 (omega arith) (omega arith)) _ _ ea eb (parent_below _ ea pa some),
     )
 
--- the two have met; or one is empty, or they differ in a term, a size or a byte
+-- the two have met; or one is empty, or they differ in a term, a size, a mark or a byte
 pub returns : goal.returns
 returns c =
     let t = c.args.prefixes.now in
@@ -88,7 +89,13 @@ returns c =
             | then-ne-via-then-ne x ↦ entry_terms t _ _ _ _ w.term_at.ensures w.term_at-in-entries.ensures (are_other x.if-ne.ensures)
             | then-ne-via-else-ne+then-size-size_at x ↦ entry_sizes t _ _ _ _ w.size_at-size.ensures.is x.size_at.ensures.is x.if-size-size_at.true
           ]))
-      | then-entries-test+else-eq+else-eq-2+else-ne+else-size-size_at+then-loop-k-test+then-x-at w ↦
+      | then-entries-test+else-eq+else-eq-2+else-ne+else-size-size_at+then-mark_at w ↦
+          let apart = are_other w.entries-test.ensures in
+          ne_eqb _ _ apart
+          ∙ sym
+          (compare_differs row _ _ v apart (eqb-false _ _ (sym w.if-eq.ensures)) (eqb-false _ _ (sym w.if-eq-2.ensures))
+          (entry_marks t _ _ _ _ w.mark_at.ensures.is w.mark_at-in-entries.ensures.is w.if-mark_at.true))
+      | then-entries-test+else-eq+else-eq-2+else-ne+else-size-size_at+else-mark_at+then-loop-k-test+then-x-at w ↦
           let apart = are_other w.entries-test.ensures in
           let x = w.content_at-x.result.now in
           let y = w.content_at-y.result.now in

@@ -1,7 +1,7 @@
 -- `logical_log::judging::judge_view` meets its contract.
 -- Assumes nothing.
 use mathlib.Core.Path.{sym, subst}
-use Rattle.record_entries.specs.BitLayout.{first_entry}
+use Rattle.record_entries.specs.BitLayout.{first_entry, bits_of}
 use Rattle.storage.proofs.WellFormed.{formed}
 use Rattle.log_prefix.proofs.TableLaws.{table_lent}
 use Rattle.logical_log.specs.Judging.{Walkable}
@@ -22,9 +22,11 @@ pub judge_missing-missing-requires : goal.judge_missing-missing-requires
 judge_missing-missing-requires c =
     let count = c.of-prefixes.result.count in
     let h = c.args.history.bytes.now in
+    let s = bits_of c.args.view.shown.bytes.now c.args.view.shown.marked in
     let w = c.judge_stored-rest.ensures in (
       table_lent h _ _ (formed h c.args.history.formed) c.of-prefixes.ensures.0 c.of-prefixes.ensures.1,
-      subst (Walkable c.args.view.bytes.now count) (sym w.cursor) (cursor_walkable _ count c.args.view.bytes.now c.args.view.entries first_entry 1 0 (first_walkable c.args.view.bytes.now count c.args.view.entries (walked _ _ _ c.args.view.walk))),
+      subst (Walkable s count) (sym w.cursor)
+          (cursor_walkable _ count s c.args.view.entries first_entry 1 0 (first_walkable s count c.args.view.entries (walked s _ _ c.args.view.walk))),
     )
 
 pub returns : goal.returns

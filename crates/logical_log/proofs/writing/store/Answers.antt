@@ -40,7 +40,7 @@ loop-e-preserved-in-Found c =
     let took = entry_taken inv.1 c.in-Some.ensures.steps in
     let p = c.in-Found.p in (
       inv.0 + 1,
-      took.bytes,
+      took.view,
       writing_next _ _ _ _ _ _ _ inv.2 took.some _ took.is _ _ _
           (answer_tells l.history _ l.front.0 _ (Extended.Found p) _ (sym c.in-Found.is ∙ c.extend.ensures.0, c.extend.ensures.1))
           l.made refl _ (λ i. cursor_at (took.next i) (took.left i) (inv.0 + 1) p.0),
@@ -53,7 +53,7 @@ loop-e-preserved c =
     let took = entry_taken inv.1 c.in-Some.ensures.steps in
     let p = c.in-Made.p in (
       inv.0 + 1,
-      took.bytes,
+      took.view,
       writing_next _ _ _ _ _ _ _ inv.2 took.some _ took.is _ _ _
           (answer_tells l.history _ l.front.0 _ (Extended.Made p) _ (sym c.in-Made.is ∙ c.extend.ensures.0, c.extend.ensures.1))
           (l.made + 1) (omega arith) _ (λ i. cursor_at (took.next i) (took.left i) (inv.0 + 1) p.0),

@@ -11,7 +11,7 @@ unfolding commit_fields
 returns-in_err-index c =
     let node = node_taken c.args.s.now 4 c.take_node.ensures.reads c.in_ok-node.was (cc) (omega arith) in
     let index = index_taken c.args.s.now 10 c.take_index.ensures.reads c.in_err-index.was (cc) (omega arith) in
-    rw (node, index) (fault_read _ _ _ c.from_residual-in_err-index.ensures.1)
+    rw (node, index) (fault_read c.args.s.now _ _ c.from_residual-in_err-index.ensures.1)
 
 pub returns : goal.returns
 unfolding commit_fields

@@ -13,7 +13,7 @@ returns-in_err-length c =
     let term = term_taken c.args.s.now 10 c.take_term.ensures.reads c.in_ok-elected_in.was (cc) (omega arith) in
     let present = yes_no_taken c.args.s.now 42 c.take_yes_no.ensures.reads c.in_ok-present.was (cc) (omega arith) in
     let length = length_taken c.args.s.now 43 c.in_ok-present.present c.take_governed.ensures.reads c.in_err-length.was (cc) (omega arith) in
-    rw (leader, term, present, length) (fault_read _ _ _ c.from_residual-in_err-length.ensures.1)
+    rw (leader, term, present, length) (fault_read c.args.s.now _ _ c.from_residual-in_err-length.ensures.1)
 
 pub returns : goal.returns
 unfolding election_fields

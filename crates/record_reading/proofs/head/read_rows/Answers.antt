@@ -13,7 +13,7 @@ pub returns-in_err-count : goal.returns-in_err-count
 unfolding rows_fields
 returns-in_err-count c =
     let count = count_taken c.args.s.now 4 c.take_limited.ensures.reads c.in_err-count.was (cc) (omega arith) in
-    rw count (fault_read _ _ _ c.from_residual.ensures.1)
+    rw count (fault_read c.args.s.now _ _ c.from_residual.ensures.1)
 
 pub returns-in_err-end : goal.returns-in_err-end
 unfolding rows_fields
@@ -21,7 +21,7 @@ returns-in_err-end c =
     let count = count_taken c.args.s.now 4 c.take_limited.ensures.reads c.in_ok-count.was (cc) (omega arith) in
     let end : c.take_limited.new.self.next ≡ 14 = omega arith in
     let rows = end_not (many row node_of 0 c.in_ok-count.count c.args.s.now 14) (rw end at c.scan_items.ensures) c.in_err-end.was in
-    rw (count, rows) (fault_read _ _ _ c.from_residual-in_err-end.ensures.1)
+    rw (count, rows) (fault_read c.args.s.now _ _ c.from_residual-in_err-end.ensures.1)
 
 pub returns : goal.returns
 unfolding rows_fields

@@ -11,7 +11,7 @@ unfolding terms_fields
 returns-in_err-new c =
     let old = index_taken c.args.s.now 4 c.take_index.ensures.reads c.in_ok-old.was (cc) (omega arith) in
     let new = index_taken c.args.s.now 14 c.take_index-2.ensures.reads c.in_err-new.was (cc) (omega arith) in
-    rw (old, new) (fault_read _ _ _ c.from_residual-in_err-new.ensures.1)
+    rw (old, new) (fault_read c.args.s.now _ _ c.from_residual-in_err-new.ensures.1)
 
 pub returns-in_err-term : goal.returns-in_err-term
 unfolding terms_fields
@@ -19,7 +19,7 @@ returns-in_err-term c =
     let old = index_taken c.args.s.now 4 c.take_index.ensures.reads c.in_ok-old.was (cc) (omega arith) in
     let new = index_taken c.args.s.now 14 c.take_index-2.ensures.reads c.in_ok-new.was (cc) (omega arith) in
     let term = term_taken c.args.s.now 24 c.take_term.ensures.reads c.in_err-term.was (cc) (omega arith) in
-    rw (old, new, term) (fault_read _ _ _ c.from_residual-in_err-term.ensures.1)
+    rw (old, new, term) (fault_read c.args.s.now _ _ c.from_residual-in_err-term.ensures.1)
 
 pub returns : goal.returns
 unfolding terms_fields
