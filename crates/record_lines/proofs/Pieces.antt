@@ -48,7 +48,7 @@ pub written_line : (l : Line) (fs : List ℕ) (n : ℕ) (new : Bytes) (r : Resul
 unfolding numbers_piece
 written_line l fs n new r u w e =
     rw u
-    (piece_is (written (take l.count fs) (replicate 9731 0)) n new (sym w.refusal ∙ ap refusal_in e) (sym w.length ∙ ap length_in e) w.bytes)
+    (piece_is (written (take l.count fs) (replicate 9731 0)) n new (sym w.refusal ∙ ap (refusal_in number_of) e) (sym w.length ∙ ap length_in e) w.bytes)
 
 some_number : (f : Refusal) → eqb (number_of f) 0 ≡ false
 some_number (Refusal.Unreadable Fault.UnknownKind) = refl
@@ -65,4 +65,4 @@ unfolding numbers_piece
 refused_line l fs f new r u w e =
     rw u
     (piece_none (written (take l.count fs) (replicate 9731 0))
-    (ap (λ (k : ℕ). eqb k 0) (sym w.refusal ∙ ap refusal_in e) ∙ some_number f))
+    (ap (λ (k : ℕ). eqb k 0) (sym w.refusal ∙ ap (refusal_in number_of) e) ∙ some_number f))

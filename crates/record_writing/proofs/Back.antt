@@ -1,115 +1,45 @@
 -- The fields of packed bytes are those that were packed, and bytes with these fields and filling are the packed ones.
 -- Assumes nothing.
-use Prim.Native.Nat.{ℕ, zero, suc, ◌+◌, ◌-◌, ◌*◌, ◌/◌, ◌%◌, ◌^◌, ◌≤◌, ◌<◌}
-use mathlib.Core.Path.{◌≡◌, refl, ap, sym, ◌∙◌}
+use Prim.Native.Nat.{ℕ, suc, ◌+◌, ◌-◌, ◌*◌, ◌^◌, ◌≤◌, ◌<◌}
+use mathlib.Core.Path.{◌≡◌, refl, ap, sym, subst, ◌∙◌}
 use mathlib.Core.Bool.{Bool, true, false, cond, ◌&&◌}
-use mathlib.Core.List.{List, [], ◌∷◌, ◌++◌, map}
+use mathlib.Core.List.{List, [], ◌∷◌, map}
 use native.Mathlib.Omega.{arith}
-use native.Mathlib.Nat.{zero-add, pow-suc}
-use native.Mathlib.Numerals.{add-one}
+use native.Mathlib.Nat.{zero-add}
 use borrow.Author.Tests.{eqb-true, leb-true, eq-eqb, ltb-true, lt-ltb, le-leb}
 use lib.Dec.{leb, ltb, eqb}
-use lib.Pow.{high, low, pow-add, pow_pos, shl_lt}
-use lib.ListN.{length, get_or, take, drop}
-use lib.Seq.{ext_get_or, take-append_seam}
-use Rattle.std.proofs.lemmas.Nat.{mul-add-lt}
+use lib.Pow.{pow_pos, shl_lt}
+use lib.ListN.{length, take, drop}
+use lib.Seq.{take-append_seam}
 use Rattle.model.specs.Sizes.{Bytes}
 use Rattle.model.specs.Record.{Record}
-use Rattle.model.specs.Reading.{got, Reading, readable, unreadable, field, field_at, filled, read, finish}
+use Rattle.model.specs.Reading.{got, Reading, readable, unreadable, field, field_at, filled, record_fields, read, finish}
 use Rattle.model.specs.Refusal.{Refusal, number, unknownKind, bitsMissing, filling, outOfLimit, notAbove, prefixesFull, findingsFull, old_exceeds_new, lengthExceedsFront, certificatesFull}
-use Rattle.record_bits.proofs.Widths.{field_lt, split, more, field_none}
+use Rattle.record_bits.proofs.Widths.{field_lt, split}
 use Rattle.record_entries.proofs.Given.{field_is, field_below}
-use Rattle.storage_bytes.specs.Words.{word_at, word_bytes, bytes_at, put_bytes}
-use Rattle.storage_bytes.specs.Lists.{tabulate, every}
-use Rattle.storage_bytes.proofs.ListLaws.{both, tabulate_snoc, tabulate_length, tabulate_at}
+use Rattle.storage_bytes.specs.Words.{word_bytes, put_bytes}
+use Rattle.storage_bytes.specs.Lists.{every}
+use Rattle.storage_bytes.proofs.ListLaws.{both}
 use Rattle.storage_bytes.proofs.PartLaws.{part_back}
 use Rattle.storage_bytes.proofs.WordLaws.{word_back}
+use Rattle.record_entries.specs.BitLayout.{is_marked}
 use Rattle.record_writing.specs.Spans.{Span, value_of, spans, fields, total, joined, bytes_for, packed, pack, spell}
 use Rattle.record_writing.specs.Puts.{fits}
 use Rattle.record_writing.specs.Given.{given}
-use Rattle.record_writing.specs.Laws.{OneList, ReadBack, AreBytes, OneSpelling, ReadsWritten, WritesRead}
-use Rattle.record_writing.specs.Writing.{Written, Writes, Replies, reply_of, written, put_record, put_reading, too_short}
+use Rattle.record_writing.specs.Laws.{OneList, ReadBack, AreBytes, SpelledAsRead, ReadInEither, OneSpelling, ReadsWritten, WritesRead}
+use Rattle.record_writing.specs.Writing.{Written, Gives, Writes, Replied, Replies, number_of, reply_of, written, put_record, put_reading, too_short, refused}
 use Rattle.std.specs.Prelude.{Result}
 use Rattle.record_writing.specs.declared.write.Refusal.{Refusal as Unwritten}
 use Rattle.record_writing.specs.declared.reply.WriteReply.{WriteReply}
+use Rattle.record_writing.proofs.WholeBytes.{bytes_number, bytes_below, number_bytes, all_bytes, bytes_power, parted, joined_lt}
 use Rattle.record_writing.proofs.Taken.{Takes}
 use Rattle.record_writing.proofs.Puts.{fits_is}
 use Rattle.record_writing.proofs.Packed.{pack_length}
 use Rattle.record_writing.proofs.Listed.{narrow, narrow_spans, takes_values, takes_fit, takes_back}
-use Rattle.record_writing.proofs.Sources.{given_is, read_is}
-
--- ---- the number of whole bytes
-
--- the byte n of s, as the last eight bits of n + 1 bytes
-last_byte : (s : Bytes) (n : ℕ) → get_or s n 0 < 256 → field_at s 0 (8 * suc n) ≡ field_at s 0 (8 * n) * 256 + get_or s n 0
-last_byte s n h =
-    let q : (0 + 8 * n) / 8 ≡ n = omega arith in
-    let r : (0 + 8 * n) % 8 ≡ 0 = omega arith in
-    let e : 8 * suc n ≡ 8 * n + 8 = omega arith in
-    let m = rw (q, r) at (more s 0 (8 * n) 8 (omega arith)) in
-    rw e (omega (arith, m))
-
-bytes_number : (s : Bytes) (n : ℕ) → AreBytes s → field_at s 0 (8 * n) ≡ word_at s 0 n
-unfolding word_at
-bytes_number s zero h = sym (field_none s 0 (8 * 0) refl)
-bytes_number s (suc n) h =
-    last_byte s n (h n)
-    ∙ (λ i. bytes_number s n h i * 256 + get_or s (let e : n ≡ 0 + n = omega arith in e i) 0)
-
-below_snoc : (xs : Bytes) (b : ℕ) → AreBytes xs → b < 256 → AreBytes (xs ++ (b ∷ []))
-below_snoc [] b h l zero = l
-below_snoc [] b h l (suc i) = omega arith
-below_snoc (x ∷ xs) b h l zero = h 0
-below_snoc (x ∷ xs) b h l (suc i) = below_snoc xs b (λ i. h (suc i)) l i
-
-bytes_below : (n v : ℕ) → AreBytes (word_bytes n v)
-unfolding word_bytes
-bytes_below zero v = λ i. omega arith
-bytes_below (suc n) v = below_snoc (word_bytes n (v / 256)) (v % 256) (bytes_below n (v / 256)) (omega arith)
-
--- bytes are those of their number
-number_bytes : (s : Bytes) (n : ℕ) → AreBytes s → word_bytes n (word_at s 0 n) ≡ bytes_at s 0 n
-unfolding word_bytes word_at bytes_at tabulate
-number_bytes s zero h = refl
-number_bytes s (suc n) h =
-    let b = h (0 + n) in
-    let d : (word_at s 0 n * 256 + get_or s (0 + n) 0) / 256 ≡ word_at s 0 n = omega (arith, b) in
-    let m : (word_at s 0 n * 256 + get_or s (0 + n) 0) % 256 ≡ get_or s (0 + n) 0 = omega (arith, b) in
-    rw (d, m)
-    (ap (λ (l : Bytes). l ++ (get_or s (0 + n) 0 ∷ [])) (number_bytes s n h)
-    ∙ sym (tabulate_snoc (λ i. get_or s i 0) 0 n)
-    ∙ ap (tabulate (λ i. get_or s i 0) 0) (add-one n))
-
-all_bytes : (s : Bytes) → bytes_at s 0 (length s) ≡ s
-unfolding bytes_at
-all_bytes s =
-    ext_get_or 0 _ _ (tabulate_length _ 0 (length s))
-    (λ i l. tabulate_at (λ k. get_or s k 0) 0 (length s) i 0 (omega (arith, l, tabulate_length (λ k. get_or s k 0) 0 (length s)))
-    ∙ ap (λ (k : ℕ). get_or s k 0) (zero-add i))
-
-bytes_power : (n : ℕ) → 256 ^ n ≡ 2 ^ (8 * n)
-bytes_power zero = refl
-bytes_power (suc n) =
-    pow-suc 256 n
-    ∙ ap (λ (k : ℕ). k * 256) (bytes_power n)
-    ∙ sym (ap (λ (k : ℕ). 2 ^ k) (let z : 8 * suc n ≡ 8 * n + 8 = omega arith in z) ∙ pow-add 2 (8 * n) 8)
+use Rattle.record_writing.proofs.Sources.{bits_below, kind_plain, record_same, given_is, read_is}
+use Rattle.record_writing.proofs.Editions.{other_fits, read_other}
 
 -- ---- joined fields
-
--- one number of j bits behind another: both are known from the whole
-parted : (j : ℕ) {a b c d : ℕ} → a * 2 ^ j + b ≡ c * 2 ^ j + d → b < 2 ^ j → d < 2 ^ j → (a ≡ c) × (b ≡ d)
-parted j {a = a} {b = b} {c = c} {d = d} e h l =
-    (sym (high a j h) ∙ ap (λ (x : ℕ). x / 2 ^ j) e ∙ high c j l, sym (low a j h) ∙ ap (λ (x : ℕ). x % 2 ^ j) e ∙ low c j l)
-
-joined_lt : (n k : ℕ) (xs : List Span) → n < 2 ^ k → every fits xs ≡ true → joined n xs < 2 ^ (k + total xs)
-unfolding joined total every
-joined_lt n k [] h e = let z : k ≡ k + 0 = omega arith in rw z at h
-joined_lt n k (x ∷ xs) h e =
-    let q = both (fits x) (every fits xs) e in
-    let f = (fits_is x q.0).2 in
-    let l : n * 2 ^ x.width + x.value < 2 ^ (k + x.width) = rw (pow-add 2 k x.width) (omega (arith, mul-add-lt n (2 ^ x.width) x.value (2 ^ k) h f)) in
-    let z : k + x.width + total xs ≡ k + (x.width + total xs) = omega arith in
-    rw z at (joined_lt (n * 2 ^ x.width + x.value) (k + x.width) xs l q.1)
 
 field_back : (s : Bytes) (k w : ℕ) → k + w ≤ 8 * length s → field w s k ≡ got (field_at s k w) (k + w)
 unfolding field
@@ -235,46 +165,78 @@ map_length : (xs : List Span) → length (map value_of xs) ≡ length xs
 map_length [] = refl
 map_length (x ∷ xs) = ap suc (map_length xs)
 
+-- packed fields of a record, which are read as that record
+packed_read : (marked : Bool) (r : Record) → every fits (spans marked r) ≡ true
+    → ((u : Bytes) (l : ℕ) → Takes field u (spans marked r) 0 l → record_fields u 0 ≡ got r l) → read (spell marked r) ≡ readable r
+unfolding spell read
+packed_read marked r fit again =
+    let xs : List Span = spans marked r in
+    ap (finish (pack xs)) (again (pack xs) (total xs) (packed_takes xs fit))
+    ∙ ap (λ (b : Bool). cond b (readable r) (unreadable filling)) (packed_filled xs fit)
+
 pub one_list : OneList
-one_list fs r e = takes_values fs (spans r) 0 (given_is fs r e).took
+one_list fs r e = takes_values fs (spans false r) 0 (given_is fs r e).took
 
 pub read_back : ReadBack
-unfolding spell read
 read_back fs r e =
     let g = given_is fs r e in
-    let fit = takes_fit fs (spans r) 0 (length fs) (narrow_spans r) g.took in
-    ap (finish (pack (spans r))) (g.again (pack (spans r)) (total (spans r)) (packed_takes (spans r) fit))
-    ∙ ap (λ (b : Bool). cond b (readable r) (unreadable filling)) (packed_filled (spans r) fit)
+    packed_read false r (takes_fit fs (spans false r) 0 (length fs) (narrow_spans false r) g.took) g.again
+
+pub spelled_as_read : SpelledAsRead
+unfolding spell
+spelled_as_read s r below e = let d = read_is s r e in packed_back s (spans (is_marked s) r) d.end below d.took d.full
+
+-- what was read has fields that fit, in its edition
+pub read_fits : (s : Bytes) (r : Record) → read s ≡ readable r → every fits (spans (is_marked s) r) ≡ true
+read_fits s r e = let d = read_is s r e in takes_below s (spans (is_marked s) r) 0 d.end (narrow_spans (is_marked s) r) d.took
+
+pub read_in_either : ReadInEither
+read_in_either s r marked e h =
+    packed_read marked r (other_fits (is_marked s) marked r (read_fits s r e))
+    (λ u l t. sym (record_same u 0) ∙ read_other field field bits_below s u 0 (read_is s r e).end marked 0 l r (read_is s r e).whole h t)
 
 pub one_spelling : OneSpelling
-unfolding spell
-one_spelling s r below e =
+one_spelling s r below h e =
     let d = read_is s r e in
-    let fit = takes_below s (spans r) 0 d.end (narrow_spans r) d.took in
+    let m : is_marked s ≡ false = kind_plain (field_at s 0 4) h in
+    let xs : List Span = spans false r in
+    let fit : every fits xs ≡ true = subst (λ (b : Bool). every fits (spans b r) ≡ true) m (read_fits s r e) in
     record {
-      numbers = d.again (fields r) (takes_back (fields r) (spans r) 0 fit refl (zero-add (length (spans r)) ∙ sym (map_length (spans r))));
-      bytes = packed_back s (spans r) d.end below d.took d.full;
+      numbers = d.numbers h (fields r) (takes_back (fields r) xs 0 fit refl (zero-add (length xs) ∙ sym (map_length xs)));
+      bytes = ap (λ (b : Bool). spell b r) (sym m) ∙ spelled_as_read s r below e;
     }
 
 -- ---- of what the writer leaves
 
 -- the bytes written from the start
-written_first : (b s : Bytes) → length s ≤ length b → take (length s) (put_bytes b 0 s) ≡ s
+pub written_first : (b s : Bytes) → length s ≤ length b → take (length s) (put_bytes b 0 s) ≡ s
 written_first b s h =
     ap (take (length s)) (sym (part_back b 0 s (omega arith)))
     ∙ take-append_seam s (drop (0 + length s) b)
 
--- a record's bytes where there is room or not
-abbrev put_if : Bytes → Bytes → Bool → Written
-put_if b s c = cond c (record { refusal = 0; length = length s; bytes = put_bytes b 0 s }) (record { refusal = too_short; length = 0; bytes = b })
+-- bytes that were written where there was room are read as what they are
+pub read_put : (b s : Bytes) (g : Reading) → read s ≡ g → (put_record b s).refusal ≡ 0
+    → read (take (put_record b s).length (put_record b s).bytes) ≡ g
+read_put b s g p e = by (leb (length s) (length b)) refl e
+  where
+    put_if : Bool → Written
+    put_if c = cond c (record { refusal = 0; length = length s; bytes = put_bytes b 0 s }) (refused too_short b)
 
-read_put : (fs : List ℕ) (b : Bytes) (r : Record) → given fs ≡ readable r → (c : Bool) → leb (length (spell r)) (length b) ≡ c
-    → (put_if b (spell r) c).refusal ≡ 0
-    → read (take (put_if b (spell r) c).length (put_if b (spell r) c).bytes) ≡ readable r
-read_put fs b r p true q e = ap read (written_first b (spell r) (leb-true _ _ q)) ∙ read_back fs r p
-read_put fs b r p false q e = absurd (omega (arith, e))
+    by : (c : Bool) → leb (length s) (length b) ≡ c → (put_if c).refusal ≡ 0 → read (take (put_if c).length (put_if c).bytes) ≡ g
+    by true q e = ap read (written_first b s (leb-true _ _ q)) ∙ p
+    by false q e = absurd (omega (arith, e))
 
-number_some : (f : Refusal) → number f ≡ 0 → ⊥
+pub put_kept : (b s : Bytes) → ((put_record b s).refusal ≡ 0 → ⊥) → (put_record b s).bytes ≡ b
+put_kept b s h = by (leb (length s) (length b)) h
+  where
+    put_if : Bool → Written
+    put_if c = cond c (record { refusal = 0; length = length s; bytes = put_bytes b 0 s }) (refused too_short b)
+
+    by : (c : Bool) → ((put_if c).refusal ≡ 0 → ⊥) → (put_if c).bytes ≡ b
+    by true h = absurd (h refl)
+    by false h = refl
+
+pub number_some : (f : Refusal) → number f ≡ 0 → ⊥
 number_some unknownKind e = omega (arith, e)
 number_some bitsMissing e = omega (arith, e)
 number_some filling e = omega (arith, e)
@@ -292,34 +254,37 @@ reads_written fs b e = by (given fs) refl e
   where
     by : (g : Reading) → given fs ≡ g → (put_reading b g).refusal ≡ 0
         → read (take (put_reading b g).length (put_reading b g).bytes) ≡ g
-    by (readable r) p e = read_put fs b r p (leb (length (spell r)) (length b)) refl e
+    by (readable r) p e = read_put b (spell false r) (readable r) (read_back fs r p) e
     by (unreadable f) p e = absurd (number_some f e)
 
 pub writes_read : WritesRead
 unfolding written
-writes_read s r b below e =
-    let o = one_spelling s r below e in
+writes_read s r b below h e =
+    let o = one_spelling s r below h e in
     ap (put_reading b) o.numbers ∙ ap (put_record b) o.bytes
 
 refused_same : (b : Bytes) (g : Reading) → ((put_reading b g).refusal ≡ 0 → ⊥) → (put_reading b g).bytes ≡ b
-refused_same b (readable r) h = by (leb (length (spell r)) (length b)) h
-  where
-    by : (c : Bool) → ((put_if b (spell r) c).refusal ≡ 0 → ⊥) → (put_if b (spell r) c).bytes ≡ b
-    by true h = absurd (h refl)
-    by false h = refl
+refused_same b (readable r) h = put_kept b (spell false r) h
 refused_same b (unreadable f) h = refl
 
--- the numbers of the writer's answer
-pub replies : (fs : List ℕ) (old new : Bytes) (a : Result ℕ Unwritten) (r : WriteReply) → Writes fs old a new
-    → r ≡ reply_of a → Replies fs old r new
-unfolding written
-replies fs old new a r w e =
-    let f : r.refusal ≡ (written fs old).refusal = (λ i. (e i).refusal) ∙ w.refusal in
-    let l : r.length ≡ (written fs old).length = (λ i. (e i).length) ∙ w.length in
+-- the numbers of an answer
+pub replied : {E : Type 0} (number : E → ℕ) (w : Written) (meant : Reading) (old new : Bytes) (a : Result ℕ E) (r : WriteReply)
+    → Gives number w a new → r ≡ reply_of number a
+    → (w.refusal ≡ 0 → read (take w.length w.bytes) ≡ meant) → ((w.refusal ≡ 0 → ⊥) → w.bytes ≡ old)
+    → Replied w meant old r new
+replied number w meant old new a r g e reads kept =
+    let f : r.refusal ≡ w.refusal = (λ i. (e i).refusal) ∙ g.refusal in
+    let l : r.length ≡ w.length = (λ i. (e i).length) ∙ g.length in
     record {
       refusal = f;
       length = l;
-      bytes = w.bytes;
-      reads = λ z. (λ i. read (take (l i) (w.bytes i))) ∙ reads_written fs old (sym f ∙ z);
-      refused = λ z. w.bytes ∙ refused_same old (given fs) (λ y. z (f ∙ y));
+      bytes = g.bytes;
+      reads = λ z. (λ i. read (take (l i) (g.bytes i))) ∙ reads (sym f ∙ z);
+      refused = λ z. g.bytes ∙ kept (λ y. z (f ∙ y));
     }
+
+pub replies : (fs : List ℕ) (old new : Bytes) (a : Result ℕ Unwritten) (r : WriteReply) → Writes fs old a new
+    → r ≡ reply_of number_of a → Replies fs old r new
+unfolding written
+replies fs old new a r w e =
+    replied number_of (written fs old) (given fs) old new a r w e (reads_written fs old) (refused_same old (given fs))

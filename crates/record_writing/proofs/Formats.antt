@@ -2,7 +2,7 @@
 -- Assumes nothing.
 use Prim.Native.Nat.{ℕ, zero, suc, ◌-◌, ◌^◌, ◌<◌}
 use mathlib.Core.Path.{◌≡◌, refl, ap, sym, ◌∙◌}
-use mathlib.Core.Bool.{Bool, cond}
+use mathlib.Core.Bool.{Bool, true, false, cond}
 use mathlib.Core.List.{List, [], ◌∷◌, ◌++◌}
 use native.Mathlib.Omega.{arith}
 use borrow.Author.Tests.{eqb-true}
@@ -15,8 +15,8 @@ use Rattle.model.specs.Record.{Record, check}
 use Rattle.model.specs.Reading.{got, Reader, return}
 use Rattle.record_entries.specs.BitLayout.{index_of, node_of}
 use Rattle.record_entries.proofs.Given.{fault≢got}
-use Rattle.record_writing.specs.Spans.{Span, span, bit, content_spans, entry_spans, configuration_spans, row_spans, all_spans, spans}
-use Rattle.record_writing.specs.Format.{no_key, content_byte, content, limited, yes_no, governed, entry_index, row_node, shown, configuration, row, view_fields, commit_fields, terms_fields, election_fields, rows_fields, fields_of}
+use Rattle.record_writing.specs.Spans.{Span, span, bit, content_spans, mark_spans, entry_spans, configuration_spans, row_spans, all_spans, spans}
+use Rattle.record_writing.specs.Format.{view_kind, no_key, content_byte, content, limited, yes_no, governed, entry_index, row_node, mark, shown, configuration, row, view_fields, commit_fields, terms_fields, election_fields, rows_fields, fields_of}
 use Rattle.record_writing.proofs.Taken.{Source, Same, same_bind, same_return, same_require, same_cond, same_many, same_weaker}
 
 -- one field of w bits
@@ -27,6 +27,15 @@ eights : (bs : List ℕ) → all_spans (λ v. span 8 v ∷ []) bs ≡ content_sp
 unfolding all_spans
 eights [] = refl
 eights (b ∷ bs) = ap (λ (l : List Span). span 8 b ∷ l) (eights bs)
+
+-- a mark, and the fields behind it
+pub mark_then : (marked m : Bool) (xs : List Span) → mark_spans marked m [] ++ xs ≡ mark_spans marked m xs
+mark_then true m xs = refl
+mark_then false m xs = refl
+
+-- whether a kind's views show marks
+abbrev pub kind_marked : ℕ → Bool
+kind_marked kind = eqb kind (view_kind true)
 
 module _ (p q : Source) (below : (w : ℕ) (s : Bytes) (k v j : ℕ) → p w s k ≡ got v j → v < 2 ^ w) where
   -- ---- fields
@@ -75,26 +84,34 @@ module _ (p q : Source) (below : (w : ℕ) (s : Bytes) (k v j : ℕ) → p w s k
       same_require p q (leb least n) notAbove n (λ t. append-nil xs ∙ e.0))
 
   -- the bytes of a content
-  same_content : (n : ℕ) → Same p q (λ bs xs. (xs ≡ content_spans bs) × (length bs ≡ n)) (content p n) (content q n)
+  pub same_content : (n : ℕ) → Same p q (λ bs xs. (xs ≡ content_spans bs) × (length bs ≡ n)) (content p n) (content q n)
   same_content n =
       same_weaker p q
       (same_many p q (λ v. span 8 v ∷ []) (content_byte p) (content_byte q) no_key
       (λ least. same_weaker p q (same_field 8) (λ v xs e. e.0)) 0 n)
       (λ bs xs e. (e.0 ∙ eights bs, e.1))
 
+  -- a mark, where it is shown
+  pub same_mark : (marked : Bool) → Same p q (λ m xs. xs ≡ mark_spans marked m []) (mark p marked) (mark q marked)
+  unfolding mark
+  same_mark true = same_yes_no
+  same_mark false = same_return p q refl
+
   -- ---- items
 
-  pub same_shown : (least : ℕ) → Same p q (λ x xs. xs ≡ entry_spans x) (shown p least) (shown q least)
+  pub same_shown : (marked : Bool) (least : ℕ)
+      → Same p q (λ x xs. xs ≡ entry_spans marked x) (shown p marked least) (shown q marked least)
   unfolding shown
-  same_shown least =
+  same_shown marked least =
       same_bind p q (same_entry_index least) (λ i xs e.
       same_bind p q (same_field 32) (λ t ys f.
+      same_bind p q (same_mark marked) (λ m vs o.
       same_bind p q (same_limited 6 content_limit) (λ n zs g.
       same_bind p q (same_content n) (λ c ws h.
       same_return p q (
-      (λ d. e d ++ (f.0 d ++ (g d ++ (append-nil ws ∙ h.0) d)))
-      ∙ ap (λ (n : ℕ). span 10 i ∷ span 32 t ∷ span 6 n ∷ content_spans c) (sym h.1)
-      )))))
+      (λ d. e d ++ (f.0 d ++ (o d ++ (g d ++ (append-nil ws ∙ h.0) d))))
+      ∙ (λ d. span 10 i ∷ span 32 t ∷ mark_then marked m (span 6 (sym h.1 d) ∷ content_spans c) d)
+      ))))))
 
   pub same_configuration : Same p q (λ x xs. xs ≡ configuration_spans x []) (configuration p) (configuration q)
   unfolding configuration
@@ -118,17 +135,18 @@ module _ (p q : Source) (below : (w : ℕ) (s : Bytes) (k v j : ℕ) → p w s k
   -- ---- kinds: the fields behind the kind
 
   abbrev pub Behind : ℕ → Record → List Span → Type 0
-  Behind kind r xs = span 4 kind ∷ xs ≡ spans r
+  Behind kind r xs = span 4 kind ∷ xs ≡ spans (kind_marked kind) r
 
-  same_view : Same p q (Behind 1) (view_fields p) (view_fields q)
+  same_view : (marked : Bool)
+      → Same p q (λ r xs. span 4 (view_kind marked) ∷ xs ≡ spans marked r) (view_fields p marked) (view_fields q marked)
   unfolding view_fields spans
-  same_view =
+  same_view marked =
       same_bind p q (same_field 6) (λ n xs e.
       same_bind p q (same_limited 10 index_limit) (λ c ys f.
-      same_bind p q (same_many p q entry_spans (shown p) (shown q) index_of same_shown 0 c) (λ es zs g.
+      same_bind p q (same_many p q (entry_spans marked) (shown p marked) (shown q marked) index_of (same_shown marked) 0 c) (λ es zs g.
       same_return p q (
-      (λ d. span 4 1 ∷ (e.0 d ++ (f d ++ (append-nil zs ∙ g.0) d)))
-      ∙ ap (λ (c : ℕ). span 4 1 ∷ span 6 n ∷ span 10 c ∷ all_spans entry_spans es) (sym g.1)
+      (λ d. span 4 (view_kind marked) ∷ (e.0 d ++ (f d ++ (append-nil zs ∙ g.0) d)))
+      ∙ ap (λ (c : ℕ). span 4 (view_kind marked) ∷ span 6 n ∷ span 10 c ∷ all_spans (entry_spans marked) es) (sym g.1)
       ))))
 
   same_commit : Same p q (Behind 2) (commit_fields p) (commit_fields q)
@@ -169,14 +187,16 @@ module _ (p q : Source) (below : (w : ℕ) (s : Bytes) (k v j : ℕ) → p w s k
       ∙ ap (λ (c : ℕ). span 4 6 ∷ span 10 c ∷ all_spans row_spans rs) (sym g.1)
       )))
 
+  -- of any kind
   pub same_fields : (kind : ℕ) → Same p q (Behind kind) (fields_of p kind) (fields_of q kind)
   unfolding fields_of
   same_fields kind =
-      at 1 same_view (at 2 same_commit (at 3 same_terms (at 4 same_election (at 5 same_check (at 6 same_rows (λ s k r j e. absurd (fault≢got e)))))))
+      at 1 (same_view false) (at 2 same_commit (at 3 same_terms (at 4 same_election (at 5 same_check (at 6 same_rows
+      (at 9 (same_view true) (λ s k r j e. absurd (fault≢got e))))))))
     where
       at : (n : ℕ) {m f g h : Reader Record} → Same p q (Behind n) m f → Same p q (Behind kind) g h
           → Same p q (Behind kind) (cond (eqb kind n) m g) (cond (eqb kind n) f h)
       at n a b =
           same_cond p q (eqb kind n)
-          (λ t. same_weaker p q a (λ r xs e. ap (λ (k : ℕ). span 4 k ∷ xs) (eqb-true kind n t) ∙ e))
+          (λ t. same_weaker p q a (λ r xs e. let z = eqb-true kind n t in ap (λ (k : ℕ). span 4 k ∷ xs) z ∙ e ∙ ap (λ (k : ℕ). spans (kind_marked k) r) (sym z)))
           (λ t. b)

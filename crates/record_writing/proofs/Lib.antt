@@ -3,7 +3,10 @@ pub mod Puts
 pub mod Taken
 pub mod Formats
 pub mod Sources
+pub mod WholeBytes
 pub mod Packed
+pub mod Joins
 pub mod Listed
+pub mod Editions
 pub mod Whole
 pub mod Back

@@ -61,12 +61,12 @@ contents_count (b ∷ bs) = ap suc (contents_count bs)
 abbrev pub narrow : Span → Bool
 narrow x = ltb 0 x.width && leb x.width 32
 
-narrow_append : (xs ys : List Span) → every narrow xs ≡ true → every narrow ys ≡ true → every narrow (xs ++ ys) ≡ true
+pub every_join : (f : Span → Bool) (xs ys : List Span) → every f xs ≡ true → every f ys ≡ true → every f (xs ++ ys) ≡ true
 unfolding every
-narrow_append [] ys a b = b
-narrow_append (x ∷ xs) ys a b =
-    let p = both (narrow x) (every narrow xs) a in
-    λ i. p.0 i && narrow_append xs ys p.1 b i
+every_join f [] ys a b = b
+every_join f (x ∷ xs) ys a b =
+    let p = both (f x) (every f xs) a in
+    λ i. p.0 i && every_join f xs ys p.1 b i
 
 narrow_content : (bs : List ℕ) → every narrow (content_spans bs) ≡ true
 unfolding every
@@ -114,8 +114,8 @@ module _ (fs : List ℕ) where
       ∙ ap (λ (m : ℕ). contents_by fs m (length bs)) (sym n.next)
       ∙ contents_back bs t.place j t.then) i
 
-  entry_back : (x : Shown) (k j : ℕ) → Takes number fs (entry_spans x) k j
-      → (entry_by fs k ≡ entry_spans x) × (j ≡ k + 3 + content_count fs k)
+  entry_back : (x : Shown) (k j : ℕ) → Takes number fs (entry_spans false x) k j
+      → (entry_by fs k ≡ entry_spans false x) × (j ≡ k + 3 + content_count fs k)
   entry_back x k j t =
       let heads : List Span = span 10 x.index ∷ span 32 x.entry.term ∷ span 6 (length x.entry.content) ∷ [] in
       let b = takes_both number fs heads (content_spans x.entry.content) k j t in
@@ -135,12 +135,12 @@ module _ (fs : List ℕ) where
         omega (arith, e, l, c, p),
       )
 
-  entries_back : (xs : List Shown) (k j : ℕ) → Takes number fs (all_spans entry_spans xs) k j
-      → entries_by fs k (length xs) ≡ all_spans entry_spans xs
+  entries_back : (xs : List Shown) (k j : ℕ) → Takes number fs (all_spans (entry_spans false) xs) k j
+      → entries_by fs k (length xs) ≡ all_spans (entry_spans false) xs
   unfolding entries_by all_spans
   entries_back [] k j t = refl
   entries_back (x ∷ xs) k j t =
-      let b = takes_both number fs (entry_spans x) (all_spans entry_spans xs) k j t in
+      let b = takes_both number fs (entry_spans false x) (all_spans (entry_spans false) xs) k j t in
       let e = entry_back x k b.place b.before in
       λ i. e.0 i ++ (ap (λ (m : ℕ). entries_by fs m (length xs)) (sym e.1) ∙ entries_back xs b.place j b.after) i
 
@@ -154,11 +154,11 @@ module _ (fs : List ℕ) where
       let p = takes_end (row_spans x) k b.place b.before in
       λ i. e i ++ (ap (λ (m : ℕ). rows_by fs m (length xs)) (let q : k + 10 ≡ b.place = omega (arith, p) in q) ∙ rows_back xs b.place j b.after) i
 
-  pub record_back : (r : Record) (j : ℕ) → Takes number fs (spans r) 0 j → record_by fs ≡ spans r
+  pub record_back : (r : Record) (j : ℕ) → Takes number fs (spans false r) 0 j → record_by fs ≡ spans false r
   unfolding spans record_by
   record_back (view n es) j t =
       let heads : List Span = span 4 1 ∷ span 6 n ∷ span 10 (length es) ∷ [] in
-      let b = takes_both number fs heads (all_spans entry_spans es) 0 j t in
+      let b = takes_both number fs heads (all_spans (entry_spans false) es) 0 j t in
       let u = t.then in
       let v = u.then in
       let n1 = number_is fs 0 4 1 t.place t.read in
@@ -221,13 +221,19 @@ narrow_all : {A : Type 0} (f : A → List Span) → ((x : A) → every narrow (f
     → every narrow (all_spans f xs) ≡ true
 unfolding every all_spans
 narrow_all f h [] = refl
-narrow_all f h (x ∷ xs) = narrow_append (f x) (all_spans f xs) (h x) (narrow_all f h xs)
+narrow_all f h (x ∷ xs) = every_join narrow (f x) (all_spans f xs) (h x) (narrow_all f h xs)
 
-pub narrow_spans : (r : Record) → every narrow (spans r) ≡ true
+narrow_entry : (marked : Bool) (x : Shown) → every narrow (entry_spans marked x) ≡ true
+unfolding every
+narrow_entry true x = narrow_content x.entry.content
+narrow_entry false x = narrow_content x.entry.content
+
+pub narrow_spans : (marked : Bool) (r : Record) → every narrow (spans marked r) ≡ true
 unfolding every spans
-narrow_spans (view n es) = narrow_all entry_spans (λ x. narrow_content x.entry.content) es
-narrow_spans (commit n i) = refl
-narrow_spans (terms o n t) = refl
-narrow_spans (election l t p n) = refl
-narrow_spans check = refl
-narrow_spans (rows rs) = narrow_all row_spans (λ x. refl) rs
+narrow_spans true (view n es) = narrow_all (entry_spans true) (narrow_entry true) es
+narrow_spans false (view n es) = narrow_all (entry_spans false) (narrow_entry false) es
+narrow_spans marked (commit n i) = refl
+narrow_spans marked (terms o n t) = refl
+narrow_spans marked (election l t p n) = refl
+narrow_spans marked check = refl
+narrow_spans marked (rows rs) = narrow_all row_spans (λ x. refl) rs

@@ -79,13 +79,13 @@ kept_first t below f (suc o) r xs e h s room =
 -- ---- one field more
 
 module _ (t : Bytes) (below : (i : ℕ) → get_or t i 0 < 256) (k n w v : ℕ) (some : 0 < w) (l : v < 2 ^ w) (room : k + w ≤ 8 * length t) where
-  whole : Bytes
+  unfoldable pub whole : Bytes
   whole = word_bytes (k / 8) (n / 2 ^ (k % 8))
 
   rest : Bytes
   rest = word_bytes ((k % 8 + 7) / 8) (n % 2 ^ (k % 8) * 2 ^ (8 * ((k % 8 + 7) / 8) - k % 8))
 
-  next : Bytes
+  unfoldable pub next : Bytes
   next = word_bytes (reach k w) ((n % 2 ^ (k % 8) * 2 ^ w + v) * 2 ^ (8 * reach k w - (k % 8 + w)))
 
   -- the whole bytes, and the bits behind them
@@ -98,7 +98,7 @@ module _ (t : Bytes) (below : (i : ℕ) → get_or t i 0 < 256) (k n w v : ℕ) 
       (λ i. word_bytes (a i) (sym (div-add-mod' n (2 ^ o)) i * 2 ^ b i))
       ∙ word_above (k / 8) ((o + 7) / 8) o (n / 2 ^ o) (n % 2 ^ o) (mod-lt n (pow_pos o)) (omega arith)
 
-  packed_more : packed (k + w) (n * 2 ^ w + v) ≡ whole ++ next
+  pub packed_more : packed (k + w) (n * 2 ^ w + v) ≡ whole ++ next
   unfolding packed whole next
   packed_more =
       let o : ℕ = k % 8 in
@@ -157,6 +157,10 @@ spans_put t below xs g h =
     spans_more t below 0 0 xs g (omega arith)
     ∙ ap (λ (j : ℕ). put_bytes t 0 (packed j (joined 0 xs))) (let e : 0 + total xs ≡ total xs = omega arith in e)
 
+pub packed_length : (k n : ℕ) → length (packed k n) ≡ bytes_for k
+unfolding packed
+packed_length k n = word_bytes_length (bytes_for k) (n * 2 ^ (8 * bytes_for k - k))
+
 pub pack_length : (xs : List Span) → length (pack xs) ≡ bytes_for (total xs)
-unfolding pack packed
-pack_length xs = word_bytes_length (bytes_for (total xs)) (joined 0 xs * 2 ^ (8 * bytes_for (total xs) - total xs))
+unfolding pack
+pack_length xs = packed_length (total xs) (joined 0 xs)

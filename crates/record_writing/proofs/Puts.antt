@@ -224,7 +224,7 @@ module _ {u : Bytes} {from : ℕ} {all : List Span} {m : ℕ} (fs : List ℕ) (k
 -- ---- fields written into a part
 
 -- a place lies before, behind or among the n places from a on
-around : {P : Type 0} (i a n : ℕ) → (i < a → P) → (a + n ≤ i → P) → ((j : ℕ) → j < n → i ≡ a + j → P) → P
+pub around : {P : Type 0} (i a n : ℕ) → (i < a → P) → (a + n ≤ i → P) → ((j : ℕ) → j < n → i ≡ a + j → P) → P
 around i a n f g h =
     elim (dec_lt i a) [
       | yes l ↦ f l
@@ -271,7 +271,7 @@ written_again t f n o w v ys r h p l =
     ap (λ (j : ℕ). put_bytes (put_bytes t j vs) f ys) a ∙ again t f (o / 8) vs ys (omega (arith, k, b, l)) (omega (arith, l))
 
 -- a part given back as it was
-part_same : (t : Bytes) (f n : ℕ) → f + n ≤ length t → put_bytes t f (part t f n) ≡ t
+pub part_same : (t : Bytes) (f n : ℕ) → f + n ≤ length t → put_bytes t f (part t f n) ≡ t
 part_same t f n r =
     ext_get_or 0 _ _
     (put_length t f (part t f n))

@@ -2,27 +2,29 @@
 -- record that one source gives is given by the other where it has the same fields.
 -- Assumes nothing.
 use Prim.Native.Nat.{ℕ, zero, suc, ◌+◌, ◌*◌, ◌^◌, ◌≤◌, ◌<◌}
-use mathlib.Core.Path.{◌≡◌, refl, ap, sym, ◌∙◌}
+use mathlib.Core.Path.{◌≡◌, refl, ap, sym, subst, ◌∙◌}
 use mathlib.Core.Bool.{Bool, true, false, cond}
-use mathlib.Core.List.{List, [], ◌∷◌, ◌++◌}
+use mathlib.Core.List.{List, ◌∷◌}
 use native.Mathlib.Decide.{dec_le}
 use native.Mathlib.Omega.{arith}
-use borrow.Author.Tests.{eqb-true, eq-eqb, ltb-true, le-leb, lt-leb}
+use borrow.Author.Tests.{eqb-true, eq-eqb, leb-true, ltb-true, le-leb, lt-leb, lt-ltb}
 use lib.Dec.{leb, ltb, eqb}
 use lib.ListN.{length, get_or}
+use Rattle.std.proofs.lemmas.Bool.{ne_eqb}
 use Rattle.model.specs.Sizes.{Bytes, content_limit}
 use Rattle.model.specs.Refusal.{unknownKind, bitsMissing, outOfLimit, filling}
-use Rattle.model.specs.Record.{Shown, Record, view}
+use Rattle.model.specs.Record.{Shown, Record, view, check}
 use Rattle.model.specs.Reading as reading
-use Rattle.model.specs.Reading.{Part, got, fault, Reader, onward, ◌>>=◌, return, require, many, field, field_at, bytes_at, readable, unreadable, read, finish, filled}
-use Rattle.record_entries.specs.BitLayout.{index_of}
-use Rattle.record_entries.proofs.Given.{fault≢got, got_same, field_below, limited_is}
-use Rattle.record_writing.specs.Spans.{span, spans}
+use Rattle.model.specs.Reading.{Part, got, fault, Reader, onward, ◌>>=◌, return, many, field, field_at, bytes_at, readable, unreadable, read, finish, filled}
+use Rattle.record_entries.specs.BitLayout.{index_of, is_marked}
+use Rattle.record_entries.proofs.Given.{fault≢got, got_same, went, field_is, field_below, limited_is}
+use Rattle.record_writing.specs.Spans.{Span, span, spans}
 use Rattle.record_writing.specs.Format as format
 use Rattle.record_writing.specs.Format.{no_key, content_byte, content}
-use Rattle.record_writing.specs.Given.{number, kind_number, record_numbers, given, last_number}
-use Rattle.record_writing.proofs.Taken.{Takes, Same, same_bind, same_weaker}
-use Rattle.record_writing.proofs.Formats.{One, same_fields}
+use Rattle.record_writing.specs.Given.{last_kind, number, kind_number, record_numbers, given, last_number}
+use Rattle.record_writing.proofs.Taken.{Source, First, Takes}
+use Rattle.record_writing.proofs.Formats.{kind_marked, same_fields}
+use Rattle.record_writing.proofs.Listed.{number_is}
 
 -- ---- the format over bits is the model's
 
@@ -63,25 +65,39 @@ bits_content s least (suc n) k h =
     one_more true = refl
     one_more false = refl
 
-bits_shown : (s : Bytes) (least k : ℕ) → format.shown field least s k ≡ reading.shown least s k
-unfolding format.shown reading.shown format.entry_index reading.entry_index format.limited reading.limited
-bits_shown s least k =
+bits_shown : (marked : Bool) (s : Bytes) (least k : ℕ) → format.shown field marked least s k ≡ reading.shown marked least s k
+unfolding format.shown reading.shown format.entry_index reading.entry_index format.mark reading.mark format.yes_no reading.yes_no format.limited reading.limited
+bits_shown marked s least k =
     onward_same s (reading.entry_index least s k) _ _ (λ i a e.
     onward_same s (field 32 s a) _ _ (λ t b f.
-    onward_same s (reading.limited 6 content_limit s b) _ _ (λ n c g.
-    ap (λ (p : Part (List ℕ)). onward s p (λ bs. return (record { index = i; entry = record { term = t; content = bs } })))
-    (bits_content s 0 n c (let l = limited_is s b 6 content_limit g in omega (arith, l.field.whole, l.field.next))))))
+    onward_same s (reading.mark marked s b) _ _ (λ m c o.
+    onward_same s (reading.limited 6 content_limit s c) _ _ (λ n d g.
+    ap (λ (p : Part (List ℕ)). onward s p (λ bs. return (record { index = i; entry = record { term = t; configuration = m; content = bs } })))
+    (bits_content s 0 n d (let l = limited_is s c 6 content_limit g in omega (arith, l.field.whole, l.field.next)))))))
+
+bits_view : (marked : Bool) (s : Bytes) (k : ℕ) → format.view_fields field marked s k ≡ reading.view_fields marked s k
+unfolding format.view_fields reading.view_fields format.limited reading.limited
+bits_view marked s k =
+    onward_same s (field 6 s k) _ _ (λ n a e.
+    onward_same s (reading.index s a) _ _ (λ c b f.
+    ap (λ (p : Part (List Shown)). onward s p (λ es. return (view n es)))
+    (many_same (format.shown field marked) (reading.shown marked) index_of s (bits_shown marked s) 0 c b)))
 
 bits_fields : (kind : ℕ) (s : Bytes) (k : ℕ) → format.fields_of field kind s k ≡ reading.fields_of kind s k
-unfolding format.fields_of reading.fields_of format.view_fields reading.view_fields format.commit_fields reading.commit_fields format.terms_fields reading.terms_fields format.election_fields reading.election_fields format.rows_fields reading.rows_fields format.limited reading.limited format.row reading.row format.configuration reading.configuration format.yes_no reading.yes_no format.governed reading.governed format.row_node reading.row_node
-bits_fields kind s k = by_view (eqb kind 1) _
+unfolding format.fields_of reading.fields_of format.commit_fields reading.commit_fields format.terms_fields reading.terms_fields format.election_fields reading.election_fields format.rows_fields reading.rows_fields format.limited reading.limited format.row reading.row format.configuration reading.configuration format.yes_no reading.yes_no format.governed reading.governed format.row_node reading.row_node
+bits_fields kind s k = λ d. kinds kind (λ s k. bits_view false s k d) (λ s k. bits_view true s k d) s k
   where
-    by_view : (b : Bool) (other : Reader Record)
-        → cond b (format.view_fields field) other s k ≡ cond b reading.view_fields other s k
-    by_view true other = onward_same s (field 6 s k) _ _ (λ n a e.
-        onward_same s (reading.index s a) _ _ (λ c b f.
-        ap (λ (p : Part (List Shown)). onward s p (λ es. return (view n es))) (many_same (format.shown field) reading.shown index_of s (bits_shown s) 0 c b)))
-    by_view false other = refl
+    -- of two editions of a view
+    kinds : ℕ → Reader Record → Reader Record → Reader Record
+    kinds kind plain marked =
+        cond (eqb kind 1) plain
+        (cond (eqb kind 2) reading.commit_fields
+        (cond (eqb kind 3) reading.terms_fields
+        (cond (eqb kind 4) reading.election_fields
+        (cond (eqb kind 5) (return check)
+        (cond (eqb kind 6) reading.rows_fields
+        (cond (eqb kind 9) marked
+        (λ s k. fault unknownKind)))))))
 
 -- ---- each source's own fields
 
@@ -95,85 +111,88 @@ number_below w s k v j e = by (ltb k (length s)) (ltb (get_or s k 0) (2 ^ w)) re
     by true false q e = absurd (fault≢got e)
     by false c q e = absurd (fault≢got e)
 
-bits_below : (w : ℕ) (s : Bytes) (k v j : ℕ) → field w s k ≡ got v j → v < 2 ^ w
+pub bits_below : (w : ℕ) (s : Bytes) (k v j : ℕ) → field w s k ≡ got v j → v < 2 ^ w
 bits_below w s k v j e = field_below s k w e
 
--- ---- the kind, and the whole record
+-- ---- the whole record
 
--- a number of four bits, with another refusal of those that are none
-module _ (s : Bytes) (k : ℕ) {v j : ℕ} where
-  kind_is : kind_number s k ≡ got v j → number 4 s k ≡ got v j
-  unfolding kind_number number
-  kind_is e = by (ltb k (length s)) (ltb (get_or s k 0) (2 ^ 4)) e
-    where
-      by : (b c : Bool) → cond b (cond c (got (get_or s k 0) (k + 1)) (fault unknownKind)) (fault bitsMissing) ≡ got v j
-          → cond b (cond c (got (get_or s k 0) (k + 1)) (fault outOfLimit)) (fault bitsMissing) ≡ got v j
-      by true true e = e
-      by true false e = absurd (fault≢got e)
-      by false c e = e
+-- a record over a source, of any kind
+abbrev pub record_of : Source → Reader Record
+record_of p = p 4 >>= format.fields_of p
 
-  kind_back : number 4 s k ≡ got v j → kind_number s k ≡ got v j
-  unfolding kind_number number
-  kind_back e = by (ltb k (length s)) (ltb (get_or s k 0) (2 ^ 4)) e
-    where
-      by : (b c : Bool) → cond b (cond c (got (get_or s k 0) (k + 1)) (fault outOfLimit)) (fault bitsMissing) ≡ got v j
-          → cond b (cond c (got (get_or s k 0) (k + 1)) (fault unknownKind)) (fault bitsMissing) ≡ got v j
-      by true true e = e
-      by true false e = absurd (fault≢got e)
-      by false c e = e
+-- what a source that was read as a record has, and another that has the same fields
+pub record Whole (p q : Source) (s : Bytes) (k : ℕ) (r : Record) (j : ℕ) : Type 0 where
+  pub kind : ℕ
+  pub place : ℕ
+  pub first : p 4 s k ≡ got kind place
+  pub fields : format.fields_of p kind s place ≡ got r j
+  pub behind : List Span
+  pub spelled : span 4 kind ∷ behind ≡ spans (kind_marked kind) r
+  pub took : Takes p s (spans (kind_marked kind) r) k j
+  pub kind_again : (u : Bytes) (i l : ℕ) → Takes q u (spans (kind_marked kind) r) i l → First q u (span 4 kind) i (λ j. Unit {0})
+  pub again : (u : Bytes) (i l : ℕ) → Takes q u (spans (kind_marked kind) r) i l → record_of q u i ≡ got r l
 
-kind_given : Same number field (λ v xs. One 4 v xs) kind_number (field 4)
-kind_given s k v j e =
+pub whole_is : (p q : Source) → ((w : ℕ) (s : Bytes) (k v j : ℕ) → p w s k ≡ got v j → v < 2 ^ w)
+    → (s : Bytes) (k : ℕ) (r : Record) (j : ℕ) → record_of p s k ≡ got r j → Whole p q s k r j
+whole_is p q below s k r j e =
+    let g = went s (p 4 s k) (format.fields_of p) e in
+    let t = same_fields p q below g.value s g.place r j g.rest in
+    let h = t.holds in
     record {
-      spans = span 4 v ∷ [];
-      took = record { place = j; read = kind_is s k e; then = refl };
-      holds = refl;
-      again = λ u i l t. t.read ∙ ap (got v) t.then;
-    }
-
-kind_read : Same field number (λ v xs. One 4 v xs) (field 4) kind_number
-kind_read s k v j e =
-    record {
-      spans = span 4 v ∷ [];
-      took = record { place = j; read = e; then = refl };
-      holds = refl;
-      again = λ u i l t. kind_back u i t.read ∙ ap (got v) t.then;
+      kind = g.value;
+      place = g.place;
+      first = g.first;
+      fields = g.rest;
+      behind = t.spans;
+      spelled = h;
+      took = subst (λ (xs : List Span). Takes p s xs k j) h (record { place = g.place; read = g.first; then = t.took });
+      kind_again = λ u i l x. let y = subst (λ (xs : List Span). Takes q u xs i l) (sym h) x in record { place = y.place; read = y.read; then = tt };
+      again = λ u i l x.
+          let y = subst (λ (xs : List Span). Takes q u xs i l) (sym h) x in
+          ap (λ (o : Part ℕ). onward u o (format.fields_of q)) y.read ∙ t.again u y.place l y.then;
     }
 
 -- the bits' record, in the words of the format
-abbrev bits_record : Reader Record
-bits_record = field 4 >>= format.fields_of field
-
-record_same : (s : Bytes) (k : ℕ) → bits_record s k ≡ reading.record_fields s k
+pub record_same : (s : Bytes) (k : ℕ) → record_of field s k ≡ reading.record_fields s k
 unfolding reading.record_fields
 record_same s k = onward_same s (field 4 s k) _ _ (λ v j e. bits_fields v s j)
 
-given_same : Same number field (λ r xs. xs ≡ spans r) record_numbers bits_record
-unfolding record_numbers
-given_same =
-    same_bind number field kind_given (λ v xs e.
-    same_weaker number field (same_fields number field number_below v) (λ r ys f. (λ d. e d ++ ys) ∙ f))
+-- ---- the writer's kinds
 
-read_same : Same field number (λ r xs. xs ≡ spans r) bits_record record_numbers
-unfolding record_numbers
-read_same =
-    same_bind field number kind_read (λ v xs e.
-    same_weaker field number (same_fields field number bits_below v) (λ r ys f. (λ d. e d ++ ys) ∙ f))
+kind_known : (fs : List ℕ) {r : Record} {j : ℕ} → record_numbers fs 0 ≡ got r j → get_or fs 0 0 ≤ last_kind
+unfolding record_numbers kind_number
+kind_known fs {r} {j} e = by (ltb 0 (length fs)) (leb (get_or fs 0 0) last_kind) refl e
+  where
+    by : (b c : Bool) → leb (get_or fs 0 0) last_kind ≡ c
+        → onward fs (cond b (cond c (got (get_or fs 0 0) 1) (fault unknownKind)) (fault bitsMissing)) (format.fields_of number) ≡ got r j
+        → get_or fs 0 0 ≤ last_kind
+    by true true q e = leb-true _ _ q
+    by true false q e = absurd (fault≢got e)
+    by false c q e = absurd (fault≢got e)
+
+numbers_same : (fs : List ℕ) → get_or fs 0 0 ≤ last_kind → record_numbers fs 0 ≡ record_of number fs 0
+unfolding record_numbers kind_number number
+numbers_same fs h = rw (le-leb (get_or fs 0 0) last_kind h, lt-ltb (get_or fs 0 0) (2 ^ 4) (omega (arith, h))) refl
+
+pub kind_plain : (kind : ℕ) → kind ≤ last_kind → kind_marked kind ≡ false
+kind_plain kind h = ne_eqb kind 9 (λ e. omega (arith, h, e))
 
 -- what a list of numbers that is a record has
 pub record Listing (fs : List ℕ) (r : Record) : Type 0 where
-  pub took : Takes number fs (spans r) 0 (length fs)
-  pub again : (u : Bytes) (l : ℕ) → Takes field u (spans r) 0 l → reading.record_fields u 0 ≡ got r l
+  pub took : Takes number fs (spans false r) 0 (length fs)
+  pub again : (u : Bytes) (l : ℕ) → Takes field u (spans false r) 0 l → reading.record_fields u 0 ≡ got r l
 
 pub given_is : (fs : List ℕ) (r : Record) → given fs ≡ readable r → Listing fs r
 unfolding given
 given_is fs r e =
     let p = last (record_numbers fs 0) e in
-    let t = given_same fs 0 r (length fs) p in
-    let h = t.holds in
+    let small = kind_known fs p in
+    let w = whole_is number field number_below fs 0 r (length fs) (sym (numbers_same fs small) ∙ p) in
+    let n = number_is fs 0 4 w.kind w.place w.first in
+    let m = kind_plain w.kind (omega (arith, small, n.value)) in
     record {
-      took = rw h at t.took;
-      again = λ u l x. sym (record_same u 0) ∙ t.again u 0 l (rw h x);
+      took = subst (λ (b : Bool). Takes number fs (spans b r) 0 (length fs)) m w.took;
+      again = λ u l x. sym (record_same u 0) ∙ w.again u 0 l (subst (λ (b : Bool). Takes field u (spans b r) 0 l) (sym m) x);
     }
   where
     last : (p : Part Record) → last_number fs p ≡ readable r → p ≡ got r (length fs)
@@ -188,9 +207,10 @@ given_is fs r e =
 -- what bytes that are a record have
 pub record Spelled (s : Bytes) (r : Record) : Type 0 where
   pub end : ℕ
-  pub took : Takes field s (spans r) 0 end
+  pub whole : Whole field field s 0 r end
+  pub took : Takes field s (spans (is_marked s) r) 0 end
   pub full : filled s end ≡ true
-  pub again : (fs : List ℕ) → Takes number fs (spans r) 0 (length fs) → given fs ≡ readable r
+  pub numbers : field_at s 0 4 ≤ last_kind → (fs : List ℕ) → Takes number fs (spans false r) 0 (length fs) → given fs ≡ readable r
 
 pub read_is : (s : Bytes) (r : Record) → read s ≡ readable r → Spelled s r
 unfolding read given
@@ -198,14 +218,21 @@ read_is s r e = by (reading.record_fields s 0) refl e
   where
     whole : (k : ℕ) → reading.record_fields s 0 ≡ got r k → filled s k ≡ true → Spelled s r
     whole k p f =
-        let t = read_same s 0 r k (record_same s 0 ∙ p) in
-        let h = t.holds in
+        let w = whole_is field field bits_below s 0 r k (record_same s 0 ∙ p) in
+        let x = whole_is field number bits_below s 0 r k (record_same s 0 ∙ p) in
+        let v = (field_is s 0 4 w.first).value in
+        let y = (field_is s 0 4 x.first).value in
         record {
           end = k;
-          took = rw h at t.took;
+          whole = w;
+          took = subst (λ (kind : ℕ). Takes field s (spans (kind_marked kind) r) 0 k) v w.took;
           full = f;
-          again = λ fs x.
-              ap (last_number fs) (t.again fs 0 (length fs) (rw h x))
+          numbers = λ h fs t.
+              let m = kind_plain x.kind (omega (arith, h, y)) in
+              let t' = subst (λ (b : Bool). Takes number fs (spans b r) 0 (length fs)) (sym m) t in
+              let o = x.kind_again fs 0 (length fs) t' in
+              let n = number_is fs 0 4 x.kind o.place o.read in
+              ap (last_number fs) (numbers_same fs (omega (arith, h, y, n.value)) ∙ x.again fs 0 (length fs) t')
               ∙ ap (λ (b : Bool). cond b (readable r) (unreadable filling)) (eq-eqb (length fs) (length fs) refl);
         }
 

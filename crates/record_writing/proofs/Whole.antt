@@ -197,7 +197,7 @@ refused (unreadable g) f e = ap unreadable (let z : g ≡ f = cc in z)
 
 -- what is known of a list that is a record
 pub record Known (fs : List ℕ) (r : Record) : Type 0 where
-  pub by : record_by fs ≡ spans r
+  pub by : record_by fs ≡ spans false r
   pub fit : every fits (record_by fs) ≡ true
   pub all : length (record_by fs) ≡ length fs
 
@@ -205,10 +205,10 @@ pub known : (fs : List ℕ) (r : Record) → given fs ≡ readable r → Known f
 known fs r e =
     let t = (given_is fs r e).took in
     let b = record_back fs r (length fs) t in
-    let l : length (spans r) ≡ length fs = omega (arith, takes_end fs (spans r) 0 (length fs) t) in
+    let l : length (spans false r) ≡ length fs = omega (arith, takes_end fs (spans false r) 0 (length fs) t) in
     record {
       by = b;
-      fit = ap (every fits) b ∙ takes_fit fs (spans r) 0 (length fs) (narrow_spans r) t;
+      fit = ap (every fits) b ∙ takes_fit fs (spans false r) 0 (length fs) (narrow_spans false r) t;
       all = ap length b ∙ l;
     }
 
@@ -219,13 +219,13 @@ fields_known fs e =
     record { fit = k.fit; all = k.all }
 
 -- its bytes are as many as hold its bits
-spell_length : (fs : List ℕ) (r : Record) → given fs ≡ readable r → length (spell r) ≡ bytes_for (total (record_by fs))
+spell_length : (fs : List ℕ) (r : Record) → given fs ≡ readable r → length (spell false r) ≡ bytes_for (total (record_by fs))
 unfolding spell
-spell_length fs r e = pack_length (spans r) ∙ ap (λ (xs : List Span). bytes_for (total xs)) (sym (known fs r e).by)
+spell_length fs r e = pack_length (spans false r) ∙ ap (λ (xs : List Span). bytes_for (total xs)) (sym (known fs r e).by)
 
 bytes_put : (old : Bytes) → ((i : ℕ) → get_or old i 0 < 256) → (fs : List ℕ) (r : Record) → given fs ≡ readable r
     → total (record_by fs) ≤ 8 * length old
-    → put_spans old 0 (record_by fs) ≡ put_bytes old 0 (spell r)
+    → put_spans old 0 (record_by fs) ≡ put_bytes old 0 (spell false r)
 unfolding spell
 bytes_put old below fs r e h =
     let k = known fs r e in
@@ -248,7 +248,7 @@ unfolding written
 writes_short fs old n e q h =
     let a = accepted fs e in
     let l = spell_length fs a.value a.is in
-    let s : leb (length (spell a.value)) (length old) ≡ false = lt-leb _ _ (omega (arith, l, q, h)) in
+    let s : leb (length (spell false a.value)) (length old) ≡ false = lt-leb _ _ (omega (arith, l, q, h)) in
     record { refusal = rw (a.is, s) refl; length = rw (a.is, s) refl; bytes = rw (a.is, s) refl }
 
 pub writes_whole : (fs : List ℕ) (old new : Bytes) (n : ℕ) → ((i : ℕ) → get_or old i 0 < 256)
@@ -259,6 +259,6 @@ writes_whole fs old new n below e q h w =
     let a = accepted fs e in
     let k = known fs a.value a.is in
     let l = spell_length fs a.value a.is in
-    let s : leb (length (spell a.value)) (length old) ≡ true = le-leb _ _ (omega (arith, l, q, h)) in
-    let b : put_spans old 0 (record_by fs) ≡ put_bytes old 0 (spell a.value) = bytes_put old below fs a.value a.is (omega (arith, q, h)) in
+    let s : leb (length (spell false a.value)) (length old) ≡ true = le-leb _ _ (omega (arith, l, q, h)) in
+    let b : put_spans old 0 (record_by fs) ≡ put_bytes old 0 (spell false a.value) = bytes_put old below fs a.value a.is (omega (arith, q, h)) in
     record { refusal = rw (a.is, s) refl; length = rw (a.is, s) (omega (arith, l, q)); bytes = rw (a.is, s) (w ∙ b) }

@@ -57,7 +57,7 @@ head_bytes x u n l h m =
     rw a (rw e at t)
 
 -- the first o bits of a byte with w bits behind them
-module _ (b o w v : ℕ) (below : b < 256) (h : o ≤ 8) (n : w ≤ 32) (l : v < 2 ^ w) where
+module _ (b o w v : ℕ) (below : b < 256) (h : o < 8) (n : w ≤ 57) (l : v < 2 ^ w) where
   before : b / 2 ^ (8 - o) < 2 ^ o
   before = shr_lt o (8 - o) (lt_of_lt_of_le below (pow_mono {i = 8} (omega arith)))
 
@@ -70,3 +70,7 @@ module _ (b o w v : ℕ) (below : b < 256) (h : o ≤ 8) (n : w ≤ 32) (l : v <
     where
       ap_lt : {x y z : ℕ} → x < y → y ≡ z → x < z
       ap_lt p e = omega arith
+
+  -- a word holds them
+  pub behind_fits : (b / 2 ^ (8 - o) * 2 ^ w) % 2 ^ 64 + v < 2 ^ 64
+  behind_fits = rw behind (lt_of_lt_of_le behind_lt (pow_mono {i = o + w} {j = 64} (omega arith)))

@@ -1,12 +1,16 @@
 -- The fields of each kind in their order, each with all its faults, whatever the fields are read from: `field w` reads one of
 -- w bits. The model's reading is these over the bits of a record (proofs/Sources.antt), and the writer's over a list of numbers.
 -- Assumes nothing.
-use Rattle.std.specs.Prelude.{ℕ, ◌-◌, ◌^◌, Bool, cond, List, leb, ltb, eqb}
+use Rattle.std.specs.Prelude.{ℕ, ◌-◌, ◌^◌, Bool, true, false, cond, List, leb, ltb, eqb}
 use Rattle.model.specs.Sizes.{index_limit, content_limit}
 use Rattle.model.specs.Refusal.{unknownKind, outOfLimit, notAbove}
 use Rattle.model.specs.Record.{Shown, Configuration, Row, Record, view, commit, terms, election, check, rows}
 use Rattle.model.specs.Reading.{Reader, fault, ◌>>=◌, return, require, many}
 use Rattle.record_entries.specs.BitLayout.{index_of, node_of}
+
+-- the kind of a view: 9 where each entry shows its mark
+abbrev pub view_kind : Bool → ℕ
+view_kind marked = cond marked 9 1
 
 -- a content byte has no key
 abbrev pub no_key : ℕ → ℕ
@@ -67,15 +71,21 @@ module _ (field : ℕ → Reader ℕ) where
 
   -- ---- kinds
 
+  -- an entry's mark: shown in kind 9; in kind 1 each entry is a portion record
+  unfoldable pub mark : Bool → Reader Bool
+  unfolding yes_no
+  mark marked = cond marked yes_no (return false)
+
   -- an entry of a view
-  unfoldable pub shown : ℕ → Reader Shown
-  unfolding entry_index limited
-  shown least = do
+  unfoldable pub shown : Bool → ℕ → Reader Shown
+  unfolding entry_index mark limited
+  shown marked least = do
     i ← entry_index least
     t ← term
+    m ← mark marked
     n ← content_length
     c ← content n
-    return (record { index = i; entry = record { term = t; content = c } })
+    return (record { index = i; entry = record { term = t; configuration = m; content = c } })
 
   unfoldable pub configuration : Reader Configuration
   unfolding yes_no governed
@@ -96,12 +106,12 @@ module _ (field : ℕ → Reader ℕ) where
     ac ← configuration
     return (record { node = n; floor = f; commit = c; last = l; floor_configuration = fc; actual_configuration = ac })
 
-  unfoldable pub view_fields : Reader Record
+  unfoldable pub view_fields : Bool → Reader Record
   unfolding limited shown
-  view_fields = do
+  view_fields marked = do
     n ← node
     c ← index
-    es ← many shown index_of 0 c
+    es ← many (shown marked) index_of 0 c
     return (view n es)
 
   unfoldable pub commit_fields : Reader Record
@@ -139,10 +149,11 @@ module _ (field : ℕ → Reader ℕ) where
   unfoldable pub fields_of : ℕ → Reader Record
   unfolding view_fields commit_fields terms_fields election_fields rows_fields
   fields_of kind =
-      cond (eqb kind 1) view_fields
+      cond (eqb kind (view_kind false)) (view_fields false)
       (cond (eqb kind 2) commit_fields
       (cond (eqb kind 3) terms_fields
       (cond (eqb kind 4) election_fields
       (cond (eqb kind 5) (return check)
       (cond (eqb kind 6) rows_fields
-      (λ s k. fault unknownKind))))))
+      (cond (eqb kind (view_kind true)) (view_fields true)
+      (λ s k. fault unknownKind)))))))

@@ -1,11 +1,11 @@
 -- What a list of numbers is as a record: the writer's fields, the kind first, one number a field. The list is read from the
--- left, and the answer is the record or the first fault.
+-- left, and the answer is the record or the first fault. A view is written without marks, as kind 1.
 -- Assumes nothing.
-use Rattle.std.specs.Prelude.{ℕ, ◌+◌, ◌^◌, Bool, cond, List, ltb, eqb, length, get_or}
+use Rattle.std.specs.Prelude.{ℕ, ◌+◌, ◌^◌, Bool, false, cond, List, leb, ltb, eqb, length, get_or}
 use Rattle.model.specs.Refusal.{unknownKind, bitsMissing, filling, outOfLimit}
 use Rattle.model.specs.Record.{Shown, Configuration, Row, Record}
 use Rattle.model.specs.Reading.{Reader, Part, got, fault, ◌>>=◌, Reading, readable, unreadable}
-use Rattle.record_writing.specs.Format.{content_byte, limited, yes_no, governed, entry_index, row_node, shown, configuration, row, fields_of}
+use Rattle.record_writing.specs.Format.{content_byte, limited, yes_no, governed, entry_index, row_node, shown, configuration, row, view_fields, fields_of}
 
 -- the next number of the list, for a field of w bits: 2 where the list has ended, 4 where the bits do not hold it
 unfoldable pub number : ℕ → Reader ℕ
@@ -35,7 +35,10 @@ abbrev pub row_node_number : ℕ → Reader ℕ
 row_node_number = row_node number
 
 abbrev pub shown_numbers : ℕ → Reader Shown
-shown_numbers = shown number
+shown_numbers = shown number false
+
+abbrev pub view_numbers : Reader Record
+view_numbers = view_fields number false
 
 abbrev pub configuration_numbers : Reader Configuration
 configuration_numbers = configuration number
@@ -43,11 +46,15 @@ configuration_numbers = configuration number
 abbrev pub row_numbers : ℕ → Reader Row
 row_numbers = row number
 
--- the kind: every number that is none of 1 to 6 is unknown, however large
+-- the writer's kinds are 1 to 6, whatever other kinds are read
+abbrev pub last_kind : ℕ
+last_kind = 6
+
+-- the kind: every number that is none of the writer's is unknown, however large
 unfoldable pub kind_number : Reader ℕ
 kind_number fs k =
     cond (ltb k (length fs))
-    (cond (ltb (get_or fs k 0) (2 ^ 4)) (got (get_or fs k 0) (k + 1)) (fault unknownKind))
+    (cond (leb (get_or fs k 0) last_kind) (got (get_or fs k 0) (k + 1)) (fault unknownKind))
     (fault bitsMissing)
 
 unfoldable pub record_numbers : Reader Record

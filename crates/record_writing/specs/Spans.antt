@@ -1,10 +1,11 @@
 -- A record spelled: its fields in their order, each with its bits, the numbers that the writer takes for it, and its bytes, most
 -- significant bit first, zero bits in the filling.
 -- Assumes nothing.
-use Rattle.std.specs.Prelude.{ℕ, ◌+◌, ◌-◌, ◌*◌, ◌/◌, ◌^◌, Bool, cond, List, [], ◌∷◌, ◌++◌, map, length}
+use Rattle.std.specs.Prelude.{ℕ, ◌+◌, ◌-◌, ◌*◌, ◌/◌, ◌^◌, Bool, true, false, cond, not, ◌&&◌, ◌||◌, List, [], ◌∷◌, ◌++◌, map, length}
 use Rattle.model.specs.Sizes.{Bytes}
 use Rattle.model.specs.Record.{Shown, Configuration, Row, Record, view, commit, terms, election, check, rows}
 use Rattle.storage_bytes.specs.Words.{word_bytes}
+use Rattle.record_writing.specs.Format.{view_kind}
 
 -- ---- fields
 
@@ -27,8 +28,14 @@ bit b = span 1 (cond b 1 0)
 abbrev pub content_spans : List ℕ → List Span
 content_spans bs = map (span 8) bs
 
-abbrev pub entry_spans : Shown → List Span
-entry_spans x = span 10 x.index ∷ span 32 x.entry.term ∷ span 6 (length x.entry.content) ∷ content_spans x.entry.content
+-- an entry's mark, where its edition shows it
+abbrev pub mark_spans : Bool → Bool → List Span → List Span
+mark_spans marked m xs = cond marked (bit m ∷ xs) xs
+
+abbrev pub entry_spans : Bool → Shown → List Span
+entry_spans marked x =
+    span 10 x.index ∷ span 32 x.entry.term
+    ∷ mark_spans marked x.entry.configuration (span 6 (length x.entry.content) ∷ content_spans x.entry.content)
 
 abbrev pub configuration_spans : Configuration → List Span → List Span
 configuration_spans c xs = bit c.present ∷ span 10 c.index ∷ span 32 c.identity ∷ xs
@@ -43,19 +50,20 @@ unfoldable pub all_spans : {A : Type 0} → (A → List Span) → List A → Lis
 all_spans f [] = []
 all_spans f (x ∷ xs) = f x ++ all_spans f xs
 
--- every record starts with its kind, of 4 bits
-unfoldable pub spans : Record → List Span
+-- every record starts with its kind, of 4 bits. A view has two editions, with marks or without; the other kinds have one.
+unfoldable pub spans : Bool → Record → List Span
 unfolding all_spans
-spans (view n es) = span 4 1 ∷ span 6 n ∷ span 10 (length es) ∷ all_spans entry_spans es
-spans (commit n i) = span 4 2 ∷ span 6 n ∷ span 10 i ∷ []
-spans (terms o n t) = span 4 3 ∷ span 10 o ∷ span 10 n ∷ span 32 t ∷ []
-spans (election l t p n) = span 4 4 ∷ span 6 l ∷ span 32 t ∷ bit p ∷ span 10 n ∷ []
-spans check = span 4 5 ∷ []
-spans (rows rs) = span 4 6 ∷ span 10 (length rs) ∷ all_spans row_spans rs
+spans marked (view n es) =
+    span 4 (view_kind marked) ∷ span 6 n ∷ span 10 (length es) ∷ all_spans (entry_spans marked) es
+spans marked (commit n i) = span 4 2 ∷ span 6 n ∷ span 10 i ∷ []
+spans marked (terms o n t) = span 4 3 ∷ span 10 o ∷ span 10 n ∷ span 32 t ∷ []
+spans marked (election l t p n) = span 4 4 ∷ span 6 l ∷ span 32 t ∷ bit p ∷ span 10 n ∷ []
+spans marked check = span 4 5 ∷ []
+spans marked (rows rs) = span 4 6 ∷ span 10 (length rs) ∷ all_spans row_spans rs
 
--- the writer's numbers
+-- the writer's numbers: it writes a view without marks
 abbrev pub fields : Record → List ℕ
-fields r = map value_of (spans r)
+fields r = map value_of (spans false r)
 
 -- ---- bytes
 
@@ -82,7 +90,23 @@ unfoldable pub pack : List Span → Bytes
 unfolding packed total joined
 pack xs = packed (total xs) (joined 0 xs)
 
--- the bytes of a record
-unfoldable pub spell : Record → Bytes
+-- the bytes of a record, of an edition
+unfoldable pub spell : Bool → Record → Bytes
 unfolding pack spans
-spell r = pack (spans r)
+spell marked r = pack (spans marked r)
+
+-- ---- editions
+
+-- no entry is a configuration entry
+unfoldable pub unmarked : List Shown → Bool
+unmarked [] = true
+unmarked (x ∷ xs) = not x.entry.configuration && unmarked xs
+
+-- whether an edition can show a record
+abbrev pub shows : Bool → Record → Bool
+shows marked (view n es) = marked || unmarked es
+shows marked (commit n i) = true
+shows marked (terms o n t) = true
+shows marked (election l t p n) = true
+shows marked check = true
+shows marked (rows rs) = true

@@ -9,10 +9,10 @@ const ENTRY: [usize; 3] = [10, 32, 6];
 
 const ROW: [usize; 10] = [6, 10, 10, 10, 1, 10, 32, 1, 10, 32];
 
-// A field of w bits. With the bits before it in its first byte, it is the head of a word, and the bytes that it reaches are
-// written.
+// A field of w bits. With the bits before it in its first byte, it is the head of a word, which always holds 57, and the bytes
+// that it reaches are written.
 pub fn put_bits(t: &mut [u8], at: usize, w: usize, v: u64)
-    requires { (0 < w) × (w ≤ 32) × (v < 2 ^ w) × (at + w ≤ 8 * length t.old) }
+    requires { (0 < w) × (w ≤ 57) × (v < 2 ^ w) × (at + w ≤ 8 * length t.old) }
     ensures { t.new ≡ put_field t.old at w v }
 {
     let first = at / 8;

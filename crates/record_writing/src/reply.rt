@@ -27,7 +27,7 @@ impl From<Refusal> for u8 {
 }
 
 impl From<Result<usize, Refusal>> for WriteReply {
-    ghost from_gives = { λ a result. result ≡ reply_of a };
+    ghost from_gives = { λ a result. result ≡ reply_of number_of a };
 
     fn from(a: Result<usize, Refusal>) -> WriteReply {
         match a {

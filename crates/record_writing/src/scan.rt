@@ -55,7 +55,7 @@ impl Item for Entry {
 
     ghost key = { index_of };
 
-    #[tactic(auto, unfolding(crate::specs::Format::shown))]
+    #[tactic(auto, unfolding(crate::specs::Format::shown, crate::specs::Format::mark))]
     fn pass(fields: &[u64], at: usize, least: u64) -> Result<Passed, Fault> {
         let i = entry_index(fields, at, least)?;
         let a = at + 1;
@@ -129,7 +129,7 @@ pub fn scan_items<I: Item>(fields: &[u64], first: usize, count: usize) -> Result
 // 1 view: node, count, entries.
 #[tactic(auto, unfolding(crate::specs::Format::view_fields))]
 fn scan_view(fields: &[u64]) -> Result<usize, Fault>
-    ensures { ended (format.view_fields given.number fields.now 1) ≡ end_part result }
+    ensures { ended (given.view_numbers fields.now 1) ≡ end_part result }
 {
     number(fields, 1, 6)?;
     let count = index(fields, 2)?;

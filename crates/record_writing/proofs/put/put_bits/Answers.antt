@@ -8,8 +8,14 @@ use Rattle.storage_bytes.proofs.ByteTurns.{slice_written}
 use Rattle.storage_bytes.proofs.WordLaws.{word_bytes_length}
 use Rattle.storage_bytes.specs.Words.{word_bytes}
 use Rattle.record_writing.specs.Puts.{put_field}
-use Rattle.record_writing.proofs.Words.{head_bytes, bytes_eight, behind, behind_lt}
+use Rattle.record_writing.proofs.Words.{head_bytes, bytes_eight, behind, behind_lt, behind_fits}
 use Rattle.record_writing.proofs.put.put_bits.Goals as goal
+
+pub overflow_add-word : goal.overflow_add-word
+overflow_add-word c =
+    let a = c.args in
+    let byte : c.from.result < 256 = omega (arith, c.from.type_inv) in
+    record { fits = behind_fits c.from.result (a.at % 8) a.w a.v byte (omega arith) (omega arith) (omega arith) }
 
 pub returns : goal.returns
 unfolding put_field

@@ -10,7 +10,7 @@ bounds-fields-from c = (next_room _ _ _ c.loop-i.invariant c.loop-i-test.true).n
 pub put_bits-requires : goal.put_bits-requires
 put_bits-requires c =
     let r = next_room _ _ _ c.loop-i.invariant c.loop-i-test.true in
-    (r.some, r.narrow, r.holds, r.bits)
+    (r.some, omega (arith, r.narrow), r.holds, r.bits)
 
 pub loop-i-preserved : goal.loop-i-preserved
 loop-i-preserved c = next_left _ _ _ c.loop-i.invariant c.loop-i-test.true c.put_bits.ensures (omega arith) (omega arith)
