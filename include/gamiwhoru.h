@@ -25,9 +25,9 @@ struct gamiwhoru_reply {
     uint8_t node;    /* the node of a failing row, or 0 */
 };
 
-/* What the writer answers. */
+/* What the writer and the converter answer. */
 struct gamiwhoru_write_reply {
-    uint8_t refusal; /* 1 to 5, as in reading, or 13 where the buffer is too short; 0 where the record is written */
+    uint8_t refusal; /* 1 to 5, as in reading, 13 where the buffer is too short, or the converter's 16; 0 where the record is written */
     size_t length;   /* how many bytes were written; 0 where it is refused */
 };
 
@@ -82,6 +82,12 @@ struct gamiwhoru_reply gamiwhoru_submit(uint8_t *history, size_t length, const u
  * a content's bytes one number each. 2 says that the numbers end too early, 3 that they go on. The record's bytes are written from the
  * buffer's start, and those behind them are kept; a refused call writes nothing. The buffer must not overlap the numbers. */
 struct gamiwhoru_write_reply gamiwhoru_write(const uint64_t *fields, size_t count, uint8_t *buffer, size_t length);
+
+/* Puts a record into an edition of views: 1, or 9 where each entry shows its mark. A view of the other edition is turned into this one,
+ * and back to the same bytes; any other record is copied as it is. 4 says that the edition is neither, before the record is read; 16 that a
+ * view has a configuration entry, which kind 1 cannot show, before 13. The record's bytes are written from the buffer's start, and those
+ * behind them are kept; a refused call writes nothing. The buffer must not overlap the record. */
+struct gamiwhoru_write_reply gamiwhoru_convert(uint8_t edition, const uint8_t *record, size_t record_length, uint8_t *buffer, size_t length);
 
 /* The n-th element of a list in printed order, counted from 0. Nothing is written. */
 struct gamiwhoru_finding_reply gamiwhoru_finding(const uint8_t *history, size_t length, size_t n);

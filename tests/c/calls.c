@@ -45,7 +45,7 @@ SIZE(committed_reply, 24);
 _Static_assert(GAMIWHORU_HERE == 0 && GAMIWHORU_NO_MORE == 1 && GAMIWHORU_BROKEN == 12, "a state has another number");
 
 /* The bytes of a history (docs/LAYOUT.md), and some behind them that are no part of it. */
-enum { HISTORY = 24137, BEHIND = 16 };
+enum { HISTORY = 24649, BEHIND = 16 };
 static uint8_t history[HISTORY + BEHIND];
 
 static unsigned compared, differ;
@@ -213,18 +213,24 @@ static void committed(const char *call, size_t length, const struct gamiwhoru_co
     same(call, "owner", reply.owner, wanted->owner);
 }
 
-/* The numbers `fields`, written into a buffer of `length` bytes that are all 0xab: the reply, the bytes, and all others as they were. */
-static void write(const char *call, const uint64_t *fields, size_t count, size_t length, unsigned refusal, const uint8_t *wanted, size_t written)
+/* What a call answered and left in a buffer of bytes that were all 0xab: the reply, the bytes, and all others as they were. */
+enum { BUFFER = 64 };
+static void left(const char *call, struct gamiwhoru_write_reply reply, const uint8_t *buffer, unsigned refusal, const uint8_t *wanted, size_t written)
 {
-    uint8_t buffer[64];
-    memset(buffer, 0xab, sizeof buffer);
-    struct gamiwhoru_write_reply reply = gamiwhoru_write(fields, count, buffer, length);
     same(call, "refusal", reply.refusal, refusal);
     same(call, "length", reply.length, written);
     size_t other = 0;
-    for (size_t i = 0; i < sizeof buffer; i++)
+    for (size_t i = 0; i < BUFFER; i++)
         other += buffer[i] != (i < written ? wanted[i] : 0xab);
     same(call, "count of bytes that differ", other, 0);
+}
+
+/* The numbers `fields`, written into a buffer of `length` bytes. */
+static void write(const char *call, const uint64_t *fields, size_t count, size_t length, unsigned refusal, const uint8_t *wanted, size_t written)
+{
+    uint8_t buffer[BUFFER];
+    memset(buffer, 0xab, sizeof buffer);
+    left(call, gamiwhoru_write(fields, count, buffer, length), buffer, refusal, wanted, written);
 }
 #define WRITE(call, length, refusal, bytes, written, ...)                                                                             \
     write(call, (const uint64_t[]){__VA_ARGS__}, sizeof((const uint64_t[]){__VA_ARGS__}) / sizeof(uint64_t), length, refusal, bytes, written)
@@ -253,6 +259,35 @@ static void writer(void)
     WRITE("write node 64", 0, 4, NULL, 0, 2, 64, 1);
     WRITE("write index 2 after 2", 0, 5, NULL, 0, 1, 1, 2, 2, 1, 0, 2, 1, 0);
     WRITE("write into a byte too few", 2, 13, NULL, 0, 2, 1, 1);
+}
+
+/* A record, put into an edition in a buffer of `length` bytes. */
+static void convert(const char *call, unsigned edition, const uint8_t *record, size_t record_length, size_t length, unsigned refusal, const uint8_t *wanted, size_t written)
+{
+    uint8_t buffer[BUFFER];
+    memset(buffer, 0xab, sizeof buffer);
+    left(call, gamiwhoru_convert((uint8_t)edition, record, record_length, buffer, length), buffer, refusal, wanted, written);
+}
+
+/* A view there and back, what is copied, and each refusal that is the converter's own; the lengths of a call all differ. */
+static void converter(void)
+{
+    static const uint8_t plain[] = {0x10, 0x40, 0x10, 0x04, 0, 0, 0, 0x04, 0x47, 0x26, 0x96, 0x36, 0x50};
+    static const uint8_t marked[] = {0x90, 0x40, 0x10, 0x04, 0, 0, 0, 0x04, 0x23, 0x93, 0x4b, 0x1b, 0x28};
+    static const uint8_t configuration[] = {0x90, 0x40, 0x10, 0x04, 0, 0, 0, 0x06, 0x23, 0x93, 0x4b, 0x1b, 0x28};
+    static const uint8_t commit[] = {0x20, 0x40, 0x10};
+    static const uint8_t unknown_kind[] = {0x70, 0};
+    convert("convert a view to 9", 9, plain, 13, 64, 0, marked, 13);
+    convert("convert it back", 1, marked, 13, 14, 0, plain, 13);
+    convert("convert a view of the edition", 1, plain, 13, 15, 0, plain, 13);
+    convert("convert a view with marks to 9", 9, configuration, 13, 16, 0, configuration, 13);
+    convert("convert a commit", 9, commit, 3, 4, 0, commit, 3);
+    convert("convert to edition 8", 8, unknown_kind, 2, 5, 4, NULL, 0);
+    convert("convert kind 7", 9, unknown_kind, 2, 5, 1, NULL, 0);
+    convert("convert a view that ends", 9, plain, 12, 64, 2, NULL, 0);
+    convert("convert a configuration entry to 1", 1, configuration, 13, 12, 16, NULL, 0);
+    convert("convert into a byte too few", 9, plain, 13, 12, 13, NULL, 0);
+    convert("copy into a byte too few", 9, commit, 3, 2, 13, NULL, 0);
 }
 
 /* What a reader tells where it has no element: its state, and zeros. */
@@ -341,6 +376,7 @@ int main(void)
     records();
     lists();
     writer();
+    converter();
     printf("calls: %u fields compared, %u differ\n", compared, differ);
     return differ == 0 ? 0 : 1;
 }

@@ -4,6 +4,7 @@
 ghost use Rattle.std.specs.Prelude.{◌≡◌, ℕ, true, false, Option, Some, IfSome, IfNone};
 ghost use Rattle.storage.specs.Rules.{well_formed};
 ghost use Rattle.record_writing.specs.Writing.{Replies};
+ghost use Rattle.record_editions.specs.Editions.{ConvertReplies};
 ghost use Rattle.storage_bytes.specs.Layout.{history_length};
 ghost use Rattle.history.specs.Exports.{Handed, MadeFresh, no_finding, finding_reply, no_leader, leader_reply, no_mark, unseen_reply, no_index, unknown_reply, finding_out, leader_out, unseen_out, unknown_out, committed_out};
 
@@ -13,6 +14,8 @@ use lists::findings::finding_at;
 use lists::leaders::{Leader, leader_at};
 use lists::unknown::unknown_at;
 use lists::unseen::{Unseen, unseen_at};
+use record_editions::convert::convert;
+use record_editions::refusal::write_reply;
 use record_writing::reply::WriteReply;
 use record_writing::write::write;
 use storage::fresh::{WrongLength, fresh};
@@ -87,6 +90,13 @@ pub fn gamiwhoru_write(fields: &[u64], buffer: &mut [u8]) -> WriteReply
     ensures { Replies fields.now buffer.old result buffer.new }
 {
     WriteReply::from(write(fields, buffer))
+}
+
+// The record s in an edition of views, 1 or 9, into the buffer from its start. A refused call leaves every byte of it.
+pub fn gamiwhoru_convert(edition: u8, s: &[u8], buffer: &mut [u8]) -> WriteReply
+    ensures { ConvertReplies edition s.now buffer.old result buffer.new }
+{
+    write_reply(convert(edition, s, buffer))
 }
 
 #[repr(C)]

@@ -5,6 +5,7 @@
 ghost use Rattle.std.specs.Prelude.{◌≡◌};
 ghost use Rattle.storage_bytes.specs.Layout.{history_length};
 ghost use Rattle.record_writing.specs.Writing.{Replies};
+ghost use Rattle.record_editions.specs.Editions.{ConvertReplies};
 ghost use Rattle.history.specs.Exports.{Handed, MadeFresh, finding_out, leader_out, unseen_out, unknown_out, committed_out};
 
 use answers::numbers::Reply;
@@ -42,6 +43,14 @@ pub extern "C" fn gamiwhoru_write(fields: &[u64], buffer: &mut [u8]) -> WriteRep
     ensures { Replies fields.now buffer.old result buffer.new }
 {
     exports::gamiwhoru_write(fields, &mut buffer[..])
+}
+
+// The record s in an edition of views, 1 or 9, into the buffer from its start. A refused call leaves every byte of it.
+#[unsafe(no_mangle)]
+pub extern "C" fn gamiwhoru_convert(edition: u8, s: &[u8], buffer: &mut [u8]) -> WriteReply
+    ensures { ConvertReplies edition s.now buffer.old result buffer.new }
+{
+    exports::gamiwhoru_convert(edition, s, &mut buffer[..])
 }
 
 // The n-th printed finding, counted from 0.

@@ -1,0 +1,4 @@
+pub mod Entries
+pub mod Views
+pub mod Spelled
+pub mod Examples

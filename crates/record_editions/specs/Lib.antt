@@ -1,0 +1,4 @@
+pub mod Numbers
+pub mod Editions
+pub mod Turned
+pub mod Laws
