@@ -1,4 +1,5 @@
-//! How long the largest view takes to read, and to read and walk with every content byte used, beside a copy of it.
+//! How long the largest view takes to read, and to read and walk with every content byte used, beside a copy of it: in kind 1, and
+//! in kind 9 with its marks.
 //!
 //! Build and run from the repository's root:
 //!     (cd crates/bench_records_c && rt lib)
@@ -32,16 +33,19 @@ impl Bits {
     }
 }
 
-/// 256 entries of 32 bytes, and the sum of all content bytes.
-fn largest() -> (Vec<u8>, u64) {
+/// 256 entries of 32 bytes, every other one a configuration entry where marks are shown, and the sum of all content bytes.
+fn largest(kind: u64) -> (Vec<u8>, u64) {
     let mut b = Bits { bytes: Vec::new(), used: 0 };
     let mut sum = 0;
-    b.put(4, 1);
+    b.put(4, kind);
     b.put(6, 63);
     b.put(10, 256);
     for i in 0..256u64 {
         b.put(10, i + 1);
         b.put(32, 4_294_967_295 - i);
+        if kind == 9 {
+            b.put(1, i % 2);
+        }
         b.put(6, 32);
         for j in 0..32 {
             let byte = (i * 31 + j * 7 + 1) % 256;
@@ -74,7 +78,13 @@ fn copied(from: &[u8], to: &mut [u8]) {
 }
 
 fn main() {
-    let (record, sum) = largest();
+    for kind in [1, 9] {
+        times(kind);
+    }
+}
+
+fn times(kind: u64) {
+    let (record, sum) = largest(kind);
     let (at, n) = (record.as_ptr(), record.len());
     assert_eq!(unsafe { records_bench_scan(at, n) }, 256);
     assert_eq!(unsafe { records_bench_walk(at, n) }, sum);
@@ -87,7 +97,7 @@ fn main() {
     let walk = time(|| {
         black_box(unsafe { records_bench_walk(black_box(at), n) });
     });
-    println!("the largest view: {} bytes", n);
+    println!("the largest view of kind {kind}: {n} bytes");
     println!("copy, byte by byte      {:8.2} us", copy / 1000.0);
     println!("copy, as a block        {:8.2} us", block / 1000.0);
     println!("read                    {:8.2} us  ({:.1} copies byte by byte, {:.0} as a block)", scan / 1000.0, scan / copy, scan / block);

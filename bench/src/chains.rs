@@ -34,12 +34,17 @@ fn entry(index: u32, fork: u8) -> Entry {
     Entry {
         index,
         term: 1 + index / 8,
+        configuration: false,
         content: vec![fork, 1, 2, 3, 4, 5, 6, index as u8].into(),
     }
 }
 
 fn view(node: u32, entries: Vec<Entry>) -> Record {
-    Record::View { node, entries }
+    Record::View {
+        node,
+        marked: false,
+        entries,
+    }
 }
 
 fn log(length: u32) -> Vec<Entry> {
@@ -165,13 +170,23 @@ pub struct Written {
     pub records: Vec<Record>,
 }
 
-pub fn written() -> Vec<Written> {
+/// As many entries as there can be, each with as much content.
+pub fn largest(marked: bool) -> Record {
     let full = |index| Entry {
         index,
         term: u32::MAX - index,
+        configuration: false,
         content: vec![index as u8; 32].into(),
     };
-    let largest = view(63, (1..=256).map(full).collect());
+    Record::View {
+        node: 63,
+        marked,
+        entries: (1..=256).map(full).collect(),
+    }
+}
+
+pub fn written() -> Vec<Written> {
+    let largest = largest(false);
     let mut small = certificates();
     small.retain(|record| !matches!(record, Record::View { .. }));
     small.extend((1..=64).map(|node| view(node - 1, log(node % 3))));

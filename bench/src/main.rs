@@ -1,21 +1,22 @@
 //! Times per record on five kinds of chains: the Rust's functions alone, the
 //! Rust from the record's bytes, and the library's `submit`, which is handed
 //! the same bytes. Then times per record of writing, by the harness's encoder
-//! and by the library's writer. See harness/README.md.
+//! and by the library's writer, and of converting, beside reading. See
+//! harness/README.md.
 
 mod chains;
 
 use std::hint::black_box;
 use std::time::{Duration, Instant};
 
-use harness::library::{subject, writer};
+use harness::library::{converter, subject, writer, Convert};
 use harness::oracle::{call, hush_refusal_8, Oracle};
 use harness::record::{read, write, Record};
 use harness::subject::Subject;
 use harness::writing::numbers;
 use rafter_sim::model_check::judge::{Call, Histories};
 
-use chains::{written, workloads, Workload, Written};
+use chains::{largest, written, workloads, Workload, Written};
 
 /// Passes that are timed, after one that is not. The shortest counts: what
 /// makes a pass longer is other work on the machine.
@@ -59,6 +60,9 @@ fn main() {
     if let Some(write) = writer() {
         table_of_writing(write);
     }
+    if let Some(convert) = converter() {
+        table_of_converting(convert);
+    }
 }
 
 /// Writes the record that the numbers are: the refusal, and how many bytes.
@@ -77,6 +81,37 @@ fn table_of_writing(library: Write) {
             "{name:<44} {:>8} {encoder:>9.0} ns {library:>9.0} ns {:>8.2}",
             records.len(),
             library / encoder,
+        );
+    }
+}
+
+/// A record of the edition that is wanted, into no buffer: it is read, and
+/// refused with 13. So reading alone is timed.
+fn table_of_converting(convert: Convert) {
+    println!(
+        "\n{:<44} {:>12} {:>12} {:>8}",
+        "converted", "read", "converted", "/read"
+    );
+    for (name, own, other) in [("1 to 9", 1, 9), ("9 to 1", 9, 1)] {
+        let record = write(&largest(own == 9));
+        let mut buffer = vec![0; 65_535];
+        let mut time = |edition: u8, room: usize, answer: u32| {
+            assert_eq!(convert(edition, &record, &mut buffer[..room]).0, answer);
+            let pass = shortest(|| {
+                let start = Instant::now();
+                for _ in 0..20 {
+                    black_box(convert(edition, black_box(&record), &mut buffer[..room]));
+                }
+                start.elapsed()
+            });
+            pass.as_nanos() as f64 / 20.0
+        };
+        let reading = time(own, 0, 13);
+        let converting = time(other, 65_535, 0);
+        let name = format!("the largest view, kind {name}");
+        println!(
+            "{name:<44} {reading:>9.0} ns {converting:>9.0} ns {:>8.2}",
+            converting / reading
         );
     }
 }

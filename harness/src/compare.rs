@@ -19,8 +19,8 @@ pub struct Difference {
 pub struct Counts {
     pub chains: u64,
     pub records: u64,
-    /// Accepted, by kind 1 to 6.
-    pub accepted: [u64; 7],
+    /// Accepted, by kind 1 to 6 and 9.
+    pub accepted: [u64; 10],
     /// By refusal.
     pub refused: [u64; 20],
     /// Chains that ended with a finding, by name 3 to 5.
@@ -211,12 +211,20 @@ fn without_one(chain: &[Vec<u8>]) -> Vec<Vec<Vec<u8>>> {
 
 fn shorter(record: &[u8]) -> Vec<Vec<u8>> {
     match read(record) {
-        Ok(Record::View { node, entries }) => (0..entries.len())
+        Ok(Record::View {
+            node,
+            marked,
+            entries,
+        }) => (0..entries.len())
             .rev()
             .map(|place| {
                 let mut entries = entries.clone();
                 entries.remove(place);
-                write(&Record::View { node, entries })
+                write(&Record::View {
+                    node,
+                    marked,
+                    entries,
+                })
             })
             .collect(),
         Ok(Record::Rows(rows)) => (0..rows.len())

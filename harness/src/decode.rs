@@ -12,9 +12,9 @@ const NODES: Table = Table(9, 6);
 const TERMS: Table = Table(393, 4);
 const CERTIFICATES: Table = Table(1417, 11);
 const FINDINGS: Table = Table(2121, 8);
-const PREFIXES: Table = Table(3145, 41);
+const PREFIXES: Table = Table(3145, 42);
 
-pub const LENGTH: usize = 24_137;
+pub const LENGTH: usize = 24_649;
 
 /// The bytes of one row.
 struct Row<'a>(&'a [u8]);
@@ -76,12 +76,13 @@ pub fn put_marks(history: &mut [u8], marks: &[u32]) {
 }
 
 fn prefix(row: &Row) -> Prefix {
-    let size = row.number(8, 1).min(32);
+    let size = row.number(9, 1).min(32);
     Prefix {
         parent: row.number(0, 2),
         index: row.field(2, 2),
         term: row.field(4, 4),
-        content: row.0[9..9 + size].into(),
+        configuration: row.field(8, 1) == 1,
+        content: row.0[10..10 + size].into(),
     }
 }
 

@@ -33,10 +33,12 @@ fn log(node: u32, terms: &[u32]) -> Record {
     let entries = (1..).zip(terms).map(|(index, term)| Entry {
         index,
         term: *term,
+        configuration: false,
         content: vec![*term as u8, index as u8].into(),
     });
     Record::View {
         node,
+        marked: false,
         entries: entries.collect(),
     }
 }

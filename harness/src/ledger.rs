@@ -28,7 +28,7 @@ impl Ledger {
     /// An accepted record. It is not told of refused ones.
     pub fn take(&mut self, record: Record) {
         match record {
-            Record::View { node, entries } => {
+            Record::View { node, entries, .. } => {
                 let front = (1..)
                     .zip(entries)
                     .take_while(|(place, entry)| entry.index == *place);

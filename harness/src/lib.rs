@@ -1,6 +1,7 @@
 //! The Rust of rafter-sim as a judge of document 01. See README.md.
 
 pub mod compare;
+pub mod converting;
 pub mod decode;
 pub mod figures;
 pub mod judge;

@@ -28,6 +28,20 @@ pub fn writer() -> Option<fn(&[u64], &mut [u8]) -> (u32, usize)> {
     None
 }
 
+/// Turns a record into an edition: the refusal, and how many bytes.
+pub type Convert = fn(u8, &[u8], &mut [u8]) -> (u32, usize);
+
+/// The library's converter, where it is linked.
+#[cfg(history)]
+pub fn converter() -> Option<Convert> {
+    Some(linked::convert)
+}
+
+#[cfg(not(history))]
+pub fn converter() -> Option<Convert> {
+    None
+}
+
 #[cfg(history)]
 pub mod linked {
     use crate::decode::{decode, put_marks};
@@ -100,6 +114,13 @@ pub mod linked {
             buffer: *mut u8,
             length: usize,
         ) -> WriteReply;
+        fn gamiwhoru_convert(
+            edition: u8,
+            record: *const u8,
+            record_length: usize,
+            buffer: *mut u8,
+            length: usize,
+        ) -> WriteReply;
         fn gamiwhoru_finding(history: *const u8, length: usize, n: usize) -> FindingReply;
         fn gamiwhoru_leader(history: *const u8, length: usize, n: usize) -> LeaderReply;
         fn gamiwhoru_unseen(history: *const u8, length: usize, n: usize) -> UnseenReply;
@@ -112,6 +133,16 @@ pub mod linked {
         let (fields, count) = (numbers.as_ptr(), numbers.len());
         // SAFETY: the pointers and lengths are those of two live buffers, of which one is only read.
         let reply = unsafe { gamiwhoru_write(fields, count, buffer.as_mut_ptr(), buffer.len()) };
+        (u32::from(reply.refusal), reply.length)
+    }
+
+    /// The refusal, and how many bytes of the buffer were written.
+    pub fn convert(edition: u8, record: &[u8], buffer: &mut [u8]) -> (u32, usize) {
+        let (bytes, count) = (record.as_ptr(), record.len());
+        // SAFETY: the pointers and lengths are those of two live buffers, of which one is only read.
+        let reply = unsafe {
+            gamiwhoru_convert(edition, bytes, count, buffer.as_mut_ptr(), buffer.len())
+        };
         (u32::from(reply.refusal), reply.length)
     }
 

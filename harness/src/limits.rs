@@ -46,10 +46,12 @@ fn log(node: u32, length: u32, term: u32, first: &[u8]) -> Record {
     let entries = (1..=length).map(|index| Entry {
         index,
         term,
+        configuration: false,
         content: if index == 1 { first.into() } else { [].into() },
     });
     Record::View {
         node,
+        marked: false,
         entries: entries.collect(),
     }
 }

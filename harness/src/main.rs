@@ -6,14 +6,14 @@ use std::{env, fs};
 
 use harness::compare::{compare, hex, smallest, Counts};
 use harness::figures::figures;
-use harness::library::{subject, writer};
+use harness::library::{converter, subject, writer};
 use harness::limits::limits;
 use harness::marked::Marked;
 use harness::model::{Mistake, Model, MISTAKES};
 use harness::judge::Judge;
 use harness::oracle::hush_refusal_8;
 use harness::subject::Subject;
-use harness::{random, sheet, small, writing};
+use harness::{converting, random, sheet, small, writing};
 
 const USAGE: &str = "harness sheet FILE              the sheet of a recording, by the Rust
 harness sheets DIR              the sheets of all DIR/*.records against DIR/*.sheet
@@ -23,6 +23,8 @@ harness run [--seed S] [--chains N] [--from K] [--depth D]
 harness mistakes [--seed S]     each mistake of the model on purpose, and the smallest chain that shows it
 harness writing [--seed S] [--lists N]
                                 N lists of numbers, half of them damaged, to the library's writer and to a plain one
+harness converting [--seed S] [--records N]
+                                N records of either edition, some of them damaged, to the library's converter and to a plain one
 harness write DIR [--seed S] [--chains N]
                                 recordings of the figures, the limits and N random chains, with their sheets by the Rust
 harness chain S K               the recording of random chain K of seed S, in hexadecimal";
@@ -36,6 +38,7 @@ fn main() -> ExitCode {
         ["sheets", directory] => check_sheets(directory),
         ["run", options @ ..] => run(options),
         ["writing", options @ ..] => lists_written(options),
+        ["converting", options @ ..] => records_converted(options),
         ["mistakes", options @ ..] => mistakes(options),
         ["write", directory, options @ ..] => write_recordings(directory, options),
         ["chain", seed, number] => print_chain(seed, number),
@@ -424,4 +427,34 @@ fn shortened(chain: &[Vec<u8>]) -> String {
         return format!("{}.. ({} bytes)", &shown[..150], shown.len() / 2);
     }
     shown
+}
+
+fn records_converted(options: &[&str]) -> Verdict {
+    let seed = option(options, "--seed", 1)?;
+    let records = option(options, "--records", 1_000_000)?;
+    let Some(convert) = converter() else {
+        println!("converting: not run, for want of the library");
+        return Ok(true);
+    };
+    let start = Instant::now();
+    let mut answers = [0_u64; 17];
+    let mut differences = 0;
+    for number in 0..records {
+        let (edition, record) = converting::case(seed, number);
+        let before = converting::buffer(seed, number, edition, &record);
+        let wanted = converting::wanted(edition, &record, &before);
+        let mut after = before.clone();
+        let (refusal, length) = convert(edition, &record, &mut after);
+        let got = (refusal, length, after);
+        answers[wanted.0 as usize] += 1;
+        if got != wanted {
+            differences += 1;
+            println!("record {number} of seed {seed}, to {edition}, {record:?}: {got:?}, not {wanted:?}");
+        }
+    }
+    println!(
+        "{records} records of seed {seed} converted, answered 0 to 16 so often: {answers:?}; {differences} differences; {:.1?}",
+        start.elapsed()
+    );
+    Ok(differences == 0)
 }

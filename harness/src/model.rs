@@ -40,6 +40,8 @@ pub enum Mistake {
     FillingIgnored,
     RiseBeforeLimit,
     AbsentFieldsIgnored,
+    MarksIgnored,
+    MarkBeforeTerm,
     SixCountsEntries,
     FoundCountsAsMade,
     SevenCountsRepeats,
@@ -59,7 +61,7 @@ pub enum Mistake {
     LastIndexOfFront,
 }
 
-pub const MISTAKES: [Mistake; 39] = [
+pub const MISTAKES: [Mistake; 41] = [
     Mistake::MarkLeftUp,
     Mistake::LastEntryOnly,
     Mistake::MismatchReplaces,
@@ -84,6 +86,8 @@ pub const MISTAKES: [Mistake; 39] = [
     Mistake::FillingIgnored,
     Mistake::RiseBeforeLimit,
     Mistake::AbsentFieldsIgnored,
+    Mistake::MarksIgnored,
+    Mistake::MarkBeforeTerm,
     Mistake::SixCountsEntries,
     Mistake::FoundCountsAsMade,
     Mistake::SevenCountsRepeats,
@@ -104,6 +108,7 @@ pub const MISTAKES: [Mistake; 39] = [
 #[derive(Clone, Debug, Eq, PartialEq)]
 struct Entry {
     term: u64,
+    configuration: bool,
     /// Shared, so that equality of entries that are copies is quick.
     content: Arc<[u8]>,
 }
@@ -276,6 +281,7 @@ fn put_prefix(put: &mut impl FnMut(u64), prefix: &[Entry]) {
     put(prefix.len() as u64);
     for entry in prefix {
         put(entry.term);
+        put(u64::from(entry.configuration));
         put(entry.content.len() as u64);
         entry.content.iter().for_each(|byte| put(u64::from(*byte)));
     }
@@ -318,6 +324,7 @@ impl Model {
                 parent: self.number(parent),
                 index: prefix.len() as u32,
                 term: last.term as u32,
+                configuration: last.configuration,
                 content: Arc::clone(&last.content),
             }
         };
@@ -691,7 +698,8 @@ fn parse(record: &[u8], mistake: Mistake) -> Result<Fields, u32> {
         _ => 0,
     };
     let fields = match bits.take(4)? {
-        1 => {
+        kind @ (1 | 9) => {
+            let marked = kind == 9;
             let node = bits.take(6)?;
             let count = bits.up_to(10, 256)?;
             let mut entries: Vec<(u64, Entry)> = Vec::new();
@@ -707,14 +715,25 @@ fn parse(record: &[u8], mistake: Mistake) -> Result<Fields, u32> {
                 if !rises {
                     return Err(5);
                 }
+                let early = marked && mistake == Mistake::MarkBeforeTerm;
+                let mut mark = early && bits.take(1)? == 1;
                 let term = bits.take(32)?;
+                if marked && !early {
+                    mark = bits.take(1)? == 1;
+                }
+                let configuration = mark && mistake != Mistake::MarksIgnored;
                 let length = bits.up_to(6, 32)?;
                 let mut content = Vec::new();
                 for _ in 0..length {
                     content.push(bits.take(8)? as u8);
                 }
                 let content = content.into();
-                entries.push((index, Entry { term, content }));
+                let entry = Entry {
+                    term,
+                    configuration,
+                    content,
+                };
+                entries.push((index, entry));
             }
             Fields::View(node, entries)
         }

@@ -82,16 +82,21 @@ impl Subject for Oracle {
 
     fn state(&self) -> State {
         let unseen = self.histories.unseen().into_iter();
-        let number = |parent, term: u64, content: &Arc<[u8]>| {
-            let child = self.prefixes.child(parent, term as u32, content);
+        let number = |parent, term: u64, configuration, content: &Arc<[u8]>| {
+            let child = self
+                .prefixes
+                .child(parent, term as u32, configuration, content);
             child.unwrap_or(UNSTORED)
         };
-        let kept = self
-            .histories
-            .kept(&|parent, entry| number(parent, entry.term.0, &entry.kind.content));
+        let kept = self.histories.kept(&|parent, entry| {
+            let kind = &entry.kind;
+            number(parent, entry.term.0, kind.configuration, &kind.content)
+        });
         let front = |view: &[ViewEntry]| {
             let front = (1..).zip(view).take_while(|(place, e)| e.index == *place);
-            front.fold(0, |parent, (_, e)| number(parent, e.term, &e.content))
+            front.fold(0, |parent, (_, e)| {
+                number(parent, e.term, e.configuration, &e.content)
+            })
         };
         State {
             unseen: unseen.map(|(n, i)| (n as u32, i as u32)).collect(),
@@ -199,10 +204,11 @@ fn finding(violation: Violation) -> Finding {
 /// A record's fields in the Rust's own units.
 pub fn call(record: &Record) -> Call {
     match record {
-        Record::View { node, entries } => {
+        Record::View { node, entries, .. } => {
             let entries = entries.iter().map(|entry| ViewEntry {
                 index: u64::from(entry.index),
                 term: u64::from(entry.term),
+                configuration: entry.configuration,
                 content: Arc::clone(&entry.content),
             });
             Call::view(u64::from(*node), entries)
@@ -248,21 +254,31 @@ fn front(entries: &[Entry]) -> &[Entry] {
 /// keeps only the first of each index and term, so it cannot be asked.
 #[derive(Default)]
 struct Prefixes {
-    children: HashMap<(Number, u32, Arc<[u8]>), Number>,
+    children: HashMap<(Number, u32, bool, Arc<[u8]>), Number>,
     /// In the order first seen: the one of place k has number k + 1.
     stored: Vec<Prefix>,
 }
 
 impl Prefixes {
-    fn child(&self, parent: Number, term: u32, content: &Arc<[u8]>) -> Option<Number> {
-        let key = (parent, term, Arc::clone(content));
+    fn child(
+        &self,
+        parent: Number,
+        term: u32,
+        configuration: bool,
+        content: &Arc<[u8]>,
+    ) -> Option<Number> {
+        let key = (parent, term, configuration, Arc::clone(content));
         self.children.get(&key).copied()
+    }
+
+    fn with(&self, parent: Number, entry: &Entry) -> Option<Number> {
+        self.child(parent, entry.term, entry.configuration, &entry.content)
     }
 
     fn missing(&self, front: &[Entry]) -> usize {
         let mut at = 0;
         for (place, entry) in front.iter().enumerate() {
-            match self.child(at, entry.term, &entry.content) {
+            match self.with(at, entry) {
                 Some(child) => at = child,
                 None => return front.len() - place,
             }
@@ -275,17 +291,19 @@ impl Prefixes {
         let before = self.stored.len();
         let mut at = 0;
         for entry in front {
-            at = match self.child(at, entry.term, &entry.content) {
+            at = match self.with(at, entry) {
                 Some(child) => child,
                 None => {
                     self.stored.push(Prefix {
                         parent: at,
                         index: entry.index,
                         term: entry.term,
+                        configuration: entry.configuration,
                         content: Arc::clone(&entry.content),
                     });
                     let number = self.stored.len();
-                    let key = (at, entry.term, Arc::clone(&entry.content));
+                    let content = Arc::clone(&entry.content);
+                    let key = (at, entry.term, entry.configuration, content);
                     self.children.insert(key, number);
                     number
                 }

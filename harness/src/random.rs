@@ -32,7 +32,7 @@ impl Dice {
         self.below(100) < percent
     }
 
-    fn pick<T: Clone>(&mut self, from: &[T]) -> T {
+    pub fn pick<T: Clone>(&mut self, from: &[T]) -> T {
         from[self.below(from.len() as u32) as usize].clone()
     }
 }
@@ -49,7 +49,9 @@ struct World {
     /// Percent of views with a gap, and of records that are damaged.
     gaps: u32,
     damage: u32,
-    /// How often each kind comes, 1 to 6.
+    /// Percent of views that show the marks of their entries.
+    marks: u32,
+    /// How often each kind comes, 1 to 6; kind 9 comes as kind 1.
     weights: [u32; 6],
     records: u32,
     /// The length of the front that each node showed last, so that commits
@@ -98,6 +100,7 @@ fn tiny(dice: &mut Dice) -> World {
         logs: Vec::new(),
         gaps: 15,
         damage: 6,
+        marks: 35,
         weights: [30, 20, 17, 15, 15, 3],
         records: 1 + dice.below(14),
         fronts: [0; 64],
@@ -128,6 +131,7 @@ fn logs(dice: &mut Dice) -> World {
         logs,
         gaps: 4,
         damage: 4,
+        marks: 35,
         weights: [32, 22, 16, 14, 14, 2],
         records: 4 + dice.below(16),
         fronts: [0; 64],
@@ -150,6 +154,7 @@ fn wide(dice: &mut Dice) -> World {
         logs: Vec::new(),
         gaps: 10,
         damage: 12,
+        marks: 35,
         weights: [30, 15, 15, 15, 10, 15],
         records: 1 + dice.below(10),
         fronts: [0; 64],
@@ -172,6 +177,7 @@ fn elections(dice: &mut Dice) -> World {
         logs,
         gaps: 3,
         damage: 2,
+        marks: 35,
         weights: [12, 12, 26, 25, 25, 0],
         records: 10 + dice.below(30),
         fronts: [0; 64],
@@ -196,6 +202,7 @@ fn brim_of_findings(dice: &mut Dice) -> World {
         let entry = |index| Entry {
             index,
             term: 1,
+            configuration: false,
             content: if index == 1 { first.into() } else { [].into() },
         };
         (1..=length).map(entry).collect::<Vec<_>>()
@@ -210,7 +217,12 @@ fn brim_of_findings(dice: &mut Dice) -> World {
         ..elections(dice)
     };
     for (node, entries) in [(0, one), (1, other)] {
-        world.start.push(write(&Record::View { node, entries }));
+        let marked = false;
+        world.start.push(write(&Record::View {
+            node,
+            marked,
+            entries,
+        }));
         world.fronts[node as usize] = length;
     }
     world
@@ -223,10 +235,14 @@ fn brim_of_prefixes(dice: &mut Dice) -> World {
         let entries = (1..=length).map(|index| Entry {
             index,
             term: 10 + node,
+            configuration: false,
             content: [].into(),
         });
-        let entries = entries.collect();
-        world.start.push(write(&Record::View { node, entries }));
+        world.start.push(write(&Record::View {
+            node,
+            marked: false,
+            entries: entries.collect(),
+        }));
         world.fronts[node as usize] = length;
     }
     world
@@ -257,6 +273,7 @@ fn full(dice: &mut Dice) -> World {
         logs,
         gaps: 2,
         damage: 2,
+        marks: 35,
         weights: [45, 20, 10, 12, 13, 0],
         records: 8 + dice.below(24),
         fronts: [0; 64],
@@ -285,6 +302,7 @@ fn extend(dice: &mut Dice, log: &mut Vec<Entry>, more: usize, least: u32, conten
         log.push(Entry {
             index: log.len() as u32 + 1,
             term,
+            configuration: dice.chance(20),
             content: dice.pick(contents),
         });
     }
@@ -302,9 +320,10 @@ fn record(dice: &mut Dice, world: &mut World) -> Vec<u8> {
     };
     let bytes = write(&record);
     if dice.chance(world.damage) {
+        let kind = u32::from(bytes[0] >> 4);
         return damaged(dice, bytes, kind);
     }
-    if let Record::View { node, entries } = &record {
+    if let Record::View { node, entries, .. } = &record {
         let front = (1..)
             .zip(entries)
             .take_while(|(place, entry)| entry.index == *place);
@@ -376,7 +395,18 @@ fn view(dice: &mut Dice, world: &World) -> Record {
             entries[place].content = dice.pick(&world.contents);
         }
     }
-    Record::View { node, entries }
+    // A log is shown with its marks, or as portion records: the two may part.
+    let marked = dice.chance(world.marks);
+    if !marked {
+        entries
+            .iter_mut()
+            .for_each(|entry| entry.configuration = false);
+    }
+    Record::View {
+        node,
+        marked,
+        entries,
+    }
 }
 
 fn made_up(dice: &mut Dice, world: &World) -> Vec<Entry> {
@@ -384,6 +414,7 @@ fn made_up(dice: &mut Dice, world: &World) -> Vec<Entry> {
         .map(|index| Entry {
             index,
             term: dice.pick(&world.terms),
+            configuration: dice.chance(20),
             content: dice.pick(&world.contents),
         })
         .collect()
@@ -468,7 +499,7 @@ fn configuration(dice: &mut Dice, reach: u32) -> Option<(u32, u32)> {
 }
 
 /// Flipped bits, cut bytes, added bytes, a field beyond its limit, or noise.
-fn damaged(dice: &mut Dice, mut bytes: Vec<u8>, kind: u32) -> Vec<u8> {
+pub fn damaged(dice: &mut Dice, mut bytes: Vec<u8>, kind: u32) -> Vec<u8> {
     match dice.below(6) {
         0 | 1 => {
             for _ in 0..1 + dice.below(2) {
@@ -501,14 +532,16 @@ fn beyond(dice: &mut Dice, kind: u32) -> Vec<u8> {
     let mut w = Writer::default();
     w.put(kind, 4);
     match kind {
-        1 => {
+        1 | 9 => {
             let count = dice.pick(&[0, 1, 2, 2, 3, 257, 1023]);
             w.put(dice.below(64), 6).put(count, 10);
             for _ in 0..count.min(3) {
                 let length = dice.pick(&[0, 0, 1, 32, 33, 63]);
-                w.put(dice.pick(&INDEXES), 10)
-                    .put(dice.below(3), 32)
-                    .put(length, 6);
+                w.put(dice.pick(&INDEXES), 10).put(dice.below(3), 32);
+                if kind == 9 {
+                    w.put(dice.below(2), 1);
+                }
+                w.put(length, 6);
                 for _ in 0..length {
                     w.put(dice.below(2), 8);
                 }

@@ -7,6 +7,8 @@ use std::sync::Arc;
 pub struct Entry {
     pub index: u32,
     pub term: u32,
+    /// A configuration entry; else a portion record.
+    pub configuration: bool,
     pub content: Arc<[u8]>,
 }
 
@@ -25,8 +27,10 @@ pub struct Row {
 
 #[derive(Clone, Debug, Eq, PartialEq)]
 pub enum Record {
+    /// Kind 9 where it shows the marks of its entries, else kind 1.
     View {
         node: u32,
+        marked: bool,
         entries: Vec<Entry>,
     },
     Commit {
@@ -98,7 +102,8 @@ impl Reader<'_> {
 
     fn record(&mut self) -> Result<Record, u32> {
         match self.field(4, ANY)? {
-            1 => self.view(),
+            1 => self.view(false),
+            9 => self.view(true),
             2 => Ok(Record::Commit {
                 node: self.node()?,
                 index: self.index()?,
@@ -115,7 +120,7 @@ impl Reader<'_> {
         }
     }
 
-    fn view(&mut self) -> Result<Record, u32> {
+    fn view(&mut self, marked: bool) -> Result<Record, u32> {
         let node = self.node()?;
         let count = self.index()?;
         let mut entries = Vec::with_capacity(count as usize);
@@ -130,6 +135,7 @@ impl Reader<'_> {
             }
             before = index;
             let term = self.term()?;
+            let configuration = marked && self.field(1, 1)? == 1;
             let length = self.field(6, CONTENT_LIMIT)?;
             let mut content = [0; CONTENT_LIMIT as usize];
             let content = &mut content[..length as usize];
@@ -139,10 +145,15 @@ impl Reader<'_> {
             entries.push(Entry {
                 index,
                 term,
+                configuration,
                 content: Arc::from(&*content),
             });
         }
-        Ok(Record::View { node, entries })
+        Ok(Record::View {
+            node,
+            marked,
+            entries,
+        })
     }
 
     fn election(&mut self) -> Result<Record, u32> {
@@ -230,10 +241,18 @@ impl Writer {
 pub fn write(record: &Record) -> Vec<u8> {
     let mut w = Writer::default();
     match record {
-        Record::View { node, entries } => {
-            w.put(1, 4).put(*node, 6).put(entries.len() as u32, 10);
+        Record::View {
+            node,
+            marked,
+            entries,
+        } => {
+            let kind = if *marked { 9 } else { 1 };
+            w.put(kind, 4).put(*node, 6).put(entries.len() as u32, 10);
             for entry in entries {
                 w.put(entry.index, 10).put(entry.term, 32);
+                if *marked {
+                    w.put(u32::from(entry.configuration), 1);
+                }
                 w.put(entry.content.len() as u32, 6);
                 for byte in entry.content.iter() {
                     w.put(u32::from(*byte), 8);

@@ -6,6 +6,7 @@ fn entry(index: u32, term: u32, content: &[u8]) -> Entry {
     Entry {
         index,
         term,
+        configuration: false,
         content: content.into(),
     }
 }
@@ -13,6 +14,7 @@ fn entry(index: u32, term: u32, content: &[u8]) -> Entry {
 fn view(node: u32, entries: &[Entry]) -> Record {
     Record::View {
         node,
+        marked: false,
         entries: entries.to_vec(),
     }
 }

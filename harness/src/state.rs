@@ -19,6 +19,7 @@ pub struct Prefix {
     pub parent: Number,
     pub index: u32,
     pub term: u32,
+    pub configuration: bool,
     pub content: Arc<[u8]>,
 }
 

@@ -95,10 +95,15 @@ impl List<'_> {
             entries.push(Entry {
                 index,
                 term,
+                configuration: false,
                 content: content?.into(),
             });
         }
-        Ok(Record::View { node, entries })
+        Ok(Record::View {
+            node,
+            marked: false,
+            entries,
+        })
     }
 
     fn rows(&mut self) -> Result<Record, u32> {
@@ -138,7 +143,7 @@ pub fn numbers(record: &Record) -> Vec<u64> {
         [u32::from(c.is_some()), index, identity]
     };
     match record {
-        Record::View { node, entries } => {
+        Record::View { node, entries, .. } => {
             put(&[1, *node, entries.len() as u32]);
             for entry in entries {
                 put(&[entry.index, entry.term, entry.content.len() as u32]);
@@ -227,6 +232,7 @@ fn entries(dice: &mut Dice) -> Vec<Entry> {
             Entry {
                 index,
                 term,
+                configuration: false,
                 content: (0..length).map(|_| number(dice, 255) as u8).collect(),
             }
         })
@@ -252,10 +258,12 @@ fn rows(dice: &mut Dice) -> Vec<Row> {
         .collect()
 }
 
-fn record(dice: &mut Dice) -> Record {
+/// A record of any kind that is written.
+pub fn record(dice: &mut Dice) -> Record {
     match dice.below(6) {
         0 => Record::View {
             node: number(dice, 63),
+            marked: false,
             entries: entries(dice),
         },
         1 => Record::Commit {
@@ -300,8 +308,13 @@ pub type Written = (u32, usize, Vec<u8>);
 
 /// What the writer must answer and leave.
 pub fn wanted(numbers: &[u64], buffer: &[u8]) -> Written {
+    left(given(numbers).map(|record| write(&record)), buffer)
+}
+
+/// What a call that makes these bytes, or is refused, must answer and leave.
+pub fn left(made: Result<Vec<u8>, u32>, buffer: &[u8]) -> Written {
     let mut after = buffer.to_vec();
-    match given(numbers).map(|record| write(&record)) {
+    match made {
         Err(refusal) => (refusal, 0, after),
         Ok(bytes) if bytes.len() > buffer.len() => (13, 0, after),
         Ok(bytes) => {
@@ -313,8 +326,12 @@ pub fn wanted(numbers: &[u64], buffer: &[u8]) -> Written {
 
 /// A buffer for the list: mostly long enough, and filled with anything.
 pub fn buffer(seed: u64, number: u64, numbers: &[u64]) -> Vec<u8> {
-    let mut dice = Dice::new(seed ^ 0x57_52_49_54_45, number);
     let needed = given(numbers).map_or(8, |record| write(&record).len() as u32);
+    filled(&mut Dice::new(seed ^ 0x57_52_49_54_45, number), needed)
+}
+
+/// So many bytes mostly, or some more, and now and then fewer.
+pub fn filled(dice: &mut Dice, needed: u32) -> Vec<u8> {
     let length = if dice.chance(20) {
         dice.below(needed + 1)
     } else {

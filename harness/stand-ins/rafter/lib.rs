@@ -1,7 +1,7 @@
 //! Stand-in for the crate `rafter`, whose files are not at hand.
 //!
 //! Document 01 fixes three plain numbers and an entry of a term and content
-//! bytes, compared field by field. Everything else is an empty shell: a name
+//! bytes, compared field by field; T-09 of document 02 gives the entry a mark. Everything else is an empty shell: a name
 //! that the files of docs/src mention and that no record ever reaches.
 
 use std::collections::BTreeSet;
@@ -41,6 +41,8 @@ pub type SharedPayload = Arc<[u8]>;
 
 #[derive(Clone, Debug, Eq, Hash, PartialEq)]
 pub struct LogEntryKind {
+    /// A configuration entry; else a portion record.
+    pub configuration: bool,
     pub content: SharedPayload,
 }
 

@@ -23,6 +23,7 @@ use super::state::{CommitHistory, ElectionHistory, ExplorationState, LogicalLogH
 pub struct ViewEntry {
     pub index: u64,
     pub term: u64,
+    pub configuration: bool,
     pub content: SharedPayload,
 }
 
@@ -96,6 +97,7 @@ impl Call {
             index: LogIndex(entry.index),
             term: Term(entry.term),
             kind: LogEntryKind {
+                configuration: entry.configuration,
                 content: entry.content,
             },
         });
@@ -299,6 +301,7 @@ impl Histories {
             let entries = view.entries.iter().map(|(index, entry)| ViewEntry {
                 index: index.0,
                 term: entry.term.0,
+                configuration: entry.kind.configuration,
                 content: entry.kind.content.clone(),
             });
             views.push((node.0, entries.collect()));
