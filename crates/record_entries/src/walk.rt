@@ -115,6 +115,7 @@ struct Tail {
 
 // They of the entry at bit `at`, the 48 bits from there being `head`.
 #[tactic(auto, using(crate::proofs::Tails::unmarked, crate::proofs::Tails::unmarked_length, crate::proofs::Tails::marked_mark, crate::proofs::Tails::marked_length))]
+#[inline(always)]
 fn tail_at(view: ViewBytes<'_>, at: usize, head: u64) -> Tail
     requires { Here (bits_of view.bytes.now view.marked) at × (head ≡ field_at view.bytes.now at 48) }
     ensures configuration { result.configuration ≡ places.mark_at (bits_of view.entry.bytes.now view.entry.marked) at }
