@@ -11,16 +11,16 @@ use mathlib.Core.Option.{Option, none, some}
 use Rattle.model.specs.Sizes.{Bytes}
 use Rattle.model.specs.Entry.{Prefix}
 use Rattle.model.specs.Refusal.{Refusal}
-use Rattle.model.specs.Record.{Shown, Record, view, commit, terms, election, check, rows, front}
+use Rattle.model.specs.Record.{Shown, Record, view, commit, terms, election, check, rows, leader, front}
 use Rattle.model.specs.Reading.{Reading, readable, unreadable, read}
 use Rattle.model.specs.History.{Finding, History, fresh}
 use Rattle.model.specs.Answer.{is_accepted, refusal, answer_unless, answer_read, answer, after}
 use Rattle.model.specs.Ledger.{Ledger, empty}
 use Rattle.model.specs.Lists.{finding_list}
-use Rattle.model.specs.Run.{history_from, history_of, told, event_unless, event_read, events_from}
-use Rattle.model.specs.Statements.{fronts_in, accepted_fronts, Clashing, PairsByFronts, IsView, ViewsAccepted, AnyArrival}
+use Rattle.model.specs.Run.{history_from, history_of, told, event_unless, event_read, events_from, gathered}
+use Rattle.model.specs.Statements.{front_in, fronts_in, accepted_fronts, Clashing, PairsByFronts, IsView, ViewsAccepted, AnyArrival}
 use Rattle.model.proofs.Tests.{tf}
-use Rattle.model.proofs.Stored.{fronts_both}
+use Rattle.model.proofs.Run.{gathered_append}
 use Rattle.model.proofs.Matching.{which_pairs}
 
 -- ---- the same fronts name the same pairs
@@ -62,7 +62,7 @@ record ShownBy (s : Bytes) (p : Prefix) : Type 0 where
 module _ (h : History) (g : Ledger) (s : Bytes) where
   added_unless : (r : Record) (o : Option Refusal) → read s ≡ readable r → (p : Prefix) → Memᴰ p (fronts_in (event_unless h g r o))
       → ShownBy s p
-  unfolding fronts_in
+  unfolding gathered
   added_unless r (some e) q p m = absurd (Memᴰ.not-nil m)
   added_unless (view n xs) none q p m =
       record { is = record { node = n; shown = xs; reads = q }; front_is = Memᴰ.eq_of_singleton m }
@@ -71,15 +71,16 @@ module _ (h : History) (g : Ledger) (s : Bytes) where
   added_unless (election l t b n) none q p m = absurd (Memᴰ.not-nil m)
   added_unless check none q p m = absurd (Memᴰ.not-nil m)
   added_unless (rows rs) none q p m = absurd (Memᴰ.not-nil m)
+  added_unless (leader n t) none q p m = absurd (Memᴰ.not-nil m)
 
   added : (x : Reading) → read s ≡ x → (p : Prefix) → Memᴰ p (fronts_in (event_read h g x)) → ShownBy s p
-  unfolding fronts_in
+  unfolding gathered
   added (readable r) q p m = added_unless r (refusal h r) q p m
   added (unreadable e) q p m = absurd (Memᴰ.not-nil m)
 
   adds_unless : (n : ℕ) (xs : List Shown) (o : Option Refusal) → is_accepted (answer_unless h (view n xs) o) ≡ true
       → Memᴰ (front xs) (fronts_in (event_unless h g (view n xs) o))
-  unfolding fronts_in
+  unfolding gathered
   adds_unless n xs none a = Memᴰ.head refl
   adds_unless n xs (some e) a = absurd (tf (sym a))
 
@@ -97,11 +98,11 @@ AcceptedFrom h ss =
 
 fronts_shown : (ss : List Bytes) (h : History) (g : Ledger) → AcceptedFrom h ss → (p : Prefix)
     → Memᴰ p (fronts_in (events_from h g ss)) ↔ ShownIn ss p
-unfolding events_from fronts_in AcceptedFrom history_from
+unfolding events_from gathered AcceptedFrom history_from
 fronts_shown [] h g a p = (λ m. absurd (Memᴰ.not-nil m), λ w. absurd (Memᴰ.not-nil w.among))
 fronts_shown (s ∷ ss) h g a p =
     let rest = events_from (after h s) (told h g s) ss in
-    let both = fronts_both (event_read h g (read s)) rest in
+    let both = gathered_append (λ e. front_in e.event) (event_read h g (read s)) rest in
     let accepted : AcceptedFrom (after h s) ss = λ b x l e v. a (s ∷ b) x l (ap (λ (k : List Bytes). s ∷ k) e) v in
     let later = fronts_shown ss (after h s) (told h g s) accepted p in (
       λ m. ⊎_elim

@@ -12,29 +12,23 @@ use lib.Seq.{take-length, take-take}
 use borrow.Author.Tests.{ltb-true, ltb-false, lt-ltb, le-leb}
 use Rattle.model.specs.Sizes.{Bytes}
 use Rattle.model.specs.Entry.{Prefix, agree}
-use Rattle.model.specs.Record.{Record, view, commit, terms, election, check, rows, front}
+use Rattle.model.specs.Record.{Record, view, commit, terms, election, check, rows, leader, front}
 use Rattle.model.specs.History.{Finding, History, front_of}
 use Rattle.model.specs.View.{prefixes_of, view_effect}
 use Rattle.model.specs.Commit.{through, seen, replaces, differences, commit_effect}
 use Rattle.model.specs.Terms.{terms_effect}
 use Rattle.model.specs.Election.{election_effect}
 use Rattle.model.specs.Check.{check_effect}
+use Rattle.model.specs.LeaderLog.{kept_of, present, leader_effect}
 use Rattle.model.specs.Answer.{effect}
 use Rattle.model.specs.Ledger.{Ledger, entered}
-use Rattle.model.specs.Run.{history_of, ledger_of, Event}
+use Rattle.model.specs.Run.{history_of, ledger_of, gathered}
 use Rattle.model.specs.Statements.{brought_by, shown_by, seen_by, seen_in, committed_seen, Agreeing, CommittedPrefixes}
 use Rattle.model.proofs.Tests.{either, cond_true, cond_false, and_left, and_right, and_both, and_false, same_yes, yes_same}
-use Rattle.model.proofs.Run.{by_events}
-use Rattle.model.proofs.Matching.{Without, none_printed, without_after, without_nil, mismatches_name, lackings_name}
+use Rattle.model.proofs.Run.{by_events, gathered_snoc}
+use Rattle.model.proofs.Matching.{Without, none_printed, without_after, without_nil, mismatches_name, lackings_name, rewritings_name}
 
 -- ---- what is seen
-
-seen_append : (es : List Event) (e : Event) → seen_in (es ++ (e ∷ [])) ≡ seen_in es ++ seen_by e.ledger e.event
-unfolding seen_in
-seen_append [] e = append-nil (seen_by e.ledger e.event)
-seen_append (x ∷ es) e =
-    ap (λ (l : List Prefix). seen_by x.ledger x.event ++ l) (seen_append es e)
-    ∙ sym (append_assoc (seen_by x.ledger x.event) (seen_in es) (seen_by e.ledger e.event))
 
 -- a commit record shows its prefix, or nothing
 seen_cases : (p : Prefix) (i : ℕ)
@@ -211,7 +205,7 @@ inv_hidden h n i ps e v =
 module _ (h : History) (g : Ledger) (same-fronts : h.fronts ≡ g.fronts) (ps : List Prefix) where
   keep : (r : Record) → Inv h.committed h.findings ps
       → Inv (effect h r).committed (effect h r).findings (ps ++ seen_by g r)
-  unfolding view_effect commit_effect terms_effect election_effect check_effect
+  unfolding view_effect commit_effect terms_effect election_effect check_effect leader_effect
   keep (view n xs) v =
       subst (Inv h.committed (effect h (view n xs)).findings) (sym (append-nil ps))
       (inv_other h (view n xs) ps (mismatches_name 4 n h.prefixes (prefixes_of (front xs)) (λ e. omega arith)) v)
@@ -231,16 +225,20 @@ module _ (h : History) (g : Ledger) (same-fronts : h.fronts ≡ g.fronts) (ps : 
       subst (Inv h.committed (effect h check).findings) (sym (append-nil ps))
       (inv_other h check ps (lackings_name 4 h.committed h.terms h.certificates (λ e. omega arith)) v)
   keep (rows rs) v = subst (Inv h.committed h.findings) (sym (append-nil ps)) v
+  keep (leader n t) v =
+      subst (Inv h.committed (effect h (leader n t)).findings) (sym (append-nil ps))
+      (inv_other h (leader n t) ps (rewritings_name 4 (kept_of h.leader_logs n t) (present h n t) (λ e. omega arith)) v)
 
 -- the fronts are the ledger's
 keep_fronts : (h : History) (g : Ledger) (r : Record) → h.fronts ≡ g.fronts → (effect h r).fronts ≡ (entered g r).fronts
-unfolding view_effect commit_effect terms_effect election_effect check_effect
+unfolding view_effect commit_effect terms_effect election_effect check_effect leader_effect
 keep_fronts h g (view n xs) e = ap (λ (l : List Prefix). set l n (front xs)) e
 keep_fronts h g (commit n i) e = e
 keep_fronts h g (terms old new t) e = e
 keep_fronts h g (election l t p n) e = e
 keep_fronts h g check e = e
 keep_fronts h g (rows rs) e = e
+keep_fronts h g (leader n t) e = e
 
 inv : (ss : List Bytes)
     → ((history_of ss).fronts ≡ (ledger_of ss).fronts) × Inv (history_of ss).committed (history_of ss).findings (committed_seen ss)
@@ -249,13 +247,13 @@ inv =
       refl,
       record {
         is_seen = λ n. absurd (n refl);
-        reaches = unfold seen_in in λ _ p m. absurd (mathlib.Core.List.Memᴰ.not-nil m);
+        reaches = unfold gathered in λ _ p m. absurd (mathlib.Core.List.Memᴰ.not-nil m);
         clear = λ _. without_nil 4;
       },
     )
     (λ h g es r _ v. (
       keep_fronts h g r v.0,
-      subst (Inv (effect h r).committed (effect h r).findings) (sym (seen_append es (record { history = h; ledger = g; event = r })))
+      subst (Inv (effect h r).committed (effect h r).findings) (sym (gathered_snoc (λ e. seen_by e.ledger e.event) es (record { history = h; ledger = g; event = r })))
           (keep h g v.0 (seen_in es) r v.1),
     ))
 

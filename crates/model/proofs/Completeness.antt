@@ -7,7 +7,7 @@ use mathlib.Core.Path.{◌≡◌, refl, sym, ◌∙◌, ap, subst}
 use mathlib.Core.Bool.{true}
 use mathlib.Core.List.{List, [], ◌∷◌, ◌++◌}
 use Rattle.model.specs.Sizes.{Bytes}
-use Rattle.model.specs.Record.{Record, view, commit, terms, election, check, rows}
+use Rattle.model.specs.Record.{Record, view, commit, terms, election, check, rows, leader}
 use Rattle.model.specs.Reading.{readable, read}
 use Rattle.model.specs.History.{History}
 use Rattle.model.specs.Answer.{is_accepted, answer, effect}
@@ -24,12 +24,13 @@ use Rattle.model.proofs.CompletenessCommit.{keeps_commit}
 use Rattle.model.proofs.CompletenessTerms.{keeps_terms}
 use Rattle.model.proofs.CompletenessElection.{keeps_election}
 use Rattle.model.proofs.CompletenessCheck.{keeps_check, check_reaches}
+use Rattle.model.proofs.CompletenessLeaderLog.{keeps_leader}
 use Rattle.model.proofs.CompletenessLedger.{same_leaders}
 
 -- ---- examples
 
-abbrev pub leader : ℕ → ℕ → Leader
-leader t l = record { term = t; leader = l }
+abbrev pub leader_in : ℕ → ℕ → Leader
+leader_in t l = record { term = t; leader = l }
 
 -- a check
 unfoldable pub checked : Bytes
@@ -62,7 +63,7 @@ late_checked : CheckedAfter late
 unfolding late checked read answer history_from
 late_checked = (refl, refl)
 
-pub late_leaders : LeadersAfter late (leader 4 1 ∷ []) (leader 4 1 ∷ [])
+pub late_leaders : LeadersAfter late (leader_in 4 1 ∷ []) (leader_in 4 1 ∷ [])
 unfolding late checked history_from ledger_from leader_list ledger_leaders
 late_leaders = (refl, refl)
 
@@ -106,7 +107,7 @@ early_checked : CheckedAfter told_early
 unfolding told_early zero_term checked read answer history_from
 early_checked = (refl, refl)
 
-pub early_leaders : LeadersAfter told_early (leader 4 2 ∷ []) (leader 4 2 ∷ [])
+pub early_leaders : LeadersAfter told_early (leader_in 4 2 ∷ []) (leader_in 4 2 ∷ [])
 unfolding told_early zero_term checked history_from ledger_from leader_list ledger_leaders
 early_leaders = (refl, refl)
 
@@ -120,6 +121,7 @@ keeps h g (terms old new t) v = keeps_terms h g old new t v
 keeps h g (election l t p n) v = keeps_election h g l t p n v
 keeps h g check v = keeps_check h g v
 keeps h g (rows rs) v = v
+keeps h g (leader n t) v = keeps_leader h g n t v
 
 pub always : (ss : List Bytes) → Invariant (history_of ss) (ledger_of ss)
 always ss = by_events (λ h g es. Invariant h g) at_first (λ h g es r _ v. keeps h g r v) ss

@@ -21,7 +21,7 @@ use Rattle.model.specs.Ledger.{Elected, Ledger, entered, extended}
 use Rattle.model.proofs.Tests.{tf, either, cond_cases, cond_true, cond_false, and_left, and_right, and_both, test_ext, begins_yes, agree_short}
 use Rattle.model.proofs.Matching.{differences_name}
 use Rattle.model.proofs.Committed.{replaced_agrees, agreeing_replaces}
-use Rattle.model.proofs.CompletenessInvariant.{LacksAt, Justified, Sound, Complete, MarksWithin, Invariant, named_noted, sound_noted, sound_others}
+use Rattle.model.proofs.CompletenessInvariant.{LacksAt, Justified, Sound, Complete, MarksWithin, Invariant, others_noted}
 
 -- ---- the same committed entries
 
@@ -127,19 +127,13 @@ module _ (p q : Prefix) (x : Extends p q) where
 
 -- ---- what it finds
 
-sound_commit : (h : History) (g : Ledger) (n i : ℕ) → Invariant h g
+found_commit : (h : History) (g : Ledger) (n i : ℕ) → Invariant h g
     → Sound (commit_findings h n i) h.committed g.terms g.elections
+    × Complete (commit_findings h n i) h.committed h.terms h.certificates
 unfolding commit_findings
-sound_commit h g n i v =
-    sound_noted h.findings (differences n h.committed (seen h n i)) h.committed g.terms g.elections v.sound
-    (sound_others (differences n h.committed (seen h n i)) h.committed g.terms g.elections
-    (differences_name 5 n h.committed (seen h n i) (λ e. omega arith)))
-
-complete_commit : (h : History) (g : Ledger) (n i : ℕ) → Invariant h g
-    → Complete (commit_findings h n i) h.committed h.terms h.certificates
-unfolding commit_findings
-complete_commit h g n i v c m k l o =
-    named_noted h.findings (differences n h.committed (seen h n i)) _ (v.complete c m k l o)
+found_commit h g n i v =
+    others_noted h g (differences n h.committed (seen h n i))
+    (differences_name 5 n h.committed (seen h n i) (λ e. omega arith)) v
 
 committed_after : (h : History) (g : Ledger) (n i : ℕ) → Invariant h g
     → cond (replaces h.committed (seen h n i)) (seen h n i) h.committed ≡ extended (get_or g.fronts n []) i g.committed
@@ -158,8 +152,8 @@ keeps_commit h g n i v =
       terms = v.terms;
       elections = v.elections;
       marks = marks_extended h.committed q x h.certificates v.marks;
-      sound = sound_extended h.committed q x (commit_findings h n i) g.terms g.elections (sound_commit h g n i v);
+      sound = sound_extended h.committed q x (commit_findings h n i) g.terms g.elections (found_commit h g n i v).0;
       complete =
           complete_extended h.committed q x (commit_findings h n i) h.terms h.certificates v.marks
-          (complete_commit h g n i v);
+          (found_commit h g n i v).1;
     }

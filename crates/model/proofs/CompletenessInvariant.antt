@@ -140,9 +140,14 @@ pub sound_noted : (fs gs : List Finding) (p : Prefix) (ts : ℕ → Option ℕ) 
 unfolding noted
 sound_noted fs gs p ts es s t f m e = ⊎_elim (λ k. s f k e) (λ k. t f k e) (all_cases same_finding fs gs f m)
 
--- where none of them is an LG-05
-pub sound_others : (gs : List Finding) (p : Prefix) (ts : ℕ → Option ℕ) (es : List Elected) → Without 5 gs → Sound gs p ts es
-sound_others gs p ts es n f m e = absurd (n f m e)
+-- where none of them is an LG-05, the findings still say of the ledger what they said
+pub others_noted : (h : History) (g : Ledger) (gs : List Finding) → Without 5 gs → Invariant h g
+    → Sound (noted h.findings gs) h.committed g.terms g.elections
+    × Complete (noted h.findings gs) h.committed h.terms h.certificates
+others_noted h g gs n v = (
+  sound_noted h.findings gs h.committed g.terms g.elections v.sound (λ f m e. absurd (n f m e)),
+  λ c m i l o. named_noted h.findings gs (leads (elected_of c)) (v.complete c m i l o),
+)
 
 -- ---- other marks
 

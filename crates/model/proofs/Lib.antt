@@ -15,8 +15,12 @@ pub mod CompletenessCommit
 pub mod CompletenessTerms
 pub mod CompletenessElection
 pub mod CompletenessCheck
+pub mod CompletenessLeaderLog
 pub mod CompletenessLedger
 pub mod Completeness
 pub mod Bridge
 pub mod Marked
 pub mod Arrival
+pub mod LeaderLog
+pub mod Kept
+pub mod AppendOnly

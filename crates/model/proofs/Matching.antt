@@ -16,13 +16,14 @@ use lib.Seq.{length-take-le}
 use borrow.Author.Tests.{eqb-true, eq-eqb}
 use Rattle.model.specs.Sizes.{Bytes}
 use Rattle.model.specs.Entry.{Prefix, same, agree, last_term}
-use Rattle.model.specs.Record.{Shown, Record, view, commit, terms, election, check, rows, front}
-use Rattle.model.specs.History.{Finding, Certificate, History}
+use Rattle.model.specs.Record.{Shown, Record, view, commit, terms, election, check, rows, leader, front}
+use Rattle.model.specs.History.{Finding, Certificate, LeaderLog, History}
 use Rattle.model.specs.View.{prefixes_of, remembered, differing, mismatch, mismatches, stored, view_effect}
 use Rattle.model.specs.Commit.{seen, differences, commit_effect}
 use Rattle.model.specs.Terms.{terms_effect}
 use Rattle.model.specs.Election.{election_effect}
 use Rattle.model.specs.Check.{relevant, lacks, lacking, lackings, check_effect}
+use Rattle.model.specs.LeaderLog.{kept_of, present, rewrites, rewritings, leader_effect}
 use Rattle.model.specs.Answer.{effect}
 use Rattle.model.specs.Lists.{before, insert, ordered, finding_list}
 use Rattle.model.specs.Run.{history_of}
@@ -106,7 +107,7 @@ without_then : (name : ℕ) (g : Finding) (b : Bool) → (g.name ≡ name → �
 without_then name g true u = without_one name g u
 without_then name g false u = without_nil name
 
--- a commit brings only LG-04, a check only LG-05, a view only LG-03
+-- a commit brings only LG-04, a check only LG-05, a view only LG-03, a leader only LG-01
 pub differences_name : (name n : ℕ) (c p : Prefix) → (4 ≡ name → ⊥) → Without name (differences n c p)
 unfolding differences
 differences_name name n c p u =
@@ -131,6 +132,12 @@ unfolding mismatch
 mismatches_name name n ps qs u f m =
     let r = (mismatches_mem ps n qs f).0 m in
     differing_name name n r.0 (remembered ps (length r.0) (last_term r.0)) u f r.2
+
+pub rewritings_name : (name : ℕ) (k : Option LeaderLog) (v : LeaderLog) → (1 ≡ name → ⊥) → Without name (rewritings k v)
+unfolding rewritings
+rewritings_name name none v u = without_nil name
+rewritings_name name (some k) v u =
+    without_then name (record { name = 1; node = v.node; index = 0; term = v.term }) (rewrites k v) u
 
 -- ---- the remembered prefix
 
@@ -335,13 +342,15 @@ inv_view h n xs v i t =
     )
 
 keep : (h : History) (r : Record) → Inv h → Inv (effect h r)
-unfolding view_effect commit_effect terms_effect election_effect check_effect
+unfolding view_effect commit_effect terms_effect election_effect check_effect leader_effect
 keep h (view n xs) v = inv_view h n xs v
 keep h (commit n i) v = inv_other h (commit n i) (differences_name 3 n h.committed (seen h n i) (λ e. omega arith)) v
 keep h (terms old new t) v = inv_other h (terms old new t) (without_nil 3) v
 keep h (election l t p n) v = inv_other h (election l t p n) (without_nil 3) v
 keep h check v = inv_other h check (lackings_name 3 h.committed h.terms h.certificates (λ e. omega arith)) v
 keep h (rows rs) v = inv_other h (rows rs) (without_nil 3) v
+keep h (leader n t) v =
+    inv_other h (leader n t) (rewritings_name 3 (kept_of h.leader_logs n t) (present h n t) (λ e. omega arith)) v
 
 inv : (ss : List Bytes) → Inv (history_of ss)
 inv =

@@ -1,7 +1,7 @@
 -- Runs: a refused record leaves everything as it was, and what each accepted record keeps holds after every list.
 -- Assumes nothing.
 use Prim.Native.Nat.{ℕ}
-use mathlib.Core.Path.{◌≡◌, refl, sym, ap, subst}
+use mathlib.Core.Path.{◌≡◌, refl, sym, ◌∙◌, ap, subst}
 use mathlib.Core.Bool.{Bool, true, false}
 use mathlib.Core.List.{List, [], ◌∷◌, ◌++◌, append-nil, append_assoc}
 use mathlib.Core.Option.{Option, none, some}
@@ -12,7 +12,7 @@ use Rattle.model.specs.Reading.{Reading, readable, unreadable, read}
 use Rattle.model.specs.History.{History, fresh}
 use Rattle.model.specs.Answer.{accepted, refused, is_accepted, refusal, effect, answer_unless, answer_read, answer, after_unless, after_read, after}
 use Rattle.model.specs.Ledger.{Ledger, empty, entered, entered_read, fed}
-use Rattle.model.specs.Run.{history_from, history_of, told, ledger_from, ledger_of, Event, event_unless, event_read, events_from, events_of}
+use Rattle.model.specs.Run.{history_from, history_of, told, ledger_from, ledger_of, Event, event_unless, event_read, events_from, events_of, gathered}
 use Rattle.model.specs.Statements.{RefusedMeansUntouched}
 use Rattle.model.proofs.Tests.{tf}
 
@@ -94,3 +94,16 @@ module _ (P : History → Ledger → List Event → Type 0)
 
 pub by_events : ByEvents
 by_events P base keep ss = from P keep ss fresh empty [] base
+
+-- ---- what the events give, those of two lists and one event more
+
+pub gathered_append : {A : Type 0} (f : Event → List A) (es fs : List Event) → gathered f (es ++ fs) ≡ gathered f es ++ gathered f fs
+unfolding gathered
+gathered_append f [] fs = refl
+gathered_append f (e ∷ es) fs =
+    ap (λ l. f e ++ l) (gathered_append f es fs) ∙ sym (append_assoc (f e) (gathered f es) (gathered f fs))
+
+pub gathered_snoc : {A : Type 0} (f : Event → List A) (es : List Event) (e : Event)
+    → gathered f (es ++ (e ∷ [])) ≡ gathered f es ++ f e
+unfolding gathered
+gathered_snoc f es e = gathered_append f es (e ∷ []) ∙ ap (λ l. gathered f es ++ l) (append-nil (f e))

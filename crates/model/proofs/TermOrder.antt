@@ -7,7 +7,7 @@ use mathlib.Core.Path.{◌≡◌, refl, sym, ◌∙◌, ap, subst}
 use mathlib.Core.Bool.{Bool, true, false, cond, ◌&&◌}
 use mathlib.Core.Logic.{◌⊎◌, inl, inr, ⊎_elim, ◌↔◌}
 use mathlib.Core.List.Memᴰ
-use mathlib.Core.List.{List, [], ◌∷◌, ◌++◌, append-nil, append_assoc, map, Memᴰ}
+use mathlib.Core.List.{List, [], ◌∷◌, ◌++◌, append-nil, map, Memᴰ}
 use mathlib.Core.Option.{Option, none, some}
 use Rattle.std.proofs.lemmas.Bool.{cases_lt}
 use lib.Dec.{leb, ltb}
@@ -16,7 +16,7 @@ use lib.Seq.{ext_get_or}
 use borrow.Author.Tests.{leb-true, le-ltb}
 use Rattle.model.specs.Sizes.{Bytes}
 use Rattle.model.specs.Refusal.{Refusal, old_exceeds_new}
-use Rattle.model.specs.Record.{Record, view, commit, terms, election, check, rows}
+use Rattle.model.specs.Record.{Record, view, commit, terms, election, check, rows, leader}
 use Rattle.model.specs.Reading.{Reading, readable, unreadable, read}
 use Rattle.model.specs.History.{Finding, Certificate, History, fresh}
 use Rattle.model.specs.View.{view_effect}
@@ -24,13 +24,14 @@ use Rattle.model.specs.Commit.{commit_effect}
 use Rattle.model.specs.Terms.{changes, recorded, terms_effect}
 use Rattle.model.specs.Election.{election_effect}
 use Rattle.model.specs.Check.{check_effect}
+use Rattle.model.specs.LeaderLog.{leader_effect}
 use Rattle.model.specs.Answer.{is_accepted, refusal, effect, answer_unless, answer_read, answer, after}
 use Rattle.model.specs.Ledger.{Ledger, empty}
-use Rattle.model.specs.Run.{history_from, history_of, told, Event, event_unless, event_read, events_from}
+use Rattle.model.specs.Run.{history_from, history_of, told, Event, event_unless, event_read, events_from, gathered}
 use Rattle.model.specs.Lists.{finding_list}
 use Rattle.model.specs.TermOrder.{CommitTerms, terms_in, all_terms_in, accepted_terms, GreatestOrZero, SmallestOrZero, NewAmong, Gives, GivenAmong, TermsBy, TermsGiven, TermsInAnyOrder, IsTerms, TermsAccepted, SentAreAccepted}
 use Rattle.model.proofs.Tests.{cond_cases, cond_false, and_left, and_right}
-use Rattle.model.proofs.Run.{by_events}
+use Rattle.model.proofs.Run.{by_events, gathered_append, gathered_snoc}
 use Rattle.model.proofs.Last.{accepted_refusal}
 use Rattle.model.proofs.TermPlaces.{changes_yes, changes_no, recorded_length, recorded_at}
 use Rattle.model.specs.Statements.{SameMembers}
@@ -141,39 +142,28 @@ module _ (cs : List CommitTerms) (old new t : ℕ) where
 
 -- ---- after every list
 
-terms_append : (es fs : List Event) → all_terms_in (es ++ fs) ≡ all_terms_in es ++ all_terms_in fs
-unfolding all_terms_in
-terms_append [] fs = refl
-terms_append (e ∷ es) fs =
-    ap (λ (l : List CommitTerms). terms_in e.event ++ l) (terms_append es fs)
-    ∙ sym (append_assoc (terms_in e.event) (all_terms_in es) (all_terms_in fs))
-
-terms_snoc : (es : List Event) (e : Event) → all_terms_in (es ++ (e ∷ [])) ≡ all_terms_in es ++ terms_in e.event
-unfolding all_terms_in
-terms_snoc es e =
-    terms_append es (e ∷ []) ∙ ap (λ (l : List CommitTerms). all_terms_in es ++ l) (append-nil (terms_in e.event))
-
 -- a kind 3 record is one more; every other kind leaves the list, and gives nothing
 keep_kind : (h : History) (cs : List CommitTerms) (r : Record) → TermsBy cs h.terms
     → TermsBy (cs ++ terms_in r) (effect h r).terms
-unfolding view_effect commit_effect terms_effect election_effect check_effect
+unfolding view_effect commit_effect terms_effect election_effect check_effect leader_effect
 keep_kind h cs (view n xs) b = subst (λ (l : List CommitTerms). TermsBy l h.terms) (sym (append-nil cs)) b
 keep_kind h cs (commit n i) b = subst (λ (l : List CommitTerms). TermsBy l h.terms) (sym (append-nil cs)) b
 keep_kind h cs (terms old new t) b = terms_kept cs old new t h.terms b
 keep_kind h cs (election l t p n) b = subst (λ (l : List CommitTerms). TermsBy l h.terms) (sym (append-nil cs)) b
 keep_kind h cs check b = subst (λ (l : List CommitTerms). TermsBy l h.terms) (sym (append-nil cs)) b
 keep_kind h cs (rows rs) b = subst (λ (l : List CommitTerms). TermsBy l h.terms) (sym (append-nil cs)) b
+keep_kind h cs (leader n t) b = subst (λ (l : List CommitTerms). TermsBy l h.terms) (sym (append-nil cs)) b
 
 pub terms_given : TermsGiven
 terms_given =
     by_events (λ h g es. TermsBy (all_terms_in es) h.terms)
-    (unfold all_terms_in in
+    (unfold gathered in
     record {
       length_is = inr (refl, λ m n. Memᴰ.not-nil n.1);
       place_is = λ i. inr (refl, λ m n. Memᴰ.not-nil n.1);
     })
     (λ h g es r _ b.
-    subst (λ (cs : List CommitTerms). TermsBy cs (effect h r).terms) (sym (terms_snoc es _))
+    subst (λ (cs : List CommitTerms). TermsBy cs (effect h r).terms) (sym (gathered_snoc (λ e. terms_in e.event) es _))
     (keep_kind h (all_terms_in es) r b))
 
 -- ---- in any order
@@ -204,7 +194,7 @@ Reads s c = read s ≡ readable (terms c.old c.new c.term)
 -- an accepted one was sent
 event_terms : (h : History) (g : Ledger) (c : CommitTerms) (r : Record) (o : Option Refusal)
     → Memᴰ c (all_terms_in (event_unless h g r o)) → r ≡ terms c.old c.new c.term
-unfolding all_terms_in
+unfolding gathered
 event_terms h g c r (some f) m = absurd (Memᴰ.not-nil m)
 event_terms h g c (terms old new t) none m =
     let e = Memᴰ.eq_of_singleton m in ap (λ (d : CommitTerms). terms d.old d.new d.term) (sym e)
@@ -213,22 +203,23 @@ event_terms h g c (commit n i) none m = absurd (Memᴰ.not-nil m)
 event_terms h g c (election l t p n) none m = absurd (Memᴰ.not-nil m)
 event_terms h g c check none m = absurd (Memᴰ.not-nil m)
 event_terms h g c (rows rs) none m = absurd (Memᴰ.not-nil m)
+event_terms h g c (leader n t) none m = absurd (Memᴰ.not-nil m)
 
 read_terms : (h : History) (g : Ledger) (c : CommitTerms) (x : Reading)
     → Memᴰ c (all_terms_in (event_read h g x)) → x ≡ readable (terms c.old c.new c.term)
-unfolding all_terms_in
+unfolding gathered
 read_terms h g c (readable r) m = ap readable (event_terms h g c r (refusal h r) m)
 read_terms h g c (unreadable e) m = absurd (Memᴰ.not-nil m)
 
 sent : (ss : List Bytes) (h : History) (g : Ledger) (c : CommitTerms) → Memᴰ c (all_terms_in (events_from h g ss))
     → (s : Bytes) × Memᴰ s ss × Reads s c
-unfolding events_from all_terms_in
+unfolding events_from gathered
 sent [] h g c m = absurd (Memᴰ.not-nil m)
 sent (s ∷ ss) h g c m =
     ⊎_elim (λ k. (s, Memᴰ.head refl, read_terms h g c (read s) k))
     (λ k. let w = sent ss (after h s) (told h g s) c k in (w.0, Memᴰ.tail w.1, w.2))
     (Memᴰ.append_cases (all_terms_in (event_read h g (read s)))
-    (subst (Memᴰ c) (terms_append (event_read h g (read s)) (events_from (after h s) (told h g s) ss)) m))
+    (subst (Memᴰ c) (gathered_append (λ e. terms_in e.event) (event_read h g (read s)) (events_from (after h s) (told h g s) ss)) m))
 
 -- each of the list is accepted, from a history on
 abbrev AcceptedFrom : History → List Bytes → Type 0
@@ -240,10 +231,10 @@ AcceptedFrom h ss =
 accepted : (ss : List Bytes) (h : History) (g : Ledger) → AcceptedFrom h ss
     → (s : Bytes) (c : CommitTerms) → Memᴰ s ss → Reads s c
     → Memᴰ c (all_terms_in (events_from h g ss))
-unfolding events_from history_from all_terms_in
+unfolding events_from history_from gathered
 accepted [] h g a s c m e = absurd (Memᴰ.not-nil m)
 accepted (x ∷ ss) h g a s c m e =
-    subst (Memᴰ c) (sym (terms_append (event_read h g (read x)) (events_from (after h x) (told h g x) ss)))
+    subst (Memᴰ c) (sym (gathered_append (λ e. terms_in e.event) (event_read h g (read x)) (events_from (after h x) (told h g x) ss)))
     (⊎_elim (λ q. Memᴰ.append_left _ (here (sym (ap read q) ∙ e)))
     (λ k. Memᴰ.append_right (all_terms_in (event_read h g (read x)))
     (accepted ss (after h x) (told h g x) (λ before y later q. a (x ∷ before) y later (ap (λ (l : List Bytes). x ∷ l) q)) s c k e))
@@ -271,6 +262,7 @@ rising (readable (terms old new t)) = leb old new
 rising (readable (election l t p n)) = true
 rising (readable check) = true
 rising (readable (rows rs)) = true
+rising (readable (leader n t)) = true
 rising (unreadable e) = true
 
 unfoldable pub all_rising : List Bytes → Bool

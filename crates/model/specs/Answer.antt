@@ -6,7 +6,7 @@ use Rattle.std.specs.Prelude.{ℕ, Bool, true, false}
 use Rattle.std.proofs.Math.Option.{Option, none, some}
 use Rattle.model.specs.Sizes.{Bytes, prefix_limit}
 use Rattle.model.specs.Refusal.{Refusal}
-use Rattle.model.specs.Record.{Record, view, commit, terms, election, check, rows}
+use Rattle.model.specs.Record.{Record, view, commit, terms, election, check, rows, leader}
 use Rattle.model.specs.Reading.{Reading, readable, unreadable, read}
 use Rattle.model.specs.History.{History}
 use Rattle.model.specs.View.{view_refusal, view_value, view_effect}
@@ -15,6 +15,7 @@ use Rattle.model.specs.Terms.{terms_refusal, terms_effect}
 use Rattle.model.specs.Election.{election_refusal, election_effect}
 use Rattle.model.specs.Check.{check_refusal, check_value, check_effect}
 use Rattle.model.specs.Rows.{verdict}
+use Rattle.model.specs.LeaderLog.{leader_refusal, leader_value, leader_effect}
 
 -- why the history refuses a readable record, if it does
 abbrev pub refusal : History → Record → Option Refusal
@@ -24,6 +25,7 @@ refusal h (terms old new t) = terms_refusal old new
 refusal h (election l t p n) = election_refusal h l n
 refusal h check = check_refusal h
 refusal h (rows rs) = none
+refusal h (leader n t) = leader_refusal h n t
 
 -- the number of prefixes that a view made; "the sum of its flags; the rule for kind 6"
 abbrev pub value : History → Record → ℕ
@@ -33,6 +35,7 @@ value h (terms old new t) = 0
 value h (election l t p n) = 0
 value h check = check_value h
 value h (rows rs) = (verdict rs).rule
+value h (leader n t) = leader_value h n t
 
 -- "node of a failing row or 0"
 abbrev pub failing_node : Record → ℕ
@@ -42,6 +45,7 @@ failing_node (terms old new t) = 0
 failing_node (election l t p n) = 0
 failing_node check = 0
 failing_node (rows rs) = (verdict rs).node
+failing_node (leader n t) = 0
 
 -- the history after an accepted record
 abbrev pub effect : History → Record → History
@@ -51,6 +55,7 @@ effect h (terms old new t) = terms_effect h old new t
 effect h (election l t p n) = election_effect h l t p n
 effect h check = check_effect h
 effect h (rows rs) = h
+effect h (leader n t) = leader_effect h n t
 
 -- accepted with its value and node, or refused
 pub data Answer : Type 0 where
@@ -71,7 +76,7 @@ answer_read h (unreadable e) = refused e
 
 -- the first refusal in document 01's order, or acceptance
 unfoldable pub answer : History → Bytes → Answer
-unfolding read view_refusal commit_refusal election_refusal check_refusal view_value commit_value check_value verdict
+unfolding read view_refusal commit_refusal election_refusal check_refusal leader_refusal view_value commit_value check_value verdict leader_value
 answer h s = answer_read h (read s)
 
 abbrev pub after_unless : History → Record → Option Refusal → History
@@ -84,5 +89,5 @@ after_read h (unreadable e) = h
 
 -- the history after any byte string
 unfoldable pub after : History → Bytes → History
-unfolding read view_refusal commit_refusal election_refusal check_refusal view_effect commit_effect terms_effect election_effect check_effect
+unfolding read view_refusal commit_refusal election_refusal check_refusal leader_refusal view_effect commit_effect terms_effect election_effect check_effect leader_effect
 after h s = after_read h (read s)

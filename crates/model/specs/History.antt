@@ -8,7 +8,7 @@ use Rattle.std.proofs.Math.Option.{Option}
 use Rattle.model.specs.Sizes.{node_count}
 use Rattle.model.specs.Entry.{Prefix, lists, with_all}
 
--- a finding: its name, node, index and term; 3 is LG-03, 4 LG-04, 5 LG-05
+-- a finding: its name, node, index and term; 1 is LG-01, 3 LG-03, 4 LG-04, 5 LG-05
 pub record Finding : Type 0 where
   pub name : ℕ
   pub node : ℕ
@@ -22,6 +22,13 @@ pub record Certificate : Type 0 where
   pub number : ℕ
   pub log : Option Prefix
   pub mark : ℕ
+
+-- the view kept for a leader of a term: its front and its last index, past a gap too
+pub record LeaderLog : Type 0 where
+  pub node : ℕ
+  pub term : ℕ
+  pub front : Prefix
+  pub last : ℕ
 
 pub record History : Type 0 where
   -- the distinct nonempty prefixes of the accepted fronts, in the order first seen
@@ -37,6 +44,8 @@ pub record History : Type 0 where
   pub terms : List ℕ
   -- the certificates by term, then arrival
   pub certificates : List Certificate
+  -- the views kept for leaders of a term, each pair once, in the order first kept
+  pub leader_logs : List LeaderLog
   -- the distinct findings, in the order found
   pub findings : List Finding
 
@@ -51,6 +60,7 @@ fresh =
       owner = 0;
       terms = [];
       certificates = [];
+      leader_logs = [];
       findings = [];
     }
 
@@ -67,6 +77,7 @@ with_prefixes h ps =
       owner = h.owner;
       terms = h.terms;
       certificates = h.certificates;
+      leader_logs = h.leader_logs;
       findings = h.findings;
     }
 
@@ -82,6 +93,7 @@ with_views h fs ls =
       owner = h.owner;
       terms = h.terms;
       certificates = h.certificates;
+      leader_logs = h.leader_logs;
       findings = h.findings;
     }
 
@@ -96,6 +108,7 @@ with_unseen h is =
       owner = h.owner;
       terms = h.terms;
       certificates = h.certificates;
+      leader_logs = h.leader_logs;
       findings = h.findings;
     }
 
@@ -115,6 +128,7 @@ with_committed h p n =
       owner = n;
       terms = h.terms;
       certificates = h.certificates;
+      leader_logs = h.leader_logs;
       findings = h.findings;
     }
 
@@ -129,6 +143,7 @@ with_terms h ts =
       owner = h.owner;
       terms = ts;
       certificates = h.certificates;
+      leader_logs = h.leader_logs;
       findings = h.findings;
     }
 
@@ -143,6 +158,22 @@ with_certificates h cs =
       owner = h.owner;
       terms = h.terms;
       certificates = cs;
+      leader_logs = h.leader_logs;
+      findings = h.findings;
+    }
+
+abbrev pub with_leader_logs : History → List LeaderLog → History
+with_leader_logs h ks =
+    record {
+      prefixes = h.prefixes;
+      fronts = h.fronts;
+      lasts = h.lasts;
+      unseen = h.unseen;
+      committed = h.committed;
+      owner = h.owner;
+      terms = h.terms;
+      certificates = h.certificates;
+      leader_logs = ks;
       findings = h.findings;
     }
 
@@ -157,12 +188,16 @@ with_findings h fs =
       owner = h.owner;
       terms = h.terms;
       certificates = h.certificates;
+      leader_logs = h.leader_logs;
       findings = fs;
     }
 
--- a node's front; a node without a view has the empty one
+-- a node's front, and the last index of its view; a node without a view has the empty one
 abbrev pub front_of : History → ℕ → Prefix
 front_of h n = get_or h.fronts n []
+
+abbrev pub last_of : History → ℕ → ℕ
+last_of h n = get_or h.lasts n 0
 
 -- ---- equality of findings, decided
 

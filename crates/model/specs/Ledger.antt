@@ -6,7 +6,7 @@ use Rattle.std.specs.Prelude.{ℕ, zero, suc, Bool, true, false, cond, not, ◌&
 use Rattle.std.proofs.Math.Option.{Option, none, some}
 use Rattle.model.specs.Sizes.{Bytes, node_count}
 use Rattle.model.specs.Entry.{Prefix, begins}
-use Rattle.model.specs.Record.{Record, view, commit, terms, election, check, rows, front_from, front}
+use Rattle.model.specs.Record.{Record, view, commit, terms, election, check, rows, leader, front_from, front}
 use Rattle.model.specs.Reading.{Reading, readable, unreadable, read}
 use Rattle.model.specs.Leaders.{Leader, ascending}
 
@@ -73,6 +73,7 @@ entered g (election l t p n) =
     }
 entered g check = g
 entered g (rows rs) = g
+entered g (leader n t) = g
 
 abbrev pub entered_read : Ledger → Reading → Ledger
 entered_read g (readable r) = entered g r

@@ -10,6 +10,7 @@ pub mod Terms
 pub mod Election
 pub mod Check
 pub mod Rows
+pub mod LeaderLog
 pub mod Answer
 pub mod Leaders
 pub mod Ledger
@@ -17,3 +18,4 @@ pub mod Lists
 pub mod Run
 pub mod Statements
 pub mod TermOrder
+pub mod AppendOnly

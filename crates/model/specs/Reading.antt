@@ -9,7 +9,7 @@
 use Rattle.std.specs.Prelude.{ℕ, zero, suc, ◌+◌, ◌-◌, ◌*◌, ◌/◌, ◌%◌, ◌^◌, Bool, true, false, cond, ◌&&◌, List, [], ◌∷◌, leb, ltb, eqb, length, get_or}
 use Rattle.model.specs.Sizes.{Bytes, index_limit, content_limit}
 use Rattle.model.specs.Refusal.{Refusal, unknownKind, bitsMissing, filling, outOfLimit, notAbove}
-use Rattle.model.specs.Record.{Shown, Configuration, Row, Record, view, commit, terms, election, check, rows}
+use Rattle.model.specs.Record.{Shown, Configuration, Row, Record, view, commit, terms, election, check, rows, leader}
 
 -- ---- bits: "packed most significant bit first"
 
@@ -205,9 +205,17 @@ rows_fields = do
   rs ← many row (λ x. x.node) 0 c
   return (rows rs)
 
+-- 7 leader: node, term
+unfoldable pub leader_fields : Reader Record
+unfolding field
+leader_fields = do
+  n ← node
+  t ← term
+  return (leader n t)
+
 -- the fields of a kind: 1 where the kind is unknown
 unfoldable pub fields_of : ℕ → Reader Record
-unfolding view_fields commit_fields terms_fields election_fields rows_fields
+unfolding view_fields commit_fields terms_fields election_fields rows_fields leader_fields
 fields_of kind =
     cond (eqb kind 1) (view_fields false)
     (cond (eqb kind 2) commit_fields
@@ -215,8 +223,9 @@ fields_of kind =
     (cond (eqb kind 4) election_fields
     (cond (eqb kind 5) (return check)
     (cond (eqb kind 6) rows_fields
+    (cond (eqb kind 7) leader_fields
     (cond (eqb kind 9) (view_fields true)
-    (λ s k. fault unknownKind)))))))
+    (λ s k. fault unknownKind))))))))
 
 -- ---- the whole record
 

@@ -1,4 +1,5 @@
--- Document 01, "Record bits": the kinds of records with their fields, and the front of a view. Kinds 1 and 9 are views (T-09).
+-- Document 01, "Record bits", with T-09 and T-02 of document 02: the kinds of records with their fields, and the front of a view. Kinds 1
+-- and 9 are views.
 -- docs/SCOPE.md, "Records".
 -- Assumes nothing.
 use Rattle.std.specs.Prelude.{ℕ, ◌+◌, Bool, cond, List, [], ◌∷◌, eqb}
@@ -35,6 +36,8 @@ pub data Record : Type 0 where
   check : Record
   -- 6 rows
   rows : List Row → Record
+  -- 7 leader: node, term
+  leader : ℕ → ℕ → Record
 
 -- "the front is the entries 1, 2, .. up to the first gap": here from index n on
 unfoldable pub front_from : ℕ → List Shown → Prefix

@@ -14,6 +14,7 @@ use Rattle.model.specs.View.{view_refusal}
 use Rattle.model.specs.Commit.{commit_refusal}
 use Rattle.model.specs.Election.{election_refusal}
 use Rattle.model.specs.Check.{check_refusal}
+use Rattle.model.specs.LeaderLog.{leader_refusal}
 use Rattle.model.specs.Answer.{Answer, is_accepted, refusal, answer, after}
 use Rattle.model.specs.Ledger.{Ledger, empty, fed}
 
@@ -62,9 +63,14 @@ event_read h g (readable r) = event_unless h g r (refusal h r)
 event_read h g (unreadable e) = []
 
 unfoldable pub events_from : History → Ledger → List Bytes → List Event
-unfolding read view_refusal commit_refusal election_refusal check_refusal told after
+unfolding read view_refusal commit_refusal election_refusal check_refusal leader_refusal told after
 events_from h g [] = []
 events_from h g (s ∷ ss) = event_read h g (read s) ++ events_from (after h s) (told h g s) ss
 
 abbrev pub events_of : List Bytes → List Event
 events_of ss = events_from fresh empty ss
+
+-- what each of the events gives, one after the other
+unfoldable pub gathered : {A : Type 0} → (Event → List A) → List Event → List A
+gathered f [] = []
+gathered f (e ∷ es) = f e ++ gathered f es

@@ -1,6 +1,6 @@
--- Document 01, "Sizes of things".
+-- Document 01, "Sizes of things", and T-02 of document 02.
 -- Node 0 to 63, index, count and length 0 to 256, term 32 bits, content 0 to 32 bytes. A history holds 512 distinct
--- nonempty prefixes, 64 certificates and 128 distinct findings. Here each is a number; the code keeps them apart as units.
+-- nonempty prefixes, 64 certificates, the views kept for 64 leaders of a term and 128 distinct findings. Here each is a number; the code keeps them apart as units.
 -- docs/SCOPE.md, "Sizes".
 -- Assumes nothing.
 use Rattle.std.specs.Prelude.{ℕ, ◌+◌, List}
@@ -34,6 +34,9 @@ prefix_limit = 512
 
 abbrev pub certificate_limit : ℕ
 certificate_limit = 64
+
+abbrev pub leader_log_limit : ℕ
+leader_log_limit = 64
 
 abbrev pub finding_limit : ℕ
 finding_limit = 128

@@ -8,19 +8,20 @@ use Rattle.std.proofs.Math.Option.{some}
 use mathlib.Core.Logic.{◌⊎◌}
 use mathlib.Core.List.{Memᴰ}
 use Rattle.model.specs.Entry.{Prefix, last_term}
-use Rattle.model.specs.Refusal.{Refusal, prefixesFull, findingsFull}
-use Rattle.model.specs.Record.{Shown, Record, view, commit, terms, election, check, rows, front}
+use Rattle.model.specs.Refusal.{Refusal, prefixesFull, findingsFull, leaderLogsFull}
+use Rattle.model.specs.Record.{Shown, Record, view, commit, terms, election, check, rows, leader, front}
 use Rattle.model.specs.Reading.{readable, read}
 use Rattle.model.specs.History.{Finding, History}
 use Rattle.model.specs.View.{prefixes_of, mismatch, mismatches}
 use Rattle.model.specs.Commit.{seen, differences}
 use Rattle.model.specs.Check.{lackings}
+use Rattle.model.specs.LeaderLog.{kept_of, present, rewritings}
 use Rattle.model.specs.Answer.{refused, is_accepted, answer, refusal, value, effect, after}
 use Rattle.model.specs.Leaders.{Leader}
 use Rattle.model.specs.Ledger.{Ledger, ledger_leaders}
 use Rattle.model.specs.Lists.{finding_list, leader_list}
-use Rattle.model.specs.Run.{history_of, ledger_of, Event, events_of}
-use Rattle.model.specs.Sizes.{Bytes, prefix_limit, certificate_limit, finding_limit}
+use Rattle.model.specs.Run.{history_of, ledger_of, Event, events_of, gathered}
+use Rattle.model.specs.Sizes.{Bytes, prefix_limit, certificate_limit, leader_log_limit, finding_limit}
 
 -- ---- refused records (Run)
 
@@ -38,10 +39,10 @@ front_in (terms old new t) = []
 front_in (election l t p n) = []
 front_in check = []
 front_in (rows rs) = []
+front_in (leader n t) = []
 
-unfoldable pub fronts_in : List Event → List Prefix
-fronts_in [] = []
-fronts_in (e ∷ es) = front_in e.event ++ fronts_in es
+abbrev pub fronts_in : List Event → List Prefix
+fronts_in es = gathered (λ e. front_in e.event) es
 
 abbrev pub accepted_fronts : List Bytes → List Prefix
 accepted_fronts ss = fronts_in (events_of ss)
@@ -100,18 +101,24 @@ brought_by h (terms old new t) = []
 brought_by h (election l t p n) = []
 brought_by h check = lackings h.committed h.terms h.certificates
 brought_by h (rows rs) = []
+brought_by h (leader n t) = rewritings (kept_of h.leader_logs n t) (present h n t)
 
--- From fresh, 7 is answered exactly when the distinct findings, with the record's, exceed 128, and 6 is not.
+-- From fresh, 7 is answered exactly when the distinct findings, with the record's, exceed 128, and neither 6 nor 14 is.
 abbrev pub SevenExactly : Type 0
 SevenExactly =
     (ss : List Bytes) (r : Record) (count : ℕ)
     → Counts count (λ f. Memᴰ f (history_of ss).findings ⊎ Memᴰ f (brought_by (history_of ss) r))
-    → (refusal (history_of ss) r ≡ some findingsFull) ↔ ((refusal (history_of ss) r ≡ some prefixesFull → ⊥) × (finding_limit < count))
+    → (refusal (history_of ss) r ≡ some findingsFull)
+    ↔ ((refusal (history_of ss) r ≡ some prefixesFull → ⊥)
+    × (refusal (history_of ss) r ≡ some leaderLogsFull → ⊥)
+    × (finding_limit < count))
 
--- From fresh, there are never more than 512 prefixes, 64 certificates and 128 findings, and no finding is held twice.
+-- From fresh, there are never more than 512 prefixes, 64 certificates, 64 kept views and 128 findings, and no finding is held
+-- twice.
 pub record Bounded (h : History) : Type 0 where
   pub prefixes_fit : length h.prefixes ≤ prefix_limit
   pub certificates_fit : length h.certificates ≤ certificate_limit
+  pub leader_logs_fit : length h.leader_logs ≤ leader_log_limit
   pub findings_fit : length h.findings ≤ finding_limit
   pub findings_once : Distinct h.findings
 
@@ -226,10 +233,10 @@ seen_by g (terms old new t) = []
 seen_by g (election l t p n) = []
 seen_by g check = []
 seen_by g (rows rs) = []
+seen_by g (leader n t) = []
 
-unfoldable pub seen_in : List Event → List Prefix
-seen_in [] = []
-seen_in (e ∷ es) = seen_by e.ledger e.event ++ seen_in es
+abbrev pub seen_in : List Event → List Prefix
+seen_in es = gathered (λ e. seen_by e.ledger e.event) es
 
 abbrev pub committed_seen : List Bytes → List Prefix
 committed_seen ss = seen_in (events_of ss)

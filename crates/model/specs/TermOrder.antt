@@ -2,13 +2,13 @@
 -- accepted kind 3 records as a set, so neither their order nor a repetition matters. The theorems are in proofs/TermOrder.antt.
 -- Checked marks and findings are not included: there is an example beside the theorems in which they differ.
 -- Assumes nothing.
-use Rattle.std.specs.Prelude.{ℕ, suc, ◌<◌, ◌≤◌, ◌≡◌, List, [], ◌∷◌, ◌++◌, length, get_or}
+use Rattle.std.specs.Prelude.{ℕ, suc, ◌<◌, ◌≤◌, ◌≡◌, List, [], ◌∷◌, length, get_or}
 use mathlib.Core.Logic.{◌⊎◌}
 use mathlib.Core.List.{Memᴰ}
 use Rattle.model.specs.Sizes.{Bytes}
-use Rattle.model.specs.Record.{Record, view, commit, terms, election, check, rows}
+use Rattle.model.specs.Record.{Record, view, commit, terms, election, check, rows, leader}
 use Rattle.model.specs.Reading.{readable, read}
-use Rattle.model.specs.Run.{history_of, Event, events_of}
+use Rattle.model.specs.Run.{history_of, Event, events_of, gathered}
 use Rattle.model.specs.Statements.{SameMembers, SameSent, EachAccepted}
 
 -- ---- the accepted kind 3 records
@@ -25,10 +25,10 @@ terms_in (terms old new t) = record { old = old; new = new; term = t } ∷ []
 terms_in (election l t p n) = []
 terms_in check = []
 terms_in (rows rs) = []
+terms_in (leader n t) = []
 
-unfoldable pub all_terms_in : List Event → List CommitTerms
-all_terms_in [] = []
-all_terms_in (e ∷ es) = terms_in e.event ++ all_terms_in es
+abbrev pub all_terms_in : List Event → List CommitTerms
+all_terms_in es = gathered (λ e. terms_in e.event) es
 
 abbrev pub accepted_terms : List Bytes → List CommitTerms
 accepted_terms ss = all_terms_in (events_of ss)
