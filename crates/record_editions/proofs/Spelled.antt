@@ -9,7 +9,7 @@ use lib.Dec.{leb}
 use lib.ListN.{length, take}
 use Rattle.std.specs.Prelude.{Option, Some, None, Result, Ok}
 use Rattle.model.specs.Sizes.{Bytes}
-use Rattle.model.specs.Record.{Record, view, commit, terms, election, check, rows}
+use Rattle.model.specs.Record.{Record, view, commit, terms, election, check, rows, leader}
 use Rattle.model.specs.Reading.{Reading, readable, unreadable, read}
 use Rattle.model.proofs.Tests.{tf}
 use Rattle.record_entries.specs.BitLayout.{is_marked, bits_of, entries_at, first_entry}
@@ -45,6 +45,7 @@ module _ (s : Bytes) where
   own_shown (election l t p n) e = refl
   own_shown check e = refl
   own_shown (rows rs) e = refl
+  own_shown (leader n t) e = refl
 
   -- a record that is no view has one spelling
   one_spelled : (r : Record) (marked other : Bool) → is_view r ≡ false → spell marked r ≡ spell other r
@@ -55,6 +56,7 @@ module _ (s : Bytes) where
   one_spelled (election l t p n) marked other e = refl
   one_spelled check marked other e = refl
   one_spelled (rows rs) marked other e = refl
+  one_spelled (leader n t) marked other e = refl
 
   other_shown : (r : Record) (marked : Bool) → is_view r ≡ false → shows marked r ≡ true
   other_shown (view n es) marked e = absurd (let z : ◌≡◌ {A = ℕ} 0 1 = cc in omega arith)
@@ -63,6 +65,7 @@ module _ (s : Bytes) where
   other_shown (election l t p n) marked e = refl
   other_shown check marked e = refl
   other_shown (rows rs) marked e = refl
+  other_shown (leader n t) marked e = refl
 
   module _ (r : Record) (b : Bytes) (below : AreBytes s) (e : read s ≡ readable r) where
     put_same : (marked : Bool) → shows marked r ≡ true → spell marked r ≡ s → put_edition marked b (read s) ≡ put_record b s
@@ -84,6 +87,7 @@ head_put s b (Head.Terms x) marked below t f = other_put s _ b below t.reading m
 head_put s b (Head.Election x) marked below t f = other_put s _ b below t.reading marked refl
 head_put s b Head.Check marked below t f = other_put s _ b below t.reading marked refl
 head_put s b (Head.Rows c) marked below t f = other_put s _ b below t.reading marked refl
+head_put s b (Head.Leader x) marked below t f = other_put s _ b below t.reading marked refl
 
 -- ---- the laws
 

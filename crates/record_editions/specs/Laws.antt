@@ -2,7 +2,7 @@
 -- Assumes nothing.
 use Rattle.std.specs.Prelude.{ℕ, ◌≤◌, ◌≡◌, Bool, true, false, length, take}
 use Rattle.model.specs.Sizes.{Bytes}
-use Rattle.model.specs.Record.{Record, view, commit, terms, election, check, rows}
+use Rattle.model.specs.Record.{Record, view, commit, terms, election, check, rows, leader}
 use Rattle.model.specs.Reading.{readable, read}
 use Rattle.record_entries.specs.BitLayout.{is_marked}
 use Rattle.record_writing.specs.Format.{view_kind}
@@ -38,6 +38,7 @@ is_view (terms o n t) = false
 is_view (election l t p n) = false
 is_view check = false
 is_view (rows rs) = false
+is_view (leader n t) = false
 
 -- and so is a record that is no view, in either edition
 abbrev pub OthersUnchanged : Type 0

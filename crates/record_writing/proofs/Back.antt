@@ -14,7 +14,7 @@ use lib.Seq.{take-append_seam}
 use Rattle.model.specs.Sizes.{Bytes}
 use Rattle.model.specs.Record.{Record}
 use Rattle.model.specs.Reading.{got, Reading, readable, unreadable, field, field_at, filled, record_fields, read, finish}
-use Rattle.model.specs.Refusal.{Refusal, number, unknownKind, bitsMissing, filling, outOfLimit, notAbove, prefixesFull, findingsFull, old_exceeds_new, lengthExceedsFront, certificatesFull}
+use Rattle.model.specs.Refusal.{Refusal, number, unknownKind, bitsMissing, filling, outOfLimit, notAbove, prefixesFull, findingsFull, old_exceeds_new, lengthExceedsFront, certificatesFull, leaderLogsFull}
 use Rattle.record_bits.proofs.Widths.{field_lt, split}
 use Rattle.record_entries.proofs.Given.{field_is, field_below}
 use Rattle.storage_bytes.specs.Words.{word_bytes, put_bytes}
@@ -247,6 +247,7 @@ number_some findingsFull e = omega (arith, e)
 number_some old_exceeds_new e = omega (arith, e)
 number_some lengthExceedsFront e = omega (arith, e)
 number_some certificatesFull e = omega (arith, e)
+number_some leaderLogsFull e = omega (arith, e)
 
 pub reads_written : ReadsWritten
 unfolding written

@@ -7,7 +7,7 @@ use mathlib.Core.List.{List, [], ◌∷◌}
 use native.Mathlib.Omega.{arith}
 use lib.ListN.{length}
 use Rattle.model.specs.Sizes.{Bytes, index_limit, content_limit}
-use Rattle.model.specs.Record.{Shown, Record, view, commit, terms, election, check, rows}
+use Rattle.model.specs.Record.{Shown, Record, view, commit, terms, election, check, rows, leader}
 use Rattle.model.specs.Reading.{got, Reader, many}
 use Rattle.storage_bytes.specs.Lists.{every}
 use Rattle.storage_bytes.proofs.ListLaws.{both}
@@ -75,6 +75,7 @@ module _ (from to : Bool) where
   other_fits (election l t p n) e = e
   other_fits check e = e
   other_fits (rows rs) e = e
+  other_fits (leader n t) e = e
 
 -- ---- reading them
 
@@ -180,3 +181,4 @@ module _ (p q : Source) (below : (w : ℕ) (s : Bytes) (k v j : ℕ) → p w s k
   read_other (election a b c d) w h t = w.again u i l t
   read_other check w h t = w.again u i l t
   read_other (rows rs) w h t = w.again u i l t
+  read_other (leader n c) w h t = w.again u i l t

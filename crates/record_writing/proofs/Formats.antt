@@ -16,7 +16,7 @@ use Rattle.model.specs.Reading.{got, Reader, return}
 use Rattle.record_entries.specs.BitLayout.{index_of, node_of}
 use Rattle.record_entries.proofs.Given.{fault≢got}
 use Rattle.record_writing.specs.Spans.{Span, span, bit, content_spans, mark_spans, entry_spans, configuration_spans, row_spans, all_spans, spans}
-use Rattle.record_writing.specs.Format.{view_kind, no_key, content_byte, content, limited, yes_no, governed, entry_index, row_node, mark, shown, configuration, row, view_fields, commit_fields, terms_fields, election_fields, rows_fields, fields_of}
+use Rattle.record_writing.specs.Format.{view_kind, no_key, content_byte, content, limited, yes_no, governed, entry_index, row_node, mark, shown, configuration, row, view_fields, commit_fields, terms_fields, election_fields, rows_fields, leader_fields, fields_of}
 use Rattle.record_writing.proofs.Taken.{Source, Same, same_bind, same_return, same_require, same_cond, same_many, same_weaker}
 
 -- one field of w bits
@@ -187,12 +187,19 @@ module _ (p q : Source) (below : (w : ℕ) (s : Bytes) (k v j : ℕ) → p w s k
       ∙ ap (λ (c : ℕ). span 4 6 ∷ span 10 c ∷ all_spans row_spans rs) (sym g.1)
       )))
 
+  same_leader : Same p q (Behind 7) (leader_fields p) (leader_fields q)
+  unfolding leader_fields spans
+  same_leader =
+      same_bind p q (same_field 6) (λ n xs e.
+      same_bind p q (same_field 32) (λ t ys f.
+      same_return p q (λ d. span 4 7 ∷ (e.0 d ++ (f.0 d ++ [])))))
+
   -- of any kind
   pub same_fields : (kind : ℕ) → Same p q (Behind kind) (fields_of p kind) (fields_of q kind)
   unfolding fields_of
   same_fields kind =
       at 1 (same_view false) (at 2 same_commit (at 3 same_terms (at 4 same_election (at 5 same_check (at 6 same_rows
-      (at 9 (same_view true) (λ s k r j e. absurd (fault≢got e))))))))
+      (at 7 same_leader (at 9 (same_view true) (λ s k r j e. absurd (fault≢got e)))))))))
     where
       at : (n : ℕ) {m f g h : Reader Record} → Same p q (Behind n) m f → Same p q (Behind kind) g h
           → Same p q (Behind kind) (cond (eqb kind n) m g) (cond (eqb kind n) f h)

@@ -1,6 +1,6 @@
 -- Fields taken from a list of numbers are the list's numbers, one after the other.
 -- Assumes nothing.
-use Prim.Native.Nat.{ℕ, suc, ◌+◌, ◌^◌, ◌<◌}
+use Prim.Native.Nat.{ℕ, suc, ◌+◌, ◌^◌, ◌<◌, ◌≤◌}
 use mathlib.Core.Path.{◌≡◌, refl, ap, sym, ◌∙◌}
 use mathlib.Core.Bool.{Bool, true, false, cond, ◌&&◌}
 use mathlib.Core.List.{List, [], ◌∷◌, ◌++◌, map}
@@ -12,14 +12,14 @@ use lib.Dec.{leb, ltb}
 use lib.ListN.{length, get_or, drop}
 use lib.Seq.{drop-cons, drop-length}
 use Rattle.model.specs.Refusal.{bitsMissing, outOfLimit}
-use Rattle.model.specs.Record.{Shown, Row, Record, view, commit, terms, election, check, rows}
+use Rattle.model.specs.Record.{Shown, Row, Record, view, commit, terms, election, check, rows, leader}
 use Rattle.model.specs.Reading.{got, fault}
 use Rattle.storage_bytes.specs.Lists.{tabulate, every}
 use Rattle.storage_bytes.proofs.ListLaws.{both, tabulate_shift}
 use Rattle.record_entries.proofs.Given.{fault≢got, got_same}
 use Rattle.record_writing.specs.Spans.{Span, span, bit, value_of, content_spans, entry_spans, row_spans, all_spans, spans}
 use Rattle.record_writing.specs.Puts.{fits, spans_by, contents_by, content_count, entry_by, entries_by, rows_by, kind_by, record_by}
-use Rattle.record_writing.specs.Given.{number}
+use Rattle.record_writing.specs.Given.{last_kind, number}
 use Rattle.record_writing.proofs.Taken.{Takes, takes_both}
 use Rattle.record_writing.proofs.Puts.{fits_is}
 
@@ -154,9 +154,10 @@ module _ (fs : List ℕ) where
       let p = takes_end (row_spans x) k b.place b.before in
       λ i. e i ++ (ap (λ (m : ℕ). rows_by fs m (length xs)) (let q : k + 10 ≡ b.place = omega (arith, p) in q) ∙ rows_back xs b.place j b.after) i
 
-  pub record_back : (r : Record) (j : ℕ) → Takes number fs (spans false r) 0 j → record_by fs ≡ spans false r
+  -- a list of one of the writer's kinds
+  pub record_back : (r : Record) (j : ℕ) → get_or fs 0 0 ≤ last_kind → Takes number fs (spans false r) 0 j → record_by fs ≡ spans false r
   unfolding spans record_by
-  record_back (view n es) j t =
+  record_back (view n es) j h t =
       let heads : List Span = span 4 1 ∷ span 6 n ∷ span 10 (length es) ∷ [] in
       let b = takes_both number fs heads (all_spans (entry_spans false) es) 0 j t in
       let u = t.then in
@@ -169,15 +170,15 @@ module _ (fs : List ℕ) where
       ap (λ (kind : ℕ). kind_by kind fs) n1.value
       ∙ (λ i. takes_spans heads 0 b.place b.before i
       ++ (ap (entries_by fs 3) c ∙ ap (λ (m : ℕ). entries_by fs m (length es)) (let e : 3 ≡ b.place = omega (arith, p) in e) ∙ entries_back es b.place j b.after) i)
-  record_back (commit n i) j t = ap (λ (kind : ℕ). kind_by kind fs) (number_is fs 0 4 2 t.place t.read).value
+  record_back (commit n i) j h t = ap (λ (kind : ℕ). kind_by kind fs) (number_is fs 0 4 2 t.place t.read).value
       ∙ (takes_spans (span 4 2 ∷ span 6 n ∷ span 10 i ∷ []) 0 j t)
-  record_back (terms o n m) j t = ap (λ (kind : ℕ). kind_by kind fs) (number_is fs 0 4 3 t.place t.read).value
+  record_back (terms o n m) j h t = ap (λ (kind : ℕ). kind_by kind fs) (number_is fs 0 4 3 t.place t.read).value
       ∙ (takes_spans (span 4 3 ∷ span 10 o ∷ span 10 n ∷ span 32 m ∷ []) 0 j t)
-  record_back (election l m p n) j t = ap (λ (kind : ℕ). kind_by kind fs) (number_is fs 0 4 4 t.place t.read).value
+  record_back (election l m p n) j h t = ap (λ (kind : ℕ). kind_by kind fs) (number_is fs 0 4 4 t.place t.read).value
       ∙ (takes_spans (span 4 4 ∷ span 6 l ∷ span 32 m ∷ bit p ∷ span 10 n ∷ []) 0 j t)
-  record_back check j t = ap (λ (kind : ℕ). kind_by kind fs) (number_is fs 0 4 5 t.place t.read).value
+  record_back check j h t = ap (λ (kind : ℕ). kind_by kind fs) (number_is fs 0 4 5 t.place t.read).value
       ∙ (takes_spans (span 4 5 ∷ []) 0 j t)
-  record_back (rows rs) j t =
+  record_back (rows rs) j h t =
       let heads : List Span = span 4 6 ∷ span 10 (length rs) ∷ [] in
       let b = takes_both number fs heads (all_spans row_spans rs) 0 j t in
       let u = t.then in
@@ -188,6 +189,7 @@ module _ (fs : List ℕ) where
       ap (λ (kind : ℕ). kind_by kind fs) n1.value
       ∙ (λ i. takes_spans heads 0 b.place b.before i
       ++ (ap (rows_by fs 2) c ∙ ap (λ (m : ℕ). rows_by fs m (length rs)) (let e : 2 ≡ b.place = omega (arith, p) in e) ∙ rows_back rs b.place j b.after) i)
+  record_back (leader n m) j h t = absurd (omega (arith, h, (number_is fs 0 4 7 t.place t.read).value))
 
   pub takes_fit : (xs : List Span) (k j : ℕ) → every narrow xs ≡ true → Takes number fs xs k j → every fits xs ≡ true
   unfolding every
@@ -237,3 +239,4 @@ narrow_spans marked (terms o n t) = refl
 narrow_spans marked (election l t p n) = refl
 narrow_spans marked check = refl
 narrow_spans marked (rows rs) = narrow_all row_spans (λ x. refl) rs
+narrow_spans marked (leader n t) = refl

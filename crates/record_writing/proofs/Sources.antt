@@ -84,7 +84,7 @@ bits_view marked s k =
     (many_same (format.shown field marked) (reading.shown marked) index_of s (bits_shown marked s) 0 c b)))
 
 bits_fields : (kind : ℕ) (s : Bytes) (k : ℕ) → format.fields_of field kind s k ≡ reading.fields_of kind s k
-unfolding format.fields_of reading.fields_of format.commit_fields reading.commit_fields format.terms_fields reading.terms_fields format.election_fields reading.election_fields format.rows_fields reading.rows_fields format.limited reading.limited format.row reading.row format.configuration reading.configuration format.yes_no reading.yes_no format.governed reading.governed format.row_node reading.row_node
+unfolding format.fields_of reading.fields_of format.commit_fields reading.commit_fields format.terms_fields reading.terms_fields format.election_fields reading.election_fields format.rows_fields reading.rows_fields format.leader_fields reading.leader_fields format.limited reading.limited format.row reading.row format.configuration reading.configuration format.yes_no reading.yes_no format.governed reading.governed format.row_node reading.row_node
 bits_fields kind s k = λ d. kinds kind (λ s k. bits_view false s k d) (λ s k. bits_view true s k d) s k
   where
     -- of two editions of a view
@@ -96,8 +96,9 @@ bits_fields kind s k = λ d. kinds kind (λ s k. bits_view false s k d) (λ s k.
         (cond (eqb kind 4) reading.election_fields
         (cond (eqb kind 5) (return check)
         (cond (eqb kind 6) reading.rows_fields
+        (cond (eqb kind 7) reading.leader_fields
         (cond (eqb kind 9) marked
-        (λ s k. fault unknownKind)))))))
+        (λ s k. fault unknownKind))))))))
 
 -- ---- each source's own fields
 
@@ -179,6 +180,7 @@ kind_plain kind h = ne_eqb kind 9 (λ e. omega (arith, h, e))
 
 -- what a list of numbers that is a record has
 pub record Listing (fs : List ℕ) (r : Record) : Type 0 where
+  pub small : get_or fs 0 0 ≤ last_kind
   pub took : Takes number fs (spans false r) 0 (length fs)
   pub again : (u : Bytes) (l : ℕ) → Takes field u (spans false r) 0 l → reading.record_fields u 0 ≡ got r l
 
@@ -191,6 +193,7 @@ given_is fs r e =
     let n = number_is fs 0 4 w.kind w.place w.first in
     let m = kind_plain w.kind (omega (arith, small, n.value)) in
     record {
+      small = small;
       took = subst (λ (b : Bool). Takes number fs (spans b r) 0 (length fs)) m w.took;
       again = λ u l x. sym (record_same u 0) ∙ w.again u 0 l (subst (λ (b : Bool). Takes field u (spans b r) 0 l) (sym m) x);
     }

@@ -203,8 +203,9 @@ pub record Known (fs : List ℕ) (r : Record) : Type 0 where
 
 pub known : (fs : List ℕ) (r : Record) → given fs ≡ readable r → Known fs r
 known fs r e =
-    let t = (given_is fs r e).took in
-    let b = record_back fs r (length fs) t in
+    let g = given_is fs r e in
+    let t = g.took in
+    let b = record_back fs r (length fs) g.small t in
     let l : length (spans false r) ≡ length fs = omega (arith, takes_end fs (spans false r) 0 (length fs) t) in
     record {
       by = b;

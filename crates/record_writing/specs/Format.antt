@@ -1,10 +1,11 @@
--- The fields of each kind in their order, each with all its faults, whatever the fields are read from: `field w` reads one of
--- w bits. The model's reading is these over the bits of a record (proofs/Sources.antt), and the writer's over a list of numbers.
+-- The fields of each kind that the writer knows, 1 to 6, in their order, each with all its faults, whatever the fields are read from:
+-- `field w` reads one of w bits. The model's reading of these kinds is these over the bits of a record (proofs/Sources.antt), and the
+-- writer's over a list of numbers.
 -- Assumes nothing.
 use Rattle.std.specs.Prelude.{ℕ, ◌-◌, ◌^◌, Bool, true, false, cond, List, leb, ltb, eqb}
 use Rattle.model.specs.Sizes.{index_limit, content_limit}
 use Rattle.model.specs.Refusal.{unknownKind, outOfLimit, notAbove}
-use Rattle.model.specs.Record.{Shown, Configuration, Row, Record, view, commit, terms, election, check, rows}
+use Rattle.model.specs.Record.{Shown, Configuration, Row, Record, view, commit, terms, election, check, rows, leader}
 use Rattle.model.specs.Reading.{Reader, fault, ◌>>=◌, return, require, many}
 use Rattle.record_entries.specs.BitLayout.{index_of, node_of}
 
@@ -145,9 +146,15 @@ module _ (field : ℕ → Reader ℕ) where
     rs ← many row node_of 0 c
     return (rows rs)
 
+  unfoldable pub leader_fields : Reader Record
+  leader_fields = do
+    n ← node
+    t ← term
+    return (leader n t)
+
   -- the fields of a kind: 1 where the kind is unknown
   unfoldable pub fields_of : ℕ → Reader Record
-  unfolding view_fields commit_fields terms_fields election_fields rows_fields
+  unfolding view_fields commit_fields terms_fields election_fields rows_fields leader_fields
   fields_of kind =
       cond (eqb kind (view_kind false)) (view_fields false)
       (cond (eqb kind 2) commit_fields
@@ -155,5 +162,6 @@ module _ (field : ℕ → Reader ℕ) where
       (cond (eqb kind 4) election_fields
       (cond (eqb kind 5) (return check)
       (cond (eqb kind 6) rows_fields
+      (cond (eqb kind 7) leader_fields
       (cond (eqb kind (view_kind true)) (view_fields true)
-      (λ s k. fault unknownKind)))))))
+      (λ s k. fault unknownKind))))))))

@@ -3,7 +3,7 @@
 -- Assumes nothing.
 use Rattle.std.specs.Prelude.{ℕ, ◌+◌, ◌-◌, ◌*◌, ◌/◌, ◌^◌, Bool, true, false, cond, not, ◌&&◌, ◌||◌, List, [], ◌∷◌, ◌++◌, map, length}
 use Rattle.model.specs.Sizes.{Bytes}
-use Rattle.model.specs.Record.{Shown, Configuration, Row, Record, view, commit, terms, election, check, rows}
+use Rattle.model.specs.Record.{Shown, Configuration, Row, Record, view, commit, terms, election, check, rows, leader}
 use Rattle.storage_bytes.specs.Words.{word_bytes}
 use Rattle.record_writing.specs.Format.{view_kind}
 
@@ -60,6 +60,7 @@ spans marked (terms o n t) = span 4 3 ∷ span 10 o ∷ span 10 n ∷ span 32 t 
 spans marked (election l t p n) = span 4 4 ∷ span 6 l ∷ span 32 t ∷ bit p ∷ span 10 n ∷ []
 spans marked check = span 4 5 ∷ []
 spans marked (rows rs) = span 4 6 ∷ span 10 (length rs) ∷ all_spans row_spans rs
+spans marked (leader n t) = span 4 7 ∷ span 6 n ∷ span 32 t ∷ []
 
 -- the writer's numbers: it writes a view without marks
 abbrev pub fields : Record → List ℕ
@@ -110,3 +111,4 @@ shows marked (terms o n t) = true
 shows marked (election l t p n) = true
 shows marked check = true
 shows marked (rows rs) = true
+shows marked (leader n t) = true
