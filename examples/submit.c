@@ -2,7 +2,7 @@
 #include "gamiwhoru.h"
 #include <stdio.h>
 
-static uint8_t history[24649]; /* as many bytes as gamiwhoru_length() says */
+static uint8_t history[25226]; /* as many bytes as gamiwhoru_length() says */
 
 static int submit(const uint64_t *fields, size_t count)
 {

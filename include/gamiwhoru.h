@@ -20,7 +20,7 @@ extern "C" {
 
 /* What a record is answered: document 01's numbers. */
 struct gamiwhoru_reply {
-    uint8_t refusal; /* 1 to 10 or 12, or 0 where the record is accepted */
+    uint8_t refusal; /* 1 to 10, 12 or 14, or 0 where the record is accepted */
     size_t value;    /* how many prefixes a view made, the sum of the flags, or the rule that fails; 0 where it is refused */
     uint8_t node;    /* the node of a failing row, or 0 */
 };
@@ -40,9 +40,9 @@ enum {
 
 struct gamiwhoru_finding_reply {
     uint8_t state;
-    size_t name; /* 3, 4 or 5 for LG-03, LG-04, LG-05 */
+    size_t name; /* 1, 3, 4 or 5 for LG-01, LG-03, LG-04, LG-05 */
     uint8_t node;
-    size_t index;
+    size_t index; /* 0 for LG-01 */
     uint32_t term; /* 0 for LG-04, as it is noted */
 };
 

@@ -45,7 +45,7 @@ SIZE(committed_reply, 24);
 _Static_assert(GAMIWHORU_HERE == 0 && GAMIWHORU_NO_MORE == 1 && GAMIWHORU_BROKEN == 12, "a state has another number");
 
 /* The bytes of a history (docs/LAYOUT.md), and some behind them that are no part of it. */
-enum { HISTORY = 24649, BEHIND = 16 };
+enum { HISTORY = 25226, BEHIND = 16 };
 static uint8_t history[HISTORY + BEHIND];
 
 static unsigned compared, differ;
@@ -137,6 +137,16 @@ static void election(const char *call, uint32_t leader, uint32_t term, uint32_t 
     put(&r, 1, present);
     put(&r, 10, length);
     submit(call, &r, refusal, 0, 0);
+}
+
+/* A leader's log, of kind 7. */
+static void kept(const char *call, uint32_t node, uint32_t term, size_t value)
+{
+    struct record r = {{0}, 0};
+    put(&r, 4, 7);
+    put(&r, 6, node);
+    put(&r, 32, term);
+    submit(call, &r, 0, value, 0);
 }
 
 static void check(const char *call, size_t value)
@@ -276,14 +286,14 @@ static void converter(void)
     static const uint8_t marked[] = {0x90, 0x40, 0x10, 0x04, 0, 0, 0, 0x04, 0x23, 0x93, 0x4b, 0x1b, 0x28};
     static const uint8_t configuration[] = {0x90, 0x40, 0x10, 0x04, 0, 0, 0, 0x06, 0x23, 0x93, 0x4b, 0x1b, 0x28};
     static const uint8_t commit[] = {0x20, 0x40, 0x10};
-    static const uint8_t unknown_kind[] = {0x70, 0};
+    static const uint8_t unknown_kind[] = {0xf0, 0};
     convert("convert a view to 9", 9, plain, 13, 64, 0, marked, 13);
     convert("convert it back", 1, marked, 13, 14, 0, plain, 13);
     convert("convert a view of the edition", 1, plain, 13, 15, 0, plain, 13);
     convert("convert a view with marks to 9", 9, configuration, 13, 16, 0, configuration, 13);
     convert("convert a commit", 9, commit, 3, 4, 0, commit, 3);
     convert("convert to edition 8", 8, unknown_kind, 2, 5, 4, NULL, 0);
-    convert("convert kind 7", 9, unknown_kind, 2, 5, 1, NULL, 0);
+    convert("convert kind 15", 9, unknown_kind, 2, 5, 1, NULL, 0);
     convert("convert a view that ends", 9, plain, 12, 64, 2, NULL, 0);
     convert("convert a configuration entry to 1", 1, configuration, 13, 12, 16, NULL, 0);
     convert("convert into a byte too few", 9, plain, 13, 12, 13, NULL, 0);
@@ -327,11 +337,14 @@ static void fresh(void)
 }
 
 /* Node 12 has another entry 255, and so another prefix at 255 and 256: LG-03 at both, and LG-04 at 256. Nodes 19 and 20 show no view.
+ * Leader 12 shows entry 255 as the others have it in the end, and so rewrites its log: LG-01.
  * Index 255 and 256 have no commit term. Both elections are without a log, and lack the last index of a lower commit term, 254. */
 static void records(void)
 {
     view("view of 7", 7, 0, 256);
+    kept("log of leader 12, who has no view", 12, 4000000005, 0);
     view("view of 12", 12, 255, 2);
+    kept("log of leader 12, grown", 12, 4000000005, 8);
     commit("commit of 7", 7, 256, 0);
     commit("commit of 12", 12, 256, 0);
     view("view of 13", 13, 0, 0);
@@ -345,17 +358,20 @@ static void records(void)
     election("election of 34, who has no view", 34, 4000000003, 1, 2, 9);
     check("check", 4);
     rows("rows");
+    view("view of 12, rewritten", 12, 0, 0);
+    kept("log of leader 12, rewritten", 12, 4000000005, 0);
 }
 
 /* The lists in their order, the element asked for and its neighbours. */
 static void lists(void)
 {
-    finding("finding 0", HISTORY, 0, HERE(finding_reply, .name = 3, .node = 12, .index = 255, .term = 65791));
-    finding("finding 1", HISTORY, 1, HERE(finding_reply, .name = 3, .node = 12, .index = 256, .term = 65792));
-    finding("finding 2", HISTORY, 2, HERE(finding_reply, .name = 4, .node = 12, .index = 256, .term = 0));
-    finding("finding 3", HISTORY, 3, HERE(finding_reply, .name = 5, .node = 32, .index = 254, .term = 4000000002));
-    finding("finding 4", HISTORY, 4, HERE(finding_reply, .name = 5, .node = 33, .index = 254, .term = 4000000001));
-    finding("finding 5", HISTORY, 5, NOTHING(finding_reply, 1));
+    finding("finding 0", HISTORY, 0, HERE(finding_reply, .name = 1, .node = 12, .index = 0, .term = 4000000005));
+    finding("finding 1", HISTORY, 1, HERE(finding_reply, .name = 3, .node = 12, .index = 255, .term = 65791));
+    finding("finding 2", HISTORY, 2, HERE(finding_reply, .name = 3, .node = 12, .index = 256, .term = 65792));
+    finding("finding 3", HISTORY, 3, HERE(finding_reply, .name = 4, .node = 12, .index = 256, .term = 0));
+    finding("finding 4", HISTORY, 4, HERE(finding_reply, .name = 5, .node = 32, .index = 254, .term = 4000000002));
+    finding("finding 5", HISTORY, 5, HERE(finding_reply, .name = 5, .node = 33, .index = 254, .term = 4000000001));
+    finding("finding 6", HISTORY, 6, NOTHING(finding_reply, 1));
     leader("leader 0", HISTORY, 0, HERE(leader_reply, .term = 4000000001, .leader = 33));
     leader("leader 1", HISTORY, 1, HERE(leader_reply, .term = 4000000002, .leader = 32));
     leader("leader 2", HISTORY, 2, NOTHING(leader_reply, 1));

@@ -9,7 +9,7 @@
 #include <ucontext.h>
 
 enum { STACK = 65536, SAID = 4096, FILLED = 0xa5, LONGEST_LIST = 256 };
-static uint8_t history[24649], record[65535], converted[65535], stack[STACK];
+static uint8_t history[25226], record[65535], converted[65535], stack[STACK];
 static size_t length, n, most;
 static const uint64_t fields[] = {1, 63, 2, 1, 4294967295, 3, 1, 2, 3, 2, 4294967295, 1, 255};
 static ucontext_t outside, inside;

@@ -2,7 +2,7 @@
 -- Assumes nothing.
 use Rattle.std.specs.Prelude.{ℕ, Option, None, Result, Ok, Err}
 use Rattle.std.specs.Option.{unwrap_or}
-use Rattle.model.specs.Refusal.{number, prefixesFull, findingsFull, old_exceeds_new, lengthExceedsFront, certificatesFull}
+use Rattle.model.specs.Refusal.{number, prefixesFull, findingsFull, old_exceeds_new, lengthExceedsFront, certificatesFull, leaderLogsFull}
 use Rattle.model.specs.Answer as model
 use Rattle.std.proofs.Math.Option as option
 use Rattle.record_bits.specs.Answers.{refusal_of}
@@ -33,6 +33,7 @@ modelled (Err Refusal.OldExceedsNew) = option.some (model.refused old_exceeds_ne
 modelled (Err Refusal.LengthExceedsFront) = option.some (model.refused lengthExceedsFront)
 modelled (Err Refusal.CertificatesFull) = option.some (model.refused certificatesFull)
 modelled (Err Refusal.StorageBroken) = option.none
+modelled (Err Refusal.LeaderLogsFull) = option.some (model.refused leaderLogsFull)
 
 -- the number of a refusal
 abbrev pub number_of : Refusal → ℕ
@@ -43,6 +44,7 @@ number_of Refusal.OldExceedsNew = number old_exceeds_new
 number_of Refusal.LengthExceedsFront = number lengthExceedsFront
 number_of Refusal.CertificatesFull = number certificatesFull
 number_of Refusal.StorageBroken = 12
+number_of Refusal.LeaderLogsFull = number leaderLogsFull
 
 abbrev pub reply_of : Result Accepted Refusal → Reply
 reply_of (Ok a) = record { refusal = 0; value = a.value; node = node_number a.node }

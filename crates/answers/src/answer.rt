@@ -39,6 +39,8 @@ pub enum Refusal {
     CertificatesFull,
     // 12
     StorageBroken,
+    // 14
+    LeaderLogsFull,
 }
 
 impl From<Fault> for Refusal {
@@ -62,6 +64,7 @@ impl From<Refusal> for u8 {
             Refusal::LengthExceedsFront => 9,
             Refusal::CertificatesFull => 10,
             Refusal::StorageBroken => 12,
+            Refusal::LeaderLogsFull => 14,
         }
     }
 }

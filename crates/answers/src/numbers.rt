@@ -8,7 +8,7 @@ use units::NodeId;
 #[repr(C)]
 #[derive(Clone, Copy)]
 pub struct Reply {
-    // 1 to 10 or 12, or 0 where the record is accepted.
+    // 1 to 10, 12 or 14, or 0 where the record is accepted.
     pub refusal: u8,
     // How many prefixes a view made, the sum of the flags, or the rule that fails; 0 where the record is refused.
     pub value: usize,

@@ -1,7 +1,7 @@
 -- What the functions under the benchmark answer of a record.
 -- Assumes nothing.
 use Rattle.std.specs.Prelude.{ℕ, ◌+◌, List, [], ◌∷◌, length}
-use Rattle.model.specs.Record.{Shown, view, commit, terms, election, check, rows}
+use Rattle.model.specs.Record.{Shown, view, commit, terms, election, check, rows, leader}
 use Rattle.model.specs.Reading.{Reading, readable, unreadable}
 
 unfoldable pub sum_of : List ℕ → ℕ
@@ -22,6 +22,7 @@ of_view f (readable (terms o n t)) = 0
 of_view f (readable (election l t p n)) = 0
 of_view f (readable check) = 0
 of_view f (readable (rows rs)) = 0
+of_view f (readable (leader n t)) = 0
 of_view f (unreadable r) = 0
 
 abbrev pub count_of : Reading → ℕ

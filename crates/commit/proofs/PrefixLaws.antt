@@ -17,10 +17,8 @@ use Rattle.storage.specs.Head.{prefixes_held, committed_number, owner_of}
 use Rattle.storage.proofs.RowFacts.{Facts}
 use Rattle.storage.proofs.Meanings.{Represents, prefixes_read, owner_read, last_read, node_written, committed_written, prefixes_stored, committed_stored}
 use Rattle.log_prefix.specs.Prefix.{slice_of}
-use Rattle.log_prefix.specs.Comparison.{same_from}
-use Rattle.log_prefix.proofs.TableLaws.{rows_length, rows_at}
-use Rattle.log_prefix.proofs.Fronts.{Part, slice_is, front_is}
-use Rattle.log_prefix.proofs.ComparisonLaws.{same_prefix}
+use Rattle.log_prefix.proofs.TableLaws.{rows_length}
+use Rattle.log_prefix.proofs.Fronts.{Part, slice_is, stored_same, front_is}
 use Rattle.commit.specs.Committed.{rows_of, node_of, same_slices, agree_in, unseen_set, keep_bytes}
 use Rattle.commit.proofs.CommittedTurns.{none_first}
 use Rattle.storage.proofs.WellFormed.{Formed, formed, formed_rows}
@@ -72,11 +70,6 @@ module _ (h : Bytes) (x : History) (s : Represents h x) where
   empty_is p l e =
       known.distinct p 0 (number p l) (omega arith) (ap (λ (ps : List Prefix). prefix_at ps p) resolves ∙ e)
 
-  same_is : (p q : ℕ) → p ≤ prefixes_held h → q ≤ prefixes_held h → same_from (rows_of h) p p q ≡ same (at p) (at q)
-  same_is p q l m =
-      same_prefix (rows_of h) rows known (rows_at (prefixes_part h) (prefixes_held h)) p q (number p l) (number q m)
-      ∙ ap (λ (ps : List Prefix). same (prefix_at ps p) (prefix_at ps q)) resolves
-
   part_of : (p i : ℕ) → p ≤ prefixes_held h → i ≤ length (at p) → Part h x (slice_of (rows_of h) p i) (at p) i
   part_of p i l r = ⊎_elim (λ b. absurd (let z = b.1 in omega arith)) (λ b. b) (slice_is h x s p i l)
 
@@ -90,7 +83,7 @@ module _ (h : Bytes) (x : History) (s : Represents h x) where
         let a = part_of c i lc rc in
         let b = part_of p i lp rp in
         (λ j. same_slices (rows_of h) (a.told j) (b.told j))
-        ∙ same_is a.part b.part a.within b.within
+        ∙ stored_same h x s a.part b.part a.within b.within
         ∙ (λ j. same (a.first j) (b.first j))
 
     pub agree_beyond : (i : ℕ) → length (at c) < i → agree_in h c p i ≡ false

@@ -92,7 +92,7 @@ module _ (h : Bytes) (x : History) (s : Represents h x) where
   pub mark_written : (k m : ℕ) → k < certificates_held h → m ≤ index_limit
       → Represents (mark_set h k m) (with_certificates x (set x.certificates k (with_mark (certificate_in x.prefixes (certificate_of h k)) m)))
   mark_written k m l f =
-      let lim = within _ _ _ _ (kept h x s).limits in
+      let lim = within _ _ _ _ _ (kept h x s).limits in
       let n = length (tables_of h).rows in
       let cs = (tables_of h).certificates in
       let c = marked_row (certificate_of h k) m in

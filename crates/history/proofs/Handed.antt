@@ -37,6 +37,7 @@ reply_modelled (Err Refusal.OldExceedsNew) = refl
 reply_modelled (Err Refusal.LengthExceedsFront) = refl
 reply_modelled (Err Refusal.CertificatesFull) = refl
 reply_modelled (Err Refusal.StorageBroken) = refl
+reply_modelled (Err Refusal.LeaderLogsFull) = refl
 
 pub reply_alike : (a : Result Accepted Refusal) (b : model.Answer) → modelled a ≡ some b → reply_of a ≡ model_reply b
 reply_alike a b e = reply_modelled a ∙ ap reply_for e

@@ -103,7 +103,7 @@ pub fn gamiwhoru_convert(edition: u8, s: &[u8], buffer: &mut [u8]) -> WriteReply
 #[derive(Clone, Copy)]
 pub struct FindingReply {
     pub state: u8,
-    // 3, 4 or 5.
+    // 1, 3, 4 or 5.
     pub name: usize,
     pub node: u8,
     pub index: usize,

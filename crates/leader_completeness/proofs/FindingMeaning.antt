@@ -14,7 +14,7 @@ use Rattle.model.proofs.Tests.{cond_cases}
 use Rattle.storage.specs.Tables.{CertificateRow}
 use Rattle.storage.specs.Writes.{FindingFits}
 use Rattle.storage.specs.Head.{prefixes_held}
-use Rattle.storage.proofs.DecodeLaws.{CertificateNamed, FindingNamed}
+use Rattle.storage.proofs.DecodeLaws.{CertificateNamed, FindingNamed, name_small}
 use Rattle.storage.proofs.Meanings.{Represents}
 use Rattle.leader_completeness.specs.Relevance.{relevant_in}
 use Rattle.leader_completeness.specs.Judgement.{lacks_through, lacking_of, lacking_at, lacking_in, lackings_in}
@@ -28,13 +28,13 @@ Fitting g = FindingNamed g × (g.term < term_end)
 
 pub fitting : (g : Finding) → Fitting g → FindingFits g
 fitting g f =
-    let a = f.0.high in
+    let a = name_small g.name f.0.name in
     let b = f.0.node in
     let c = f.0.index in
     record { name = omega arith; node = omega arith; index = omega arith; term = f.1 }
 
 one_fits : (n : ℕ) (c : CertificateRow) (i : ℕ) → CertificateNamed n c → i ≤ index_limit → Fitting (lacking_of c i)
-one_fits n c i s l = (record { low = omega arith; high = omega arith; node = s.leader; index = l }, omega (arith, s.term))
+one_fits n c i s l = (record { name = refl; node = s.leader; index = l }, omega (arith, s.term))
 
 module _ (h : Bytes) (x : History) (s : Represents h x) where
   pub lacking_fits : (c : CertificateRow) → CertificateNamed (prefixes_held h) c → (g : Finding) → Memᴰ g (lacking_in h c) → Fitting g

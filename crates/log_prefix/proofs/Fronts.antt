@@ -1,11 +1,11 @@
 -- What a cut of a stored prefix, and of a node's front, means where bytes stand for a history.
 -- Assumes nothing.
 use Prim.Native.Nat.{ℕ, ◌≤◌, ◌<◌}
-use mathlib.Core.Path.{◌≡◌, sym, subst}
+use mathlib.Core.Path.{◌≡◌, sym, ◌∙◌, ap, subst}
 use mathlib.Core.Logic.{◌⊎◌, inl, inr, ⊎_elim}
 use mathlib.Core.List.{List}
 use lib.ListN.{length, take}
-use Rattle.model.specs.Entry.{Prefix}
+use Rattle.model.specs.Entry.{Prefix, same}
 use Rattle.model.specs.History.{History, front_of}
 use Rattle.model.specs.Sizes.{Bytes, node_count}
 use Rattle.storage.specs.Tables.{prefix_row, rows_of_prefixes, prefixes_part}
@@ -14,6 +14,8 @@ use Rattle.storage.specs.Head.{prefixes_held}
 use Rattle.storage.proofs.WellFormed.{formed, formed_rows}
 use Rattle.storage.proofs.Meanings.{Represents, front_read, prefixes_stored}
 use Rattle.log_prefix.specs.Prefix.{witness, slice_of, front_in, front_through}
+use Rattle.log_prefix.specs.Comparison.{same_from}
+use Rattle.log_prefix.proofs.ComparisonLaws.{same_prefix}
 use Rattle.log_prefix.proofs.SliceLaws.{slice_cases}
 use Rattle.log_prefix.proofs.TableLaws.{rows_length, rows_at}
 use Rattle.std.specs.Prelude.{Option, Some, None}
@@ -50,6 +52,15 @@ module _ (h : Bytes) (x : History) where
         }))
         (slice_cases (prefix_row (prefixes_part h)) (rows_of_prefixes (prefixes_part h) (prefixes_held h)) (formed_rows h (formed h s.right))
         (rows_at (prefixes_part h) (prefixes_held h)) p i (subst (λ (m : ℕ). p ≤ m) (sym count) l))
+
+    -- two stored prefixes compared
+    pub stored_same : (p q : ℕ) → p ≤ prefixes_held h → q ≤ prefixes_held h
+        → same_from (prefix_row (prefixes_part h)) p p q ≡ same (prefix_at x.prefixes p) (prefix_at x.prefixes q)
+    stored_same p q l m =
+        let count = rows_length (prefixes_part h) (prefixes_held h) in
+        same_prefix (prefix_row (prefixes_part h)) (rows_of_prefixes (prefixes_part h) (prefixes_held h)) (formed_rows h (formed h s.right))
+        (rows_at (prefixes_part h) (prefixes_held h)) p q (subst (λ (k : ℕ). p ≤ k) (sym count) l) (subst (λ (k : ℕ). q ≤ k) (sym count) m)
+        ∙ ap (λ (ps : List Prefix). same (prefix_at ps p) (prefix_at ps q)) (prefixes_stored h x s)
 
     module _ (n : ℕ) (here : n < node_count) where
       -- a node's front

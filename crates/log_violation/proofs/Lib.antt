@@ -1,2 +1,3 @@
 pub mod ViolationLaws
 pub mod Kept
+pub mod Single

@@ -28,7 +28,7 @@ use Rattle.record_entries.proofs.Walks.{walk_entered}
 use Rattle.storage_bytes.specs.Lists.{every}
 use Rattle.storage.specs.Tables.{PrefixRow, NodeRow, prefix_row, prefixes_part, row_of_node, nodes_part, finding_row, finding_rows, findings_part, tables_in, tables_of}
 use Rattle.storage.specs.Decode.{prefix_at}
-use Rattle.storage.specs.Rules.{node_right, finding_right}
+use Rattle.storage.specs.Rules.{node_right, is_name, finding_right}
 use Rattle.storage.specs.Head.{prefixes_held, findings_held}
 use Rattle.storage_bytes.proofs.ListLaws.{tabulate_length, tabulate_at, every_at}
 use Rattle.storage.proofs.DecodeLaws.{NodeNamed, node_named, FindingNamed}
@@ -229,8 +229,7 @@ module _ (limit : ℕ) (h : Bytes) (x : History) (s : ViewBits) (m node : ℕ) (
         named f b =
             let n = noted_in_lem f b in
             record {
-              low = (let a = n.name in omega arith);
-              high = (let a = n.name in omega arith);
+              name = ap is_name n.name;
               node = (let a = n.is_node in omega arith);
               index = n.index;
             }

@@ -9,8 +9,8 @@ use lib.Dec.{eqb, leb, ltb}
 use lib.ListN.{length}
 use Rattle.model.specs.Sizes.{Bytes, index_limit}
 use Rattle.model.specs.Refusal.{Refusal, bitsMissing, filling, outOfLimit, notAbove}
-use Rattle.model.specs.Record.{Shown, Row, Record, view, commit, terms, election, check, rows}
-use Rattle.model.specs.Reading.{Reading, readable, unreadable, Part, got, fault, Reader, onward, field_at, bytes_at, field, limited, yes_no, content, governed, entry_index, row_node, many, mark, shown, configuration, row, view_fields, commit_fields, terms_fields, election_fields, rows_fields, fields_of, filled, finish, record_fields, read}
+use Rattle.model.specs.Record.{Shown, Row, Record, view, commit, terms, election, check, rows, leader}
+use Rattle.model.specs.Reading.{Reading, readable, unreadable, Part, got, fault, Reader, onward, field_at, bytes_at, field, limited, yes_no, content, governed, entry_index, row_node, many, mark, shown, configuration, row, view_fields, commit_fields, terms_fields, election_fields, rows_fields, fields_of, filled, finish, record_fields, read, leader_fields}
 use Rattle.record_bits.specs.Answers.{refusal_of}
 use Rattle.record_reading.specs.Heads.{fault_of, reading_of, head_of, Told}
 use Rattle.record_reading.proofs.Readable.{view_read, rows_read, told, election_read}
@@ -154,6 +154,12 @@ module _ (s : Bytes) where
       onward_plain s (limited 10 index_limit s k) _ (limited_plain 10 index_limit k) (λ c k₁.
       onward_plain s (many row _ 0 c s k₁) _ (many_plain row _ row_plain c 0 k₁) (λ rs k₂. got_plain _ _))
 
+  leader_plain : (k : ℕ) → Plain (leader_fields s k)
+  unfolding leader_fields
+  leader_plain k =
+      onward_plain s (field 6 s k) _ (field_plain 6 k) (λ n k₁.
+      onward_plain s (field 32 s k₁) _ (field_plain 32 k₁) (λ t k₂. got_plain _ _))
+
   pick_plain : (b : Bool) (f g : Reader Record) (k : ℕ) → Plain (f s k) → Plain (g s k) → Plain (cond b f g s k)
   pick_plain true f g k e d = e
   pick_plain false f g k e d = d
@@ -167,7 +173,8 @@ module _ (s : Bytes) where
       (pick_plain (eqb kind 4) _ _ k (election_plain k)
       (pick_plain (eqb kind 5) _ _ k (got_plain check k)
       (pick_plain (eqb kind 6) _ _ k (rows_plain k)
-      (pick_plain (eqb kind 9) _ _ k (view_plain true k) (fault_plain Record _ refl)))))))
+      (pick_plain (eqb kind 7) _ _ k (leader_plain k)
+      (pick_plain (eqb kind 9) _ _ k (view_plain true k) (fault_plain Record _ refl))))))))
 
   -- ---- the whole record
 
@@ -193,6 +200,7 @@ module _ (s : Bytes) where
   back (readable (election l t p n)) e = kept_length l t p n (election_read s l t p n e) (then_some p n) refl
   back (readable check) e = refl
   back (readable (rows rs)) e = ap (λ (l : List Row). readable (rows l)) (rows_read s rs e).values
+  back (readable (leader n t)) e = refl
   back (unreadable r) e = ap unreadable (sym (finish_plain (record_fields s 0) r record_plain e))
 
   pub told_always : Told s (head_of (read s))

@@ -48,6 +48,7 @@ head_back s (Ok (Head.Terms x)) = refl
 head_back s (Ok (Head.Election x)) = ap (λ (n : Option ℕ). Ok (Head.Election (record { leader = x.leader; term = x.term; length = n }))) (option_back x.length)
 head_back s (Ok Head.Check) = refl
 head_back s (Ok (Head.Rows c)) = ap (λ (c : ℕ). Ok (Head.Rows c)) (sym (items_length row_at after_row s first_row c))
+head_back s (Ok (Head.Leader x)) = refl
 head_back s (Err f) = ap (λ (f : Fault). Err f) (fault_back f)
 
 -- what a reader took at bit j of b, said of bit k of s

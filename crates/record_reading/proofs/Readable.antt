@@ -13,8 +13,8 @@ use borrow.Author.Tests.{eqb-true}
 use lib.Dec.{eqb}
 use lib.ListN.{length}
 use Rattle.model.specs.Refusal.{filling}
-use Rattle.model.specs.Record.{Shown, Row, Record, view, commit, terms, election, check, rows}
-use Rattle.model.specs.Reading.{field_at, readable, unreadable, Part, got, fault, Reader, field, limited, governed, yes_no, many, shown, row, view_fields, commit_fields, terms_fields, election_fields, rows_fields, fields_of, filled, finish, record_fields, read}
+use Rattle.model.specs.Record.{Shown, Row, Record, view, commit, terms, election, check, rows, leader}
+use Rattle.model.specs.Reading.{field_at, readable, unreadable, Part, got, fault, Reader, field, limited, governed, yes_no, many, shown, row, view_fields, commit_fields, terms_fields, election_fields, rows_fields, leader_fields, fields_of, filled, finish, record_fields, read}
 use Rattle.model.specs.Sizes.{Bytes, index_limit}
 use Rattle.units.specs.declared.NodeId.{NodeId}
 use Rattle.record_reading.specs.declared.head.Head.{Head}
@@ -39,6 +39,7 @@ kind_of kind (terms o n t) = 3
 kind_of kind (election l t p n) = 4
 kind_of kind check = 5
 kind_of kind (rows rs) = 6
+kind_of kind (leader n t) = 7
 
 -- ---- each kind's fields give a record of that kind
 
@@ -90,6 +91,13 @@ module _ (s : Bytes) (k : ℕ) {r : Record} {j : ℕ} (kind : ℕ) where
       let g₂ = went s (many row node_of 0 g₁.value s g₁.place) _ g₁.rest in
       ap (kind_of kind) (got_same g₂.rest).0
 
+  leader_kind : leader_fields s k ≡ got r j → kind_of kind r ≡ 7
+  unfolding leader_fields
+  leader_kind e =
+      let g₁ = went s (field 6 s k) _ e in
+      let g₂ = went s (field 32 s g₁.place) _ g₁.rest in
+      ap (kind_of kind) (got_same g₂.rest).0
+
   -- a kind that is i, or else one of the others
   pick : (i : ℕ) (f g : Reader Record) → cond (eqb kind i) f g s k ≡ got r j
       → ((kind ≡ i) × (f s k ≡ got r j)) ⊎ (g s k ≡ got r j)
@@ -109,8 +117,9 @@ module _ (s : Bytes) (k : ℕ) {r : Record} {j : ℕ} (kind : ℕ) where
       ⊎_elim (λ p. p.0 ∙ sym (election_kind p.1)) (λ e₅.
       ⊎_elim (λ p. p.0 ∙ sym (check_kind p.1)) (λ e₆.
       ⊎_elim (λ p. p.0 ∙ sym (rows_kind p.1)) (λ e₇.
-      ⊎_elim (view_of true) (λ e₈. absurd (fault≢got e₈))
-      (pick 9 _ _ e₇)) (pick 6 _ _ e₆)) (pick 5 _ _ e₅)) (pick 4 _ _ e₄)) (pick 3 _ _ e₃)) (pick 2 _ _ e₂)) (pick 1 _ _ e₁)
+      ⊎_elim (λ p. p.0 ∙ sym (leader_kind p.1)) (λ e₈.
+      ⊎_elim (view_of true) (λ e₉. absurd (fault≢got e₉))
+      (pick 9 _ _ e₈)) (pick 7 _ _ e₇)) (pick 6 _ _ e₆)) (pick 5 _ _ e₅)) (pick 4 _ _ e₄)) (pick 3 _ _ e₃)) (pick 2 _ _ e₂)) (pick 1 _ _ e₁)
 
 -- ---- the whole record
 
@@ -228,7 +237,7 @@ election_read s l t p n e =
 -- ---- the limits of each kind's fields, and what `read` tells
 
 limits : (s : Bytes) (r : Result Head Fault) → read s ≡ reading_of s r → Within r
-unfolding fields_of commit_fields terms_fields election_fields
+unfolding fields_of commit_fields terms_fields election_fields leader_fields
 limits s (Ok (Head.View n c)) e =
     let v = view_read s n.0 (entries_at (view_bits s) first_entry c) e in
     (omega (arith, v.node, field_lt s 4 6), omega (arith, v.count, entries_length (view_bits s) first_entry c))
@@ -270,6 +279,15 @@ limits s (Ok (Head.Election x)) e =
     election_same q = (cc, cc, cc)
 limits s (Ok Head.Check) e = tt
 limits s (Ok (Head.Rows c)) e = omega (arith, (rows_read s (rows_at s first_row c) e).count, rows_length s first_row c)
+limits s (Ok (Head.Leader x)) e =
+    let w = whole s (leader x.node.0 x.term.0) e in
+    let g₁ = went s (field 6 s 4) _ w.fields in
+    let g₂ = went s (field 32 s g₁.place) _ g₁.rest in
+    let r = leader_same (got_same g₂.rest).0 in
+    (omega (arith, r.0, field_below s 4 6 g₁.first), omega (arith, r.1, field_below s g₁.place 32 g₂.first))
+  where
+    leader_same : {a b x y : ℕ} → ◌≡◌ {A = Record} (leader a x) (leader b y) → (a ≡ b) × (x ≡ y)
+    leader_same q = (cc, cc)
 limits s (Err f) e = tt
 
 -- an answer that stands for what the model reads

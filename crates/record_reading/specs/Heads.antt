@@ -2,8 +2,8 @@
 -- Assumes nothing.
 use Rattle.std.specs.Prelude.{ℕ, ◌^◌, ◌≤◌, ◌<◌, ◌≡◌, cond, length, is_some, unwrap_or, Result, Ok, Err}
 use Rattle.std.specs.Bool.{then_some}
-use Rattle.model.specs.Refusal.{Refusal, unknownKind, bitsMissing, filling, outOfLimit, notAbove, prefixesFull, findingsFull, old_exceeds_new, lengthExceedsFront, certificatesFull}
-use Rattle.model.specs.Record.{Record, view, commit, terms, election, check, rows}
+use Rattle.model.specs.Refusal.{Refusal, unknownKind, bitsMissing, filling, outOfLimit, notAbove, prefixesFull, findingsFull, old_exceeds_new, lengthExceedsFront, certificatesFull, leaderLogsFull}
+use Rattle.model.specs.Record.{Record, view, commit, terms, election, check, rows, leader}
 use Rattle.model.specs.Reading.{Reader, Reading, readable, unreadable, filled, finish, read}
 use Rattle.model.specs.Sizes.{Bytes, node_count, index_limit}
 use Rattle.record_bits.specs.declared.bits.Fault.{Fault}
@@ -19,6 +19,7 @@ reading_of s (Ok (Head.Terms x)) = readable (terms x.old.0 x.new.0 x.term.0)
 reading_of s (Ok (Head.Election x)) = readable (election x.leader.0 x.term.0 (is_some x.length) (unwrap_or x.length 0))
 reading_of s (Ok Head.Check) = readable check
 reading_of s (Ok (Head.Rows c)) = readable (rows (rows_at s first_row c))
+reading_of s (Ok (Head.Leader x)) = readable (leader x.node.0 x.term.0)
 reading_of s (Err f) = unreadable (refusal_of f)
 
 -- the answer r stands for what the fields of a kind, which follow its 4 bits, say
@@ -41,6 +42,7 @@ fault_of findingsFull = Fault.UnknownKind
 fault_of old_exceeds_new = Fault.UnknownKind
 fault_of lengthExceedsFront = Fault.UnknownKind
 fault_of certificatesFull = Fault.UnknownKind
+fault_of leaderLogsFull = Fault.UnknownKind
 
 -- the answer that the model's reading asks for
 abbrev pub head_of : Reading → Result Head Fault
@@ -50,6 +52,7 @@ head_of (readable (terms o n t)) = Ok (Head.Terms (record { old = record { 0 = o
 head_of (readable (election l t p n)) = Ok (Head.Election (record { leader = record { 0 = l }; term = record { 0 = t }; length = then_some p n }))
 head_of (readable check) = Ok Head.Check
 head_of (readable (rows rs)) = Ok (Head.Rows (length rs))
+head_of (readable (leader n t)) = Ok (Head.Leader (record { node = record { 0 = n }; term = record { 0 = t } }))
 head_of (unreadable r) = Err (fault_of r)
 
 -- the fields of an answer are within document 01's limits
@@ -60,6 +63,7 @@ Within (Ok (Head.Terms x)) = (x.old.0 ≤ index_limit) × (x.new.0 ≤ index_lim
 Within (Ok (Head.Election x)) = (x.leader.0 < node_count) × (x.term.0 < 2 ^ 32) × (unwrap_or x.length 0 ≤ index_limit)
 Within (Ok Head.Check) = Unit {0}
 Within (Ok (Head.Rows c)) = c ≤ index_limit
+Within (Ok (Head.Leader x)) = (x.node.0 < node_count) × (x.term.0 < 2 ^ 32)
 Within (Err f) = Unit {0}
 
 -- what `read` promises of its answer r to any bytes: it is the model's, it stands for just what the model reads, and its

@@ -30,6 +30,13 @@ pub struct Election {
     pub length: Option<usize>,
 }
 
+// A leader of a term: its log is held against the one kept for both.
+#[derive(Clone, Copy)]
+pub struct Leader {
+    pub node: NodeId,
+    pub term: Term,
+}
+
 // What a record says. A view's entries and the rows are walked where they are wanted (`record_entries`).
 #[derive(Clone, Copy)]
 pub enum Head {
@@ -43,6 +50,7 @@ pub enum Head {
     Check,
     // How many rows.
     Rows { count: usize },
+    Leader(Leader),
 }
 
 // The head, where the fields that end before bit `at` fill the record.
@@ -122,6 +130,17 @@ fn read_rows(s: &[u8]) -> Result<Head, Fault>
     finish(s, end, Head::Rows { count })
 }
 
+// 7 leader: node, term.
+#[tactic(auto, unfolding(model::specs::Reading::leader_fields))]
+fn read_leader(s: &[u8]) -> Result<Head, Fault>
+    ensures { Reads reading.leader_fields s.now result }
+{
+    let mut fields = RecordReader::new(s, KIND);
+    let node = fields.take_node()?;
+    let term = fields.take_term()?;
+    finish(s, fields.next, Head::Leader(Leader { node, term }))
+}
+
 // Any bytes: every record starts with a kind of 4 bits. A kind is a number here, and where its line is printed.
 #[tactic(auto, using(crate::proofs::Readable::told, crate::proofs::Heads::finish_head), unfolding(model::specs::Reading::read, model::specs::Reading::record_fields, model::specs::Reading::fields_of))]
 pub fn read(s: &[u8]) -> Result<Head, Fault>
@@ -134,6 +153,7 @@ pub fn read(s: &[u8]) -> Result<Head, Fault>
         4 => read_election(s),
         5 => finish(s, KIND, Head::Check),
         6 => read_rows(s),
+        7 => read_leader(s),
         _ => Err(Fault::UnknownKind),
     }
 }

@@ -63,6 +63,7 @@ empty_tables =
       terms = [];
       certificates = [];
       findings = [];
+      leader_logs = [];
     }
 
 pub fresh_tables : tables_of fresh_history ≡ empty_tables

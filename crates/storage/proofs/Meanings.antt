@@ -5,31 +5,31 @@ use Prim.Native.Nat.{ℕ, ◌+◌, ◌-◌, ◌*◌, ◌≤◌, ◌<◌}
 use native.Mathlib.Nat.{zero-add}
 use native.Mathlib.Omega.{arith}
 use mathlib.Core.Path.{◌≡◌, refl, ap, sym, ◌∙◌, subst}
-use mathlib.Core.Bool.{true}
+use mathlib.Core.Bool.{true, false}
 use mathlib.Core.List.{List, [], ◌∷◌, ◌++◌, map, Memᴰ}
 use lib.ListN.{length, get_or, set, take, drop, replicate, length-set, length-append, length-replicate, length-map, take-append-drop, get_or-map}
 use Rattle.model.specs.Entry.{Prefix, is_in, with, with_all}
-use Rattle.model.specs.History.{fresh, Certificate, Finding, History, same_finding, noted, with_node, with_committed, with_terms, with_certificates, with_findings, with_prefixes}
-use Rattle.model.specs.Sizes.{Bytes, last_node, node_count, index_limit, prefix_limit, certificate_limit, finding_limit, term_end}
+use Rattle.model.specs.History.{fresh, Certificate, Finding, LeaderLog, History, same_finding, noted, with_node, with_committed, with_terms, with_certificates, with_findings, with_leader_logs, with_prefixes}
+use Rattle.model.specs.Sizes.{Bytes, last_node, node_count, index_limit, prefix_limit, certificate_limit, finding_limit, leader_log_limit, term_end}
 use Rattle.model.proofs.Tests.{cond_cases}
 use Rattle.storage_bytes.specs.Lists.{every}
 use Rattle.storage_bytes.specs.Words.{word_bytes, put_bytes}
-use Rattle.storage_bytes.specs.Layout.{nodes_start, terms_start, certificates_start, findings_start, findings_length, prefixes_start, history_length, node_width, term_width, prefix_width, committed_field, findings_field, prefixes_field, terms_field, certificates_field, owner_field}
-use Rattle.storage.specs.Tables.{NodeRow, CertificateRow, Tables, row_of_node, term_row, finding_row, rows_of_prefixes, term_rows, rows_of_certificates, finding_rows, head_part, nodes_part, terms_part, certificates_part, findings_part, prefixes_part, tables_in, tables_of, with_prefix_row, with_node_row, with_committed_number, with_term_rows, with_certificate_rows, with_finding_rows}
-use Rattle.storage.specs.Decode.{prefix_at, extended, resolve, front_in, certificate_in, history_in, decode}
-use Rattle.storage.specs.Rules.{certificate_right, finding_right, numbered, prefix_right, well_formed}
+use Rattle.storage_bytes.specs.Layout.{nodes_start, terms_start, certificates_start, findings_start, findings_length, prefixes_start, leader_logs_start, history_length, node_width, term_width, prefix_width, leader_log_width, committed_field, findings_field, prefixes_field, terms_field, certificates_field, owner_field, leader_logs_field}
+use Rattle.storage.specs.Tables.{NodeRow, CertificateRow, LeaderLogRow, Tables, row_of_node, term_row, finding_row, rows_of_prefixes, term_rows, rows_of_certificates, finding_rows, leader_log_rows, head_part, nodes_part, terms_part, certificates_part, findings_part, prefixes_part, leader_logs_part, tables_in, tables_of, with_prefix_row, with_node_row, with_committed_number, with_term_rows, with_certificate_rows, with_finding_rows, with_leader_log_rows}
+use Rattle.storage.specs.Decode.{prefix_at, extended, resolve, front_in, certificate_in, leader_log_in, history_in, decode}
+use Rattle.storage.specs.Rules.{certificate_right, finding_right, leader_log_right, numbered, has_pair, prefix_right, well_formed}
 use Rattle.storage.specs.Values.{number_index, committed_end}
-use Rattle.storage.specs.Writes.{node_bytes, prefix_bytes, prefix_of, CertificateFits, PrefixFits, prefix_appended, terms_lengthened, committed_set, certificate_inserted, certificate_added}
-use Rattle.storage_bytes.proofs.ListLaws.{tabulate_length, tabulate_at, every_insert, map_insert, every_snoc}
+use Rattle.storage.specs.Writes.{node_bytes, prefix_bytes, leader_log_bytes, prefix_of, CertificateFits, PrefixFits, LeaderLogFits, prefix_appended, terms_lengthened, committed_set, certificate_inserted, certificate_added, leader_log_appended}
+use Rattle.storage_bytes.proofs.ListLaws.{tabulate_length, tabulate_at, every_set, every_insert, map_set, map_insert, every_snoc}
 use Rattle.storage_bytes.proofs.WordLaws.{put_length}
-use Rattle.storage.proofs.RowFacts.{resolve_count}
-use Rattle.storage.proofs.RuleLaws.{within, pass}
-use Rattle.storage.proofs.TableLaws.{findings_written_lem, set_node, set_term, prefix_appended_lem, terms_lengthened_lem, committed_set_lem, certificate_added_lem}
+use Rattle.storage.proofs.RowFacts.{resolve_count, map_snoc}
+use Rattle.storage.proofs.RuleLaws.{within, pass, SamePair, kept_once_set, kept_once_snoc}
+use Rattle.storage.proofs.TableLaws.{findings_written_lem, set_node, set_term, prefix_appended_lem, terms_lengthened_lem, committed_set_lem, certificate_added_lem, set_leader_log, leader_log_appended_lem}
 use Rattle.storage.specs.Fresh.{zeros, fresh_history}
-use Rattle.storage.specs.Head.{prefixes_held, terms_held, committed_number, certificates_held, findings_held, owner_of, put_head_field}
+use Rattle.storage.specs.Head.{prefixes_held, terms_held, committed_number, certificates_held, findings_held, owner_of, leader_logs_held, put_head_field}
 use Rattle.storage.proofs.FreshLaws.{fresh_well_formed, fresh_decodes}
-use Rattle.storage.proofs.WellFormed.{rows_are, terms_are, certificates_are, findings_are, rows_count, terms_count, certificates_count, findings_count, node_row, formed, formed_rows, rows_index}
-use Rattle.storage.proofs.DecodeLaws.{Kept, well_formed_parts, well_formed_of, NodeNamed, CertificateNamed, certificate_test, kept_node, kept_committed, kept_terms, kept_certificates, kept_findings, kept_row, decode_is, history_node, history_row, FindingNamed, finding_test}
+use Rattle.storage.proofs.WellFormed.{rows_are, terms_are, certificates_are, findings_are, leader_logs_are, rows_count, terms_count, certificates_count, findings_count, leader_logs_count, node_row, formed, formed_rows, rows_index}
+use Rattle.storage.proofs.DecodeLaws.{Kept, well_formed_parts, well_formed_of, NodeNamed, CertificateNamed, certificate_test, kept_node, kept_committed, kept_terms, kept_certificates, kept_findings, kept_leader_logs, kept_row, decode_is, history_node, history_row, FindingNamed, finding_test, LeaderLogNamed, leader_log_test}
 use Rattle.storage.proofs.HeadLaws.{head_read, head_kept}
 
 -- well-formed bytes that stand for a history
@@ -64,6 +64,10 @@ module _ (h : Bytes) where
   pub findings_read : length (decode h).findings ≡ findings_held h
   unfolding decode tables_in
   findings_read = findings_count h
+
+  pub leader_logs_read : length (decode h).leader_logs ≡ leader_logs_held h
+  unfolding decode tables_in
+  leader_logs_read = length-map (tables_of h).leader_logs _ ∙ leader_logs_count h
 
   -- the committed prefix and its owner
   pub committed_read : (decode h).committed ≡ prefix_at (decode h).prefixes (committed_number h)
@@ -100,6 +104,20 @@ module _ (h : Bytes) where
   term_read k d l =
       tabulate_at (term_row (terms_part h)) 0 (terms_held (head_part h)) k d (omega (arith, head_read h terms_field))
       ∙ ap (term_row (terms_part h)) (zero-add k)
+
+-- ---- leaders' logs of a pair
+
+-- the log is the one of leader n in term t
+abbrev pub IsPair : ℕ → ℕ → LeaderLog → Type 0
+IsPair n t l = (n ≡ l.node) × (t ≡ l.term)
+
+-- a row that stands for it is of that pair
+same_pair : (ps : List Prefix) (ks : List LeaderLog) (ls : List LeaderLogRow) (k : ℕ) (l z : LeaderLogRow) → map (leader_log_in ps) ls ≡ ks
+    → IsPair l.node l.term (get_or ks k (leader_log_in ps z)) → SamePair l (get_or ls k z)
+same_pair ps ks ls k l z e p =
+    let q : get_or (map (leader_log_in ps) ls) k (leader_log_in ps z) ≡ leader_log_in ps (get_or ls k z) = get_or-map (leader_log_in ps) ls k z in
+    let r = sym (ap (λ (js : List LeaderLog). get_or js k (leader_log_in ps z)) e) ∙ q in
+    (p.0 ∙ ap (λ (y : LeaderLog). y.node) r, p.1 ∙ ap (λ (y : LeaderLog). y.term) r)
 
 -- ---- noted findings keep the rules
 
@@ -151,6 +169,13 @@ module _ (h : Bytes) (x : History) (s : Represents h x) where
   pub findings_stored : finding_rows (findings_part h) (findings_held h) ≡ x.findings
   findings_stored = sym (findings_are h) ∙ ap (λ (y : History). y.findings) is
 
+  pub leader_logs_is : map (leader_log_in x.prefixes) (tables_of h).leader_logs ≡ x.leader_logs
+  leader_logs_is =
+      ap (λ (ps : List Prefix). map (leader_log_in ps) (tables_of h).leader_logs) (sym prefixes_is) ∙ ap (λ (y : History). y.leader_logs) is
+
+  pub leader_logs_stored : map (leader_log_in x.prefixes) (leader_log_rows (leader_logs_part h) (leader_logs_held h)) ≡ x.leader_logs
+  leader_logs_stored = ap (map (leader_log_in x.prefixes)) (sym (leader_logs_are h)) ∙ leader_logs_is
+
   -- a number's index is the length of its prefix
   pub number_length : (p : ℕ) → p ≤ prefixes_held h → number_index (prefixes_part h) p ≡ length (prefix_at x.prefixes p)
   number_length p l =
@@ -172,7 +197,7 @@ module _ (h : Bytes) (x : History) (s : Represents h x) where
   pub node_written : (k : ℕ) (n : NodeRow) → k < node_count → NodeNamed (prefixes_held h) n
       → Represents (put_bytes h (nodes_start + k * node_width) (node_bytes n)) (with_node x k (prefix_at x.prefixes n.front) n.last n.unseen)
   node_written k n l f =
-      let c = within _ _ _ _ kept.limits in
+      let c = within _ _ _ _ _ kept.limits in
       let r = rows_count h in
       let g : NodeNamed (length (tables_of h).rows) n = record { front = omega (arith, f.front); last = f.last; unseen = f.unseen } in
       represents (put_bytes h (nodes_start + k * node_width) (node_bytes n)) (with_node_row (tables_of h) k n) _
@@ -186,7 +211,7 @@ module _ (h : Bytes) (x : History) (s : Represents h x) where
       → Represents (committed_set h p o) (with_committed x (prefix_at x.prefixes p) o)
   unfolding committed_set
   committed_written p o a b =
-      let c = within _ _ _ _ kept.limits in
+      let c = within _ _ _ _ _ kept.limits in
       let r = rows_count h in
       represents (committed_set h p o) (with_committed_number (tables_of h) p o) _
       (head_kept owner_field (put_head_field committed_field h p) o ∙ head_kept committed_field h p ∙ long)
@@ -213,7 +238,7 @@ module _ (h : Bytes) (x : History) (s : Represents h x) where
   pub term_written : (k v : ℕ) → k < index_limit → v < term_end
       → Represents (put_bytes h (terms_start + k * term_width) (word_bytes term_width v)) (with_terms x (set x.terms k v))
   term_written k v l f =
-      let c = within _ _ _ _ kept.limits in
+      let c = within _ _ _ _ _ kept.limits in
       represents (put_bytes h (terms_start + k * term_width) (word_bytes term_width v)) (with_term_rows (tables_of h) (set (tables_of h).terms k v)) _
       (put_length h (terms_start + k * term_width) (word_bytes term_width v) ∙ long)
       (set_term h long k v l f)
@@ -277,6 +302,56 @@ module _ (h : Bytes) (x : History) (s : Represents h x) where
       (findings_written_lem h long fs m lf (omega arith))
       (kept_findings (tables_of h) kept (finding_rows fs m) (omega (arith, tabulate_length (finding_row fs) 0 m)) e)
       (ap (λ (y : History). with_findings y (finding_rows fs m)) is)
+
+  leader_logs_change : (ls : List LeaderLogRow) → history_in (with_leader_log_rows (tables_of h) ls) ≡ with_leader_logs x (map (leader_log_in x.prefixes) ls)
+  leader_logs_change ls = ap (λ (y : History). with_leader_logs y (map (leader_log_in y.prefixes) ls)) is
+
+  -- how many prefixes and leaders' logs there are, of the history as of its tables
+  prefixes_length : length x.prefixes ≡ length (tables_of h).rows
+  prefixes_length = ap length (sym prefixes_is) ∙ resolve_count (tables_of h).rows
+
+  leader_logs_length : length x.leader_logs ≡ length (tables_of h).leader_logs
+  leader_logs_length = ap length (sym leader_logs_is) ∙ length-map (tables_of h).leader_logs (leader_log_in x.prefixes)
+
+  log_named : (l : LeaderLogRow) → LeaderLogNamed (length x.prefixes) l → LeaderLogNamed (length (tables_of h).rows) l
+  log_named l f = record { node = f.node; front = omega (arith, f.front, prefixes_length); last = f.last }
+
+  -- a leader's log set where one of its pair was
+  pub leader_log_written : (k : ℕ) (l z : LeaderLogRow) → k < length x.leader_logs → LeaderLogFits l → LeaderLogNamed (length x.prefixes) l
+      → IsPair l.node l.term (get_or x.leader_logs k (leader_log_in x.prefixes z))
+      → Represents (put_bytes h (leader_logs_start + k * leader_log_width) (leader_log_bytes l)) (with_leader_logs x (set x.leader_logs k (leader_log_in x.prefixes l)))
+  leader_log_written k l z b f g p =
+      let ls = (tables_of h).leader_logs in
+      let c = within _ _ _ _ _ kept.limits in
+      let n = length (tables_of h).rows in
+      represents (put_bytes h (leader_logs_start + k * leader_log_width) (leader_log_bytes l)) (with_leader_log_rows (tables_of h) (set ls k l)) _
+      (put_length h (leader_logs_start + k * leader_log_width) (leader_log_bytes l) ∙ long)
+      (set_leader_log h long k l (omega (arith, c.leader_logs, leader_logs_length)) f)
+      (kept_leader_logs (tables_of h) kept (set ls k l) (omega (arith, length-set ls k l, c.leader_logs))
+      (every_set (leader_log_right n) ls k l (leader_log_test n l (log_named l g)) kept.leader_logs)
+      (kept_once_set ls k l z (same_pair x.prefixes x.leader_logs ls k l z leader_logs_is p) ∙ kept.once))
+      (leader_logs_change (set ls k l)
+      ∙ ap (with_leader_logs x) (map_set (leader_log_in x.prefixes) ls k l ∙ ap (λ (ks : List LeaderLog). set ks k (leader_log_in x.prefixes l)) leader_logs_is))
+
+  -- one more leader's log, of a pair that is not kept yet
+  pub leader_log_added : (l : LeaderLogRow) → leader_logs_held h < leader_log_limit → LeaderLogFits l → LeaderLogNamed (length x.prefixes) l
+      → has_pair l.node l.term (tables_of h).leader_logs ≡ false
+      → Represents (leader_log_appended h l) (with_leader_logs x (x.leader_logs ++ (leader_log_in x.prefixes l ∷ [])))
+  unfolding leader_log_appended
+  leader_log_added l b f g p =
+      let ls = (tables_of h).leader_logs in
+      let n = length (tables_of h).rows in
+      let m = leader_logs_held h in
+      let more : length (ls ++ (l ∷ [])) ≡ length ls + 1 = length-append ls (l ∷ []) in
+      represents (leader_log_appended h l) (with_leader_log_rows (tables_of h) (ls ++ (l ∷ []))) _
+      (head_kept leader_logs_field (put_bytes h (leader_logs_start + m * leader_log_width) (leader_log_bytes l)) (m + 1) ∙ put_length h (leader_logs_start + m * leader_log_width) (leader_log_bytes l) ∙ long)
+      (leader_log_appended_lem h long l b f)
+      (kept_leader_logs (tables_of h) kept (ls ++ (l ∷ [])) (omega (arith, leader_logs_count h))
+      (every_snoc (leader_log_right n) ls l ∙ pass _ kept.leader_logs ∙ leader_log_test n l (log_named l g))
+      (kept_once_snoc ls l p kept.once))
+      (leader_logs_change (ls ++ (l ∷ []))
+      ∙ ap (with_leader_logs x)
+      (map_snoc (leader_log_in x.prefixes) ls l ∙ ap (λ (ks : List LeaderLog). ks ++ (leader_log_in x.prefixes l ∷ [])) leader_logs_is))
 
 -- the fresh history
 pub fresh_represented : Represents fresh_history fresh

@@ -34,7 +34,7 @@ module _ {A : Type 0} (d : A) (xs : List A) (x : A) where
   pub number_new : (p : ℕ) → p ≡ length xs + 1 → get_or (d ∷ (xs ++ (x ∷ []))) p d ≡ x
   number_new p e = get_or_at (d ∷ xs) x [] d p (omega arith)
 
-map_snoc : {A B : Type 0} (f : A → B) (xs : List A) (x : A) → map f (xs ++ (x ∷ [])) ≡ map f xs ++ (f x ∷ [])
+pub map_snoc : {A B : Type 0} (f : A → B) (xs : List A) (x : A) → map f (xs ++ (x ∷ [])) ≡ map f xs ++ (f x ∷ [])
 map_snoc f [] x = refl
 map_snoc f (y ∷ ys) x = ap (λ (l : List _). f y ∷ l) (map_snoc f ys x)
 

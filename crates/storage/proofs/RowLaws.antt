@@ -14,9 +14,9 @@ use Rattle.model.specs.History.{Finding}
 use Rattle.model.specs.Sizes.{Bytes, content_limit, certificate_limit, term_end}
 use Rattle.storage_bytes.specs.Lists.{tabulate}
 use Rattle.storage_bytes.specs.Words.{word_at, word_bytes, bytes_at, put_bytes}
-use Rattle.storage_bytes.specs.Layout.{certificates_length, node_width, term_width, certificate_width, finding_width, prefix_width, number_width, index_width, byte_width, node_last, node_unseen, certificate_log, certificate_mark, certificate_leader, certificate_number, certificate_present, finding_node, finding_index, finding_term, prefix_index, prefix_term, prefix_mark, prefix_size, prefix_content}
-use Rattle.storage.specs.Tables.{NodeRow, CertificateRow, row_of_node, term_row, certificate_row, rows_of_certificates, finding_row, prefix_row, content_size}
-use Rattle.storage.specs.Writes.{certificate_inserted, node_bytes, certificate_bytes, finding_bytes, prefix_bytes, prefix_of, NodeFits, CertificateFits, FindingFits, PrefixFits}
+use Rattle.storage_bytes.specs.Layout.{certificates_length, node_width, term_width, certificate_width, finding_width, prefix_width, number_width, index_width, byte_width, node_last, node_unseen, certificate_log, certificate_mark, certificate_leader, certificate_number, certificate_present, finding_node, finding_index, finding_term, prefix_index, prefix_term, prefix_mark, prefix_size, prefix_content, leader_log_term, leader_log_front, leader_log_last, leader_log_width}
+use Rattle.storage.specs.Tables.{NodeRow, CertificateRow, row_of_node, term_row, certificate_row, rows_of_certificates, finding_row, prefix_row, content_size, LeaderLogRow, leader_log_row}
+use Rattle.storage.specs.Writes.{certificate_inserted, node_bytes, certificate_bytes, finding_bytes, prefix_bytes, prefix_of, NodeFits, CertificateFits, FindingFits, PrefixFits, leader_log_bytes, LeaderLogFits}
 use Rattle.storage_bytes.proofs.ListLaws.{tabulate_insert, tabulate_same, tabulate_snoc, tabulate_set, tabulate_length, tabulate_at}
 use Rattle.storage_bytes.proofs.WordLaws.{word_shift, put_in, put_length, Agree, word_agree, bytes_agree, word_put, bytes_put, bytes_shift, put_before, put_after, word_bytes_length, word_back, word_first}
 
@@ -101,6 +101,16 @@ finding_own t u k g =
       term = in_row t u finding_width k finding_term term_width (omega arith) g i;
     }
 
+pub leader_log_own : (t u : Bytes) (k : ℕ) → Agree t u (k * leader_log_width) (k * leader_log_width + leader_log_width) → leader_log_row t k ≡ leader_log_row u k
+leader_log_own t u k g =
+    λ i.
+    record {
+      node = row_first t u leader_log_width k byte_width (omega arith) g i;
+      term = in_row t u leader_log_width k leader_log_term term_width (omega arith) g i;
+      front = in_row t u leader_log_width k leader_log_front number_width (omega arith) g i;
+      last = in_row t u leader_log_width k leader_log_last index_width (omega arith) g i;
+    }
+
 pub prefix_own : (t u : Bytes) (k : ℕ) → Agree t u (k * prefix_width) (k * prefix_width + prefix_width) → prefix_row t k ≡ prefix_row u k
 prefix_own t u k g =
     let size : word_at t (k * prefix_width + prefix_size) byte_width ≡ word_at u (k * prefix_width + prefix_size) byte_width
@@ -182,6 +192,24 @@ finding_back r k x f h =
       node = (word_put r o vs finding_node byte_width h (omega arith) ∙ word_back byte_width x.node f.node) i;
       index = (word_put r o vs finding_index index_width h (omega arith) ∙ word_back index_width x.index f.index) i;
       term = (word_put r o vs finding_term term_width h (omega arith) ∙ word_back term_width x.term f.term) i;
+    }
+
+pub leader_log_length : (x : LeaderLogRow) → length (leader_log_bytes x) ≡ leader_log_width
+unfolding leader_log_bytes
+leader_log_length x = refl
+
+pub leader_log_back : (r : Bytes) (k : ℕ) (x : LeaderLogRow) → LeaderLogFits x → k * leader_log_width + leader_log_width ≤ length r
+    → leader_log_row (put_bytes r (k * leader_log_width) (leader_log_bytes x)) k ≡ x
+unfolding leader_log_bytes word_at
+leader_log_back r k x f h =
+    let o = k * leader_log_width in
+    let vs = leader_log_bytes x in
+    λ i.
+    record {
+      node = (word_first r o vs byte_width h (omega arith) ∙ word_back byte_width x.node f.node) i;
+      term = (word_put r o vs leader_log_term term_width h (omega arith) ∙ word_back term_width x.term f.term) i;
+      front = (word_put r o vs leader_log_front number_width h (omega arith) ∙ word_back number_width x.front f.front) i;
+      last = (word_put r o vs leader_log_last index_width h (omega arith) ∙ word_back index_width x.last f.last) i;
     }
 
 -- the first bytes of a list, read one by one

@@ -9,21 +9,21 @@ use mathlib.Core.Bool.{cond}
 use mathlib.Core.List.{[], ◌∷◌, ◌++◌}
 use lib.Dec.{eqb}
 use lib.ListN.{length, set, take, drop, replicate}
-use Rattle.model.specs.Sizes.{Bytes, node_count, index_limit, prefix_limit, certificate_limit, term_end}
+use Rattle.model.specs.Sizes.{Bytes, node_count, index_limit, prefix_limit, certificate_limit, leader_log_limit, term_end}
 use Rattle.storage_bytes.specs.Words.{Fits, word_at, word_bytes, put_bytes}
-use Rattle.storage_bytes.specs.Layout.{start_in, length_in, head_fields, regions, head_region, nodes_region, terms_region, certificates_region, findings_region, prefixes_region, head_start, head_length, nodes_start, nodes_length, terms_start, terms_length, certificates_start, certificates_length, findings_start, findings_length, prefixes_start, prefixes_length, history_length, number_width, byte_width, node_width, term_width, prefix_width, prefixes_field, terms_field, committed_field, certificates_field, findings_field, owner_field}
-use Rattle.storage.specs.Tables.{NodeRow, CertificateRow, Contents, regions_of, tables_by, numbers_in, row_of_node, term_row, term_rows, rows_of_certificates, finding_rows, prefix_row, rows_of_prefixes, head_part, nodes_part, terms_part, certificates_part, findings_part, prefixes_part, tables_in, tables_of, with_prefix_rows, with_prefix_row, with_node_rows, with_node_row, with_committed_number, with_term_rows, with_certificate_rows, with_finding_rows}
-use Rattle.storage.specs.Writes.{prefix_appended, terms_lengthened, committed_set, certificate_inserted, certificate_added, node_bytes, prefix_bytes, prefix_of, NodeFits, CertificateFits, PrefixFits}
+use Rattle.storage_bytes.specs.Layout.{start_in, length_in, head_fields, regions, head_region, nodes_region, terms_region, certificates_region, findings_region, prefixes_region, leader_logs_region, head_start, head_length, nodes_start, nodes_length, terms_start, terms_length, certificates_start, certificates_length, findings_start, findings_length, prefixes_start, prefixes_length, leader_logs_start, leader_logs_length, history_length, number_width, byte_width, node_width, term_width, prefix_width, leader_log_width, prefixes_field, terms_field, committed_field, certificates_field, findings_field, owner_field, leader_logs_field}
+use Rattle.storage.specs.Tables.{NodeRow, CertificateRow, LeaderLogRow, Contents, regions_of, tables_by, numbers_in, row_of_node, term_row, term_rows, rows_of_certificates, finding_rows, prefix_row, rows_of_prefixes, leader_log_row, leader_log_rows, head_part, nodes_part, terms_part, certificates_part, findings_part, prefixes_part, leader_logs_part, tables_in, tables_of, with_prefix_rows, with_prefix_row, with_node_rows, with_node_row, with_committed_number, with_term_rows, with_certificate_rows, with_finding_rows, with_leader_log_rows}
+use Rattle.storage.specs.Writes.{prefix_appended, terms_lengthened, committed_set, certificate_inserted, certificate_added, leader_log_appended, node_bytes, prefix_bytes, leader_log_bytes, prefix_of, NodeFits, CertificateFits, LeaderLogFits, PrefixFits}
 use Rattle.storage_bytes.proofs.ListLaws.{tabulate_append, tabulate_same, tabulate_replicate}
 use Rattle.storage_bytes.proofs.PartLaws.{put_whole, part_length}
 use Rattle.storage_bytes.proofs.RegionLaws.{within, put_place, put_number}
 use Rattle.storage_bytes.proofs.WordLaws.{put_length, put_before, word_put, word_bytes_length}
 use Rattle.storage.specs.Fresh.{zeros}
-use Rattle.storage.specs.Head.{prefixes_held, terms_held, certificates_held, put_head_field}
+use Rattle.storage.specs.Head.{prefixes_held, terms_held, certificates_held, leader_logs_held, put_head_field}
 use Rattle.storage.proofs.HeadLaws.{head_read}
 use Rattle.storage.proofs.FreshLaws.{zeros_length, zeros_zero, word_zero}
 use Rattle.storage.proofs.WriteLaws.{inserted_length}
-use Rattle.storage.proofs.RowLaws.{certificates_inserted, rows_set, rows_append, node_own, node_length, node_back, term_own, term_back, prefix_own, prefix_length, prefix_back}
+use Rattle.storage.proofs.RowLaws.{certificates_inserted, rows_set, rows_append, node_own, node_length, node_back, term_own, term_back, prefix_own, prefix_length, prefix_back, leader_log_own, leader_log_length, leader_log_back}
 
 -- ---- a write in one region, and one of a number in the head
 
@@ -190,3 +190,30 @@ module _ (h : Bytes) (right : length h ≡ history_length) where
       let long : length (findings_part h) ≡ findings_length = part_length h findings_start findings_length (omega arith) in
       rows_and_number h right findings_region 0 fs (omega arith) findings_field m lm
       ∙ ap (with_finding_rows (tables_of h)) (ap (λ (z : Bytes). finding_rows z m) (put_whole (findings_part h) fs (lf ∙ sym long)))
+
+  -- a leader's log set
+  pub set_leader_log : (k : ℕ) (x : LeaderLogRow) → k < leader_log_limit → LeaderLogFits x
+      → tables_of (put_bytes h (leader_logs_start + k * leader_log_width) (leader_log_bytes x))
+      ≡ with_leader_log_rows (tables_of h) (set (tables_of h).leader_logs k x)
+  unfolding tables_in
+  set_leader_log k x l f =
+      let long : length (leader_logs_part h) ≡ leader_logs_length = part_length h leader_logs_start leader_logs_length (omega arith) in
+      region_written h right leader_logs_region (k * leader_log_width) (leader_log_bytes x) (omega (arith, leader_log_length x))
+      ∙ ap (with_leader_log_rows (tables_of h))
+      (rows_set leader_log_width leader_log_row leader_log_own (leader_logs_part h) (leader_log_bytes x) (leader_logs_held (head_part h)) k x (leader_log_length x)
+      (leader_log_back (leader_logs_part h) k x f (omega arith)))
+
+  -- one more
+  pub leader_log_appended_lem : (x : LeaderLogRow) → leader_logs_held h < leader_log_limit → LeaderLogFits x
+      → tables_of (leader_log_appended h x) ≡ with_leader_log_rows (tables_of h) ((tables_of h).leader_logs ++ (x ∷ []))
+  unfolding leader_log_appended tables_in
+  leader_log_appended_lem x l f =
+      let n = leader_logs_held h in
+      let vs = leader_log_bytes x in
+      let lv : length vs ≡ leader_log_width = leader_log_length x in
+      let long : length (leader_logs_part h) ≡ leader_logs_length = part_length h leader_logs_start leader_logs_length (omega arith) in
+      rows_and_number h right leader_logs_region (n * leader_log_width) vs (omega arith) leader_logs_field (n + 1) (omega arith)
+      ∙ ap (with_leader_log_rows (tables_of h))
+      (rows_append leader_log_width leader_log_row leader_log_own (leader_logs_part h) vs n x lv
+      (leader_log_back (leader_logs_part h) n x f (omega arith))
+      ∙ ap (λ (m : ℕ). leader_log_rows (leader_logs_part h) m ++ (x ∷ [])) (sym (head_read h leader_logs_field)))

@@ -8,17 +8,17 @@ use mathlib.Core.Path.{◌≡◌, sym, ◌∙◌, ap, subst}
 use mathlib.Core.Bool.{true}
 use mathlib.Core.List.{[]}
 use lib.ListN.{length, get_or}
-use Rattle.model.specs.Sizes.{Bytes, last_node, node_count, index_limit, prefix_limit, certificate_limit, finding_limit}
-use Rattle.storage_bytes.specs.Layout.{history_length, prefixes_field, terms_field, committed_field, certificates_field, findings_field, owner_field}
-use Rattle.storage.specs.Tables.{NodeRow, CertificateRow, row_of_node, certificate_row, prefix_row, finding_row, term_row, rows_of_prefixes, rows_of_certificates, finding_rows, term_rows, head_part, nodes_part, terms_part, certificates_part, findings_part, prefixes_part, tables_in, tables_of}
+use Rattle.model.specs.Sizes.{Bytes, last_node, node_count, index_limit, prefix_limit, certificate_limit, finding_limit, leader_log_limit}
+use Rattle.storage_bytes.specs.Layout.{history_length, prefixes_field, terms_field, committed_field, certificates_field, findings_field, owner_field, leader_logs_field}
+use Rattle.storage.specs.Tables.{NodeRow, CertificateRow, LeaderLogRow, row_of_node, certificate_row, prefix_row, finding_row, term_row, rows_of_prefixes, rows_of_certificates, finding_rows, term_rows, leader_log_row, leader_log_rows, head_part, nodes_part, terms_part, certificates_part, findings_part, prefixes_part, leader_logs_part, tables_in, tables_of}
 use Rattle.storage.specs.Values.{number_index, committed_end}
 use Rattle.storage.specs.Decode.{prefix_at, resolve}
-use Rattle.storage.specs.Rules.{node_right, certificate_right, prefixes_right_after, well_formed}
-use Rattle.storage.specs.Head.{prefixes_held, terms_held, committed_number, certificates_held, findings_held, owner_of}
+use Rattle.storage.specs.Rules.{node_right, certificate_right, leader_log_right, prefixes_right_after, well_formed}
+use Rattle.storage.specs.Head.{prefixes_held, terms_held, committed_number, certificates_held, findings_held, owner_of, leader_logs_held}
 use Rattle.storage_bytes.proofs.ListLaws.{tabulate_length, tabulate_at, every_at}
 use Rattle.storage.proofs.RowFacts.{Facts, facts_of, rows_sized, index_small}
 use Rattle.storage.proofs.RuleLaws.{within, index_among_lem}
-use Rattle.storage.proofs.DecodeLaws.{Kept, well_formed_parts, NodeNamed, node_named, CertificateNamed, certificate_named, committed_named}
+use Rattle.storage.proofs.DecodeLaws.{Kept, well_formed_parts, NodeNamed, node_named, CertificateNamed, certificate_named, LeaderLogNamed, leader_log_named, committed_named}
 use Rattle.storage.proofs.HeadLaws.{head_read}
 
 -- ---- the tables by the counts in the head
@@ -52,6 +52,13 @@ module _ (h : Bytes) where
   pub findings_count : length (tables_of h).findings ≡ findings_held h
   findings_count = ap length findings_are ∙ tabulate_length (finding_row (findings_part h)) 0 (findings_held h)
 
+  pub leader_logs_are : (tables_of h).leader_logs ≡ leader_log_rows (leader_logs_part h) (leader_logs_held h)
+  unfolding tables_in
+  leader_logs_are = ap (leader_log_rows (leader_logs_part h)) (head_read h leader_logs_field)
+
+  pub leader_logs_count : length (tables_of h).leader_logs ≡ leader_logs_held h
+  leader_logs_count = ap length leader_logs_are ∙ tabulate_length (leader_log_row (leader_logs_part h)) 0 (leader_logs_held h)
+
   committed_is : (tables_of h).committed ≡ committed_number h
   unfolding tables_in
   committed_is = head_read h committed_field
@@ -75,6 +82,12 @@ module _ (h : Bytes) where
       tabulate_at (certificate_row (certificates_part h)) 0 (certificates_held (head_part h)) k d (omega (arith, head_read h certificates_field))
       ∙ ap (certificate_row (certificates_part h)) (zero-add k)
 
+  pub leader_log_row_lem : (k : ℕ) (d : LeaderLogRow) → k < leader_logs_held h → get_or (tables_of h).leader_logs k d ≡ leader_log_row (leader_logs_part h) k
+  unfolding tables_in
+  leader_log_row_lem k d l =
+      tabulate_at (leader_log_row (leader_logs_part h)) 0 (leader_logs_held (head_part h)) k d (omega (arith, head_read h leader_logs_field))
+      ∙ ap (leader_log_row (leader_logs_part h)) (zero-add k)
+
 -- ---- what the rules say
 
 pub record Formed (h : Bytes) : Type 0 where
@@ -83,10 +96,12 @@ pub record Formed (h : Bytes) : Type 0 where
   pub terms : terms_held h ≤ index_limit
   pub certificates : certificates_held h ≤ certificate_limit
   pub findings : findings_held h ≤ finding_limit
+  pub leader_logs : leader_logs_held h ≤ leader_log_limit
   pub committed : committed_number h ≤ prefixes_held h
   pub owner : owner_of h ≤ last_node
   pub node : (k : ℕ) → k < node_count → NodeNamed (prefixes_held h) (row_of_node (nodes_part h) k)
   pub certificate : (k : ℕ) → k < certificates_held h → CertificateNamed (prefixes_held h) (certificate_row (certificates_part h) k)
+  pub leader_log : (k : ℕ) → k < leader_logs_held h → LeaderLogNamed (prefixes_held h) (leader_log_row (leader_logs_part h) k)
   pub rows : prefixes_right_after [] (rows_of_prefixes (prefixes_part h) (prefixes_held h)) ≡ true
 
 module _ (h : Bytes) (e : well_formed h ≡ true) where
@@ -109,9 +124,17 @@ module _ (h : Bytes) (e : well_formed h ≡ true) where
       (subst (CertificateNamed n) (certificate_row_lem h k x l)
       (certificate_named n _ (every_at (certificate_right n) (tables_of h).certificates k x kept.certificates (omega (arith, certificates_count h)))))
 
+  leader_log_formed : (k : ℕ) → k < leader_logs_held h → LeaderLogNamed (prefixes_held h) (leader_log_row (leader_logs_part h) k)
+  leader_log_formed k l =
+      let x = leader_log_row (leader_logs_part h) k in
+      let n = length (tables_of h).rows in
+      subst (λ (m : ℕ). LeaderLogNamed m x) (rows_count h)
+      (subst (LeaderLogNamed n) (leader_log_row_lem h k x l)
+      (leader_log_named n _ (every_at (leader_log_right n) (tables_of h).leader_logs k x kept.leader_logs (omega (arith, leader_logs_count h)))))
+
   pub formed : Formed h
   formed =
-      let limits = within _ _ _ _ kept.limits in
+      let limits = within _ _ _ _ _ kept.limits in
       let named = committed_named _ _ _ kept.committed in
       record {
         long = (well_formed_parts h e).0;
@@ -119,10 +142,12 @@ module _ (h : Bytes) (e : well_formed h ≡ true) where
         terms = omega (arith, terms_count h, limits.terms);
         certificates = omega (arith, certificates_count h, limits.certificates);
         findings = omega (arith, findings_count h, limits.findings);
+        leader_logs = omega (arith, leader_logs_count h, limits.leader_logs);
         committed = omega (arith, committed_is h, rows_count h, named.0);
         owner = omega (arith, owner_is h, named.1);
         node = node_formed;
         certificate = certificate_formed;
+        leader_log = leader_log_formed;
         rows = ap (prefixes_right_after []) (sym (rows_are h)) ∙ kept.rows;
       }
 
@@ -153,6 +178,9 @@ certificates_fit h right = (formed h right).certificates
 
 pub findings_fit : (h : Bytes) → well_formed h ≡ true → findings_held h ≤ finding_limit
 findings_fit h right = (formed h right).findings
+
+pub leader_logs_fit : (h : Bytes) → well_formed h ≡ true → leader_logs_held h ≤ leader_log_limit
+leader_logs_fit h right = (formed h right).leader_logs
 
 pub committed_fits : (h : Bytes) → well_formed h ≡ true → committed_number h ≤ prefixes_held h
 committed_fits h right = (formed h right).committed

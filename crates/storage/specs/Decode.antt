@@ -4,8 +4,8 @@ use Rattle.std.specs.Prelude.{ℕ, cond, List, [], ◌∷◌, ◌++◌, map, eqb
 use Rattle.std.proofs.Math.Option.{Option, none, some}
 use Rattle.model.specs.Sizes.{Bytes}
 use Rattle.model.specs.Entry.{Entry, Prefix}
-use Rattle.model.specs.History.{Certificate, History}
-use Rattle.storage.specs.Tables.{PrefixRow, NodeRow, CertificateRow, Tables, tables_in, tables_of}
+use Rattle.model.specs.History.{Certificate, LeaderLog, History}
+use Rattle.storage.specs.Tables.{PrefixRow, NodeRow, CertificateRow, LeaderLogRow, Tables, tables_in, tables_of}
 
 -- the prefix of a number: 0 is the empty one, k the k-th stored
 abbrev pub prefix_at : List Prefix → ℕ → Prefix
@@ -40,6 +40,9 @@ certificate_in ps c =
 abbrev pub front_in : List Prefix → NodeRow → Prefix
 front_in ps n = prefix_at ps n.front
 
+abbrev pub leader_log_in : List Prefix → LeaderLogRow → LeaderLog
+leader_log_in ps l = record { node = l.node; term = l.term; front = prefix_at ps l.front; last = l.last }
+
 -- the history that tables stand for, its prefixes given
 abbrev pub history_with : List Prefix → Tables → History
 history_with ps t =
@@ -53,6 +56,7 @@ history_with ps t =
       terms = t.terms;
       certificates = map (certificate_in ps) t.certificates;
       findings = t.findings;
+      leader_logs = map (leader_log_in ps) t.leader_logs;
     }
 
 abbrev pub history_in : Tables → History

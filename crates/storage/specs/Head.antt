@@ -4,7 +4,7 @@
 use Rattle.std.specs.Prelude.{ℕ}
 use Rattle.model.specs.Sizes.{Bytes}
 use Rattle.storage_bytes.specs.Words.{Word, word_at, word_bytes, put_bytes}
-use Rattle.storage_bytes.specs.Layout.{start_in, length_in, head_fields, prefixes_field, terms_field, committed_field, certificates_field, findings_field, owner_field}
+use Rattle.storage_bytes.specs.Layout.{start_in, length_in, head_fields, prefixes_field, terms_field, committed_field, certificates_field, findings_field, owner_field, leader_logs_field}
 
 -- a field read, and written
 abbrev pub head_field : ℕ → Bytes → ℕ
@@ -38,3 +38,6 @@ findings_held h = head_field findings_field h
 -- the node that showed the committed prefix
 abbrev pub owner_of : Bytes → ℕ
 owner_of h = head_field owner_field h
+
+abbrev pub leader_logs_held : Bytes → ℕ
+leader_logs_held h = head_field leader_logs_field h

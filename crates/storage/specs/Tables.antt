@@ -6,7 +6,7 @@ use Rattle.model.specs.History.{Finding}
 use Rattle.model.specs.Sizes.{Bytes, node_count, content_limit}
 use Rattle.storage_bytes.specs.Lists.{tabulate}
 use Rattle.storage_bytes.specs.Words.{word_at, bytes_at}
-use Rattle.storage_bytes.specs.Layout.{part, start_in, length_in, regions, head_region, nodes_region, terms_region, certificates_region, findings_region, prefixes_region, prefixes_field, terms_field, committed_field, certificates_field, findings_field, owner_field, number_width, index_width, term_width, byte_width, node_last, node_unseen, node_width, certificate_log, certificate_mark, certificate_leader, certificate_number, certificate_present, certificate_width, finding_node, finding_index, finding_term, finding_width, prefix_index, prefix_term, prefix_mark, prefix_size, prefix_content, prefix_width}
+use Rattle.storage_bytes.specs.Layout.{part, start_in, length_in, regions, head_region, nodes_region, terms_region, certificates_region, findings_region, prefixes_region, prefixes_field, terms_field, committed_field, certificates_field, findings_field, owner_field, number_width, index_width, term_width, byte_width, node_last, node_unseen, node_width, certificate_log, certificate_mark, certificate_leader, certificate_number, certificate_present, certificate_width, finding_node, finding_index, finding_term, finding_width, prefix_index, prefix_term, prefix_mark, prefix_size, prefix_content, prefix_width, leader_logs_region, leader_logs_field, leader_log_term, leader_log_front, leader_log_last, leader_log_width}
 use Rattle.storage.specs.Head.{head_field}
 
 -- a stored prefix: the number of the prefix that it extends, its own index, and its last entry's term, mark and content. A mark is
@@ -34,6 +34,13 @@ pub record CertificateRow : Type 0 where
   pub number : ℕ
   pub present : ℕ
 
+-- a leader's log: what was kept for the node in the term, the number of its front and the last index of its view
+pub record LeaderLogRow : Type 0 where
+  pub node : ℕ
+  pub term : ℕ
+  pub front : ℕ
+  pub last : ℕ
+
 pub record Tables : Type 0 where
   pub rows : List PrefixRow
   pub nodes : List NodeRow
@@ -42,6 +49,7 @@ pub record Tables : Type 0 where
   pub terms : List ℕ
   pub certificates : List CertificateRow
   pub findings : List Finding
+  pub leader_logs : List LeaderLogRow
 
 -- ---- a row of a region, by its place from 0
 
@@ -91,6 +99,16 @@ prefix_row r k =
       content = bytes_at r (o + prefix_content) (content_size r o);
     }
 
+abbrev pub leader_log_row : Bytes → ℕ → LeaderLogRow
+leader_log_row r k =
+    let o = k * leader_log_width in
+    record {
+      node = word_at r o byte_width;
+      term = word_at r (o + leader_log_term) term_width;
+      front = word_at r (o + leader_log_front) number_width;
+      last = word_at r (o + leader_log_last) index_width;
+    }
+
 -- ---- the first n rows of a region
 
 abbrev pub node_rows : Bytes → List NodeRow
@@ -107,6 +125,9 @@ finding_rows r n = tabulate (finding_row r) 0 n
 
 abbrev pub rows_of_prefixes : Bytes → ℕ → List PrefixRow
 rows_of_prefixes r n = tabulate (prefix_row r) 0 n
+
+abbrev pub leader_log_rows : Bytes → ℕ → List LeaderLogRow
+leader_log_rows r n = tabulate (leader_log_row r) 0 n
 
 -- ---- the regions of a history, each by its place in the list of them (`regions`)
 
@@ -134,6 +155,9 @@ findings_part h = regions_of h findings_region
 abbrev pub prefixes_part : Bytes → Bytes
 prefixes_part h = regions_of h prefixes_region
 
+abbrev pub leader_logs_part : Bytes → Bytes
+leader_logs_part h = regions_of h leader_logs_region
+
 -- the tables, by the numbers of the head and what the regions hold
 abbrev pub tables_by : (ℕ → ℕ) → Contents → Tables
 tables_by n c =
@@ -145,6 +169,7 @@ tables_by n c =
       terms = term_rows (c terms_region) (n terms_field);
       certificates = rows_of_certificates (c certificates_region) (n certificates_field);
       findings = finding_rows (c findings_region) (n findings_field);
+      leader_logs = leader_log_rows (c leader_logs_region) (n leader_logs_field);
     }
 
 -- the numbers of the head
@@ -171,6 +196,7 @@ with_prefix_rows t rs =
       terms = t.terms;
       certificates = t.certificates;
       findings = t.findings;
+      leader_logs = t.leader_logs;
     }
 
 -- one more prefix
@@ -187,6 +213,7 @@ with_node_rows t ns =
       terms = t.terms;
       certificates = t.certificates;
       findings = t.findings;
+      leader_logs = t.leader_logs;
     }
 
 -- a node's row set
@@ -203,6 +230,7 @@ with_committed_number t p n =
       terms = t.terms;
       certificates = t.certificates;
       findings = t.findings;
+      leader_logs = t.leader_logs;
     }
 
 abbrev pub with_term_rows : Tables → List ℕ → Tables
@@ -215,6 +243,7 @@ with_term_rows t ts =
       terms = ts;
       certificates = t.certificates;
       findings = t.findings;
+      leader_logs = t.leader_logs;
     }
 
 abbrev pub with_certificate_rows : Tables → List CertificateRow → Tables
@@ -227,6 +256,7 @@ with_certificate_rows t cs =
       terms = t.terms;
       certificates = cs;
       findings = t.findings;
+      leader_logs = t.leader_logs;
     }
 
 abbrev pub with_finding_rows : Tables → List Finding → Tables
@@ -239,4 +269,18 @@ with_finding_rows t fs =
       terms = t.terms;
       certificates = t.certificates;
       findings = fs;
+      leader_logs = t.leader_logs;
+    }
+
+abbrev pub with_leader_log_rows : Tables → List LeaderLogRow → Tables
+with_leader_log_rows t ls =
+    record {
+      rows = t.rows;
+      nodes = t.nodes;
+      committed = t.committed;
+      owner = t.owner;
+      terms = t.terms;
+      certificates = t.certificates;
+      findings = t.findings;
+      leader_logs = ls;
     }

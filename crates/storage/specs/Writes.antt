@@ -4,11 +4,11 @@
 use Rattle.std.specs.Prelude.{ℕ, ◌+◌, ◌-◌, ◌*◌, ◌≤◌, ◌≡◌, ◌++◌, length, take}
 use Rattle.model.specs.History.{Finding}
 use Rattle.model.specs.Sizes.{Bytes, content_limit}
-use Rattle.storage_bytes.specs.Layout.{terms_start, certificates_start, prefixes_start, term_width, certificate_width, prefix_width, number_width, index_width, byte_width, prefixes_field, terms_field, committed_field, certificates_field, owner_field}
+use Rattle.storage_bytes.specs.Layout.{terms_start, certificates_start, prefixes_start, leader_logs_start, term_width, certificate_width, prefix_width, leader_log_width, number_width, index_width, byte_width, prefixes_field, terms_field, committed_field, certificates_field, owner_field, leader_logs_field}
 use Rattle.storage_bytes.specs.Words.{word_at, word_bytes, bytes_at, put_bytes, Fits}
-use Rattle.storage.specs.Tables.{PrefixRow, NodeRow, CertificateRow, certificates_part}
+use Rattle.storage.specs.Tables.{PrefixRow, NodeRow, CertificateRow, LeaderLogRow, certificates_part}
 use Rattle.storage.specs.Fresh.{zeros}
-use Rattle.storage.specs.Head.{prefixes_held, terms_held, certificates_held, put_head_field}
+use Rattle.storage.specs.Head.{prefixes_held, terms_held, certificates_held, leader_logs_held, put_head_field}
 
 unfoldable pub node_bytes : NodeRow → Bytes
 unfolding word_bytes
@@ -36,6 +36,12 @@ prefix_bytes parent index term mark size padded =
     ++ (word_bytes index_width index
     ++ (word_bytes term_width term ++ (word_bytes byte_width mark ++ (word_bytes byte_width size ++ padded))))
 
+unfoldable pub leader_log_bytes : LeaderLogRow → Bytes
+unfolding word_bytes
+leader_log_bytes x =
+    word_bytes byte_width x.node
+    ++ (word_bytes term_width x.term ++ (word_bytes number_width x.front ++ word_bytes index_width x.last))
+
 -- ---- each number fits its field
 
 pub record NodeFits (x : NodeRow) : Type 0 where
@@ -56,6 +62,12 @@ pub record FindingFits (x : Finding) : Type 0 where
   pub node : Fits byte_width x.node
   pub index : Fits index_width x.index
   pub term : Fits term_width x.term
+
+pub record LeaderLogFits (x : LeaderLogRow) : Type 0 where
+  pub node : Fits byte_width x.node
+  pub term : Fits term_width x.term
+  pub front : Fits number_width x.front
+  pub last : Fits index_width x.last
 
 pub record PrefixFits (p i t q s : ℕ) (c : Bytes) : Type 0 where
   pub parent : Fits number_width p
@@ -103,3 +115,10 @@ unfolding word_at put_bytes certificate_inserted
 certificate_added h k x =
     let n = certificates_held h in
     put_head_field certificates_field (put_bytes h certificates_start (certificate_inserted (certificates_part h) n k x)) (n + 1)
+
+-- one more leader's log: its row, and the count
+unfoldable pub leader_log_appended : Bytes → LeaderLogRow → Bytes
+unfolding word_at put_bytes leader_log_bytes
+leader_log_appended h x =
+    let n = leader_logs_held h in
+    put_head_field leader_logs_field (put_bytes h (leader_logs_start + n * leader_log_width) (leader_log_bytes x)) (n + 1)

@@ -3,12 +3,13 @@
 // take a field's place and type at each call, where its name stands now. A table is lent without the head, so who goes over as many of
 // its rows as are held asks that it has so many.
 ghost use Rattle.std.specs.Prelude.{◌≡◌, ◌≤◌, length};
-ghost use Rattle.storage_bytes.specs.Layout.{head_length, prefixes_field, terms_field, committed_field, certificates_field, findings_field, owner_field};
+ghost use Rattle.storage_bytes.specs.Layout.{head_length, prefixes_field, terms_field, committed_field, certificates_field, findings_field, owner_field, leader_logs_field};
 ghost use Rattle.storage.specs.Head.{HeadField, put_head_field};
 ghost use Rattle.storage.specs.Writes.{committed_set};
 
 use storage_bytes::layout::{
-    CERTIFICATES_HELD, COMMITTED_NUMBER, FINDINGS_HELD, OWNER, PREFIXES_HELD, TERMS_HELD,
+    CERTIFICATES_HELD, COMMITTED_NUMBER, FINDINGS_HELD, LEADER_LOGS_HELD, OWNER, PREFIXES_HELD,
+    TERMS_HELD,
 };
 use storage_bytes::words::{Field, get16, put8, put16};
 use units::{LogIndex, LogPrefixWitness, NodeId};
@@ -59,6 +60,13 @@ pub fn owner(head: &[u8]) -> NodeId
     NodeId::read(head, OWNER)
 }
 
+pub fn leader_log_count(head: &[u8]) -> usize
+    requires { head_length ≤ length head.now }
+    ensures { HeadField leader_logs_field head.now result }
+{
+    usize::from(u8::read(head, LEADER_LOGS_HELD))
+}
+
 pub fn set_prefix_count(head: &mut [u8], n: usize)
     requires { head_length ≤ length head.old }
     ensures { head.new ≡ put_head_field prefixes_field head.old n }
@@ -85,6 +93,13 @@ pub fn set_finding_count(head: &mut [u8], n: usize)
     ensures { head.new ≡ put_head_field findings_field head.old n }
 {
     put8(head, FINDINGS_HELD, n);
+}
+
+pub fn set_leader_log_count(head: &mut [u8], n: usize)
+    requires { head_length ≤ length head.old }
+    ensures { head.new ≡ put_head_field leader_logs_field head.old n }
+{
+    put8(head, LEADER_LOGS_HELD, n);
 }
 
 // The committed prefix and its owner.

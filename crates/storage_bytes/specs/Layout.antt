@@ -2,7 +2,7 @@
 -- same as a page. A field is as wide as the fewest whole bytes that hold its limit, high byte first, and there are no spare bytes.
 -- Assumes nothing.
 use Rattle.std.specs.Prelude.{ℕ, zero, suc, ◌+◌, ◌*◌, ◌≡◌, List, [], ◌∷◌, length, get_or, take, drop}
-use Rattle.model.specs.Sizes.{Bytes, node_count, index_limit, content_limit, prefix_limit, certificate_limit, finding_limit}
+use Rattle.model.specs.Sizes.{Bytes, node_count, index_limit, content_limit, prefix_limit, certificate_limit, finding_limit, leader_log_limit}
 
 -- ---- fields: how many bytes each sort of number takes. A count takes as many as what it counts.
 
@@ -17,7 +17,7 @@ index_width = 2
 abbrev pub term_width : ℕ
 term_width = 4
 
--- a node, a count of certificates or findings, the name of a finding, the length of a content, a yes or no
+-- a node, a count of certificates, findings or leaders' logs, the name of a finding, the length of a content, a yes or no
 abbrev pub byte_width : ℕ
 byte_width = 1
 
@@ -34,7 +34,7 @@ length_in ns k = get_or ns k 0
 -- ---- the head: its fields in their order, and the place of each among them
 
 abbrev pub head_fields : List ℕ
-head_fields = number_width ∷ index_width ∷ number_width ∷ byte_width ∷ byte_width ∷ byte_width ∷ []
+head_fields = number_width ∷ index_width ∷ number_width ∷ byte_width ∷ byte_width ∷ byte_width ∷ byte_width ∷ []
 
 abbrev pub prefixes_field : ℕ
 prefixes_field = 0
@@ -53,6 +53,9 @@ findings_field = 4
 
 abbrev pub owner_field : ℕ
 owner_field = 5
+
+abbrev pub leader_logs_field : ℕ
+leader_logs_field = 6
 
 -- ---- rows: where their fields lie, the first at 0, and how many bytes each row takes
 
@@ -117,6 +120,19 @@ prefix_content = prefix_size + byte_width
 abbrev pub prefix_width : ℕ
 prefix_width = prefix_content + content_limit
 
+-- a leader's log: node, term, front, last
+abbrev pub leader_log_term : ℕ
+leader_log_term = byte_width
+
+abbrev pub leader_log_front : ℕ
+leader_log_front = leader_log_term + term_width
+
+abbrev pub leader_log_last : ℕ
+leader_log_last = leader_log_front + number_width
+
+abbrev pub leader_log_width : ℕ
+leader_log_width = leader_log_last + index_width
+
 -- ---- regions: the length of each in their order, and the place of each among them
 
 abbrev pub regions : List ℕ
@@ -127,6 +143,7 @@ regions =
     ∷ certificate_limit * certificate_width
     ∷ finding_limit * finding_width
     ∷ prefix_limit * prefix_width
+    ∷ leader_log_limit * leader_log_width
     ∷ []
 
 abbrev pub head_region : ℕ
@@ -146,6 +163,9 @@ findings_region = 4
 
 abbrev pub prefixes_region : ℕ
 prefixes_region = 5
+
+abbrev pub leader_logs_region : ℕ
+leader_logs_region = 6
 
 abbrev pub head_start : ℕ
 head_start = start_in regions head_region
@@ -182,6 +202,12 @@ prefixes_start = start_in regions prefixes_region
 
 abbrev pub prefixes_length : ℕ
 prefixes_length = length_in regions prefixes_region
+
+abbrev pub leader_logs_start : ℕ
+leader_logs_start = start_in regions leader_logs_region
+
+abbrev pub leader_logs_length : ℕ
+leader_logs_length = length_in regions leader_logs_region
 
 -- the length of the whole
 abbrev pub history_length : ℕ

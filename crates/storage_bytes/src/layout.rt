@@ -4,11 +4,12 @@ ghost use Rattle.std.specs.Prelude.{◌≡◌, ◌+◌, ◌≤◌, length};
 ghost use Rattle.storage_bytes.specs.Layout.{Part};
 
 use units::{
-    CERTIFICATE_LIMIT, CONTENT_LIMIT, FINDING_LIMIT, INDEX_LIMIT, NODE_COUNT, PREFIX_LIMIT,
+    CERTIFICATE_LIMIT, CONTENT_LIMIT, FINDING_LIMIT, INDEX_LIMIT, LEADER_LOG_LIMIT, NODE_COUNT,
+    PREFIX_LIMIT,
 };
 
-// How many bytes a prefix's number takes, an index, a term, and what one byte holds: a node, a count of certificates or findings, the
-// name of a finding, the length of a content, a yes or no, an entry's mark.
+// How many bytes a prefix's number takes, an index, a term, and what one byte holds: a node, a count of certificates, findings or
+// leaders' logs, the name of a finding, the length of a content, a yes or no, an entry's mark.
 const NUMBER: usize = 2;
 
 const INDEX: usize = 2;
@@ -18,7 +19,7 @@ const TERM: usize = 4;
 const BYTE: usize = 1;
 
 // Where each field of the head lies: how many prefixes are held, commit terms, the committed prefix's number, how many certificates and
-// findings, the owner.
+// findings, the owner, how many leaders' logs.
 pub const PREFIXES_HELD: usize = 0;
 
 pub const TERMS_HELD: usize = PREFIXES_HELD + NUMBER;
@@ -30,6 +31,8 @@ pub const CERTIFICATES_HELD: usize = COMMITTED_NUMBER + NUMBER;
 pub const FINDINGS_HELD: usize = CERTIFICATES_HELD + BYTE;
 
 pub const OWNER: usize = FINDINGS_HELD + BYTE;
+
+pub const LEADER_LOGS_HELD: usize = OWNER + BYTE;
 
 // Where each field of a row lies but the first, which is at its start, and how many bytes the row takes. A node: front, last, unseen.
 pub const NODE_LAST: usize = NUMBER;
@@ -75,8 +78,17 @@ pub const PREFIX_CONTENT: usize = PREFIX_SIZE + BYTE;
 
 pub const PREFIX_WIDTH: usize = PREFIX_CONTENT + CONTENT_LIMIT;
 
+// A leader's log: node, term, front, last.
+pub const LEADER_LOG_TERM: usize = BYTE;
+
+pub const LEADER_LOG_FRONT: usize = LEADER_LOG_TERM + TERM;
+
+pub const LEADER_LOG_LAST: usize = LEADER_LOG_FRONT + NUMBER;
+
+pub const LEADER_LOG_WIDTH: usize = LEADER_LOG_LAST + INDEX;
+
 // The length of each region.
-pub const HEAD_LENGTH: usize = OWNER + BYTE;
+pub const HEAD_LENGTH: usize = LEADER_LOGS_HELD + BYTE;
 
 pub const NODES_LENGTH: usize = NODE_COUNT * NODE_WIDTH;
 
@@ -88,8 +100,10 @@ pub const FINDINGS_LENGTH: usize = FINDING_LIMIT * FINDING_WIDTH;
 
 pub const PREFIXES_LENGTH: usize = PREFIX_LIMIT * PREFIX_WIDTH;
 
+pub const LEADER_LOGS_LENGTH: usize = LEADER_LOG_LIMIT * LEADER_LOG_WIDTH;
+
 // The length of a history.
-pub const HISTORY_LENGTH: usize = PREFIXES.start + PREFIXES.length;
+pub const HISTORY_LENGTH: usize = LEADER_LOGS.start + LEADER_LOGS.length;
 
 // Its bytes, with their count in the type, so that whoever is lent them need not ask for it. The library's callers lend slices: those
 // are tested once, where they come in.
@@ -106,6 +120,8 @@ pub type Certificates = [u8; CERTIFICATES_LENGTH];
 pub type Findings = [u8; FINDINGS_LENGTH];
 
 pub type PrefixTable = [u8; PREFIXES_LENGTH];
+
+pub type LeaderLogs = [u8; LEADER_LOGS_LENGTH];
 
 // A table's place in a history: where it starts, and its length. A ghost field that it lies inside was tried, and specs could not name
 // its constants then.
@@ -162,6 +178,11 @@ pub const FINDINGS: Region = Region {
 pub const PREFIXES: Region = Region {
     start: FINDINGS.start + FINDINGS.length,
     length: PREFIXES_LENGTH,
+};
+
+pub const LEADER_LOGS: Region = Region {
+    start: PREFIXES.start + PREFIXES.length,
+    length: LEADER_LOGS_LENGTH,
 };
 
 // The n bytes from a on.

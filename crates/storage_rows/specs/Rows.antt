@@ -1,4 +1,4 @@
--- The rows that a node and a finding of the code stand for.
+-- The rows that a node, a finding and a leader's log of the code stand for.
 -- Assumes nothing.
 use Rattle.std.specs.Prelude.{ℕ, Option}
 use Rattle.std.specs.Option.{unwrap_or}
@@ -6,7 +6,8 @@ use Rattle.model.specs.History.{Finding}
 use Rattle.units.specs.declared.LogIndex.{LogIndex}
 use Rattle.storage_rows.specs.declared.nodes.Node.{Node}
 use Rattle.storage_rows.specs.declared.findings.Found.{Found}
-use Rattle.storage.specs.Tables.{NodeRow}
+use Rattle.storage_rows.specs.declared.leader_logs.LeaderLog.{LeaderLog}
+use Rattle.storage.specs.Tables.{NodeRow, LeaderLogRow}
 
 -- 0 is no mark
 abbrev pub mark_value : Option LogIndex → ℕ
@@ -17,3 +18,6 @@ node_value x = record { front = x.front.0; last = x.last.0; unseen = mark_value 
 
 abbrev pub finding_value : Found → Finding
 finding_value x = record { name = x.name; node = x.node.0; index = x.index.0; term = x.term.0 }
+
+abbrev pub leader_log_value : LeaderLog → LeaderLogRow
+leader_log_value x = record { node = x.node.0; term = x.term.0; front = x.front.0; last = x.last.0 }

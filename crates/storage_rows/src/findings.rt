@@ -17,6 +17,9 @@ use storage_bytes::layout::{
 use storage_bytes::words::{Field, put8};
 use units::{LogIndex, NodeId, Term};
 
+// A leader shortened or rewrote its own log within a term.
+pub const LG_01: usize = 1;
+
 // Two logs differ under one index and term.
 pub const LG_03: usize = 3;
 

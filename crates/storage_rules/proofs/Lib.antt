@@ -1,3 +1,4 @@
 pub mod Numbering
 pub mod PrefixTurns
+pub mod PairTurns
 pub mod AllRules

@@ -8,7 +8,7 @@ ghost use Rattle.model.specs.Sizes.{finding_limit};
 
 use storage::rows::all_rows;
 use storage_bytes::layout::Findings;
-use storage_rows::findings::{Found, LG_03, LG_05};
+use storage_rows::findings::{Found, LG_01, LG_03, LG_05};
 use units::{LogIndex, NodeId};
 
 // The storage rules of one row.
@@ -16,10 +16,7 @@ use units::{LogIndex, NodeId};
 fn finding_right(f: Found) -> bool
     ensures { result ≡ finding_right (finding_value f) }
 {
-    if f.name < LG_03 {
-        return false;
-    }
-    if LG_05 < f.name {
+    if f.name != LG_01 && (f.name < LG_03 || LG_05 < f.name) {
         return false;
     }
     if NodeId::LAST < f.node {

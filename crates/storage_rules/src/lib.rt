@@ -5,6 +5,7 @@
 pub mod certificates;
 pub mod findings;
 pub mod head;
+pub mod leader_logs;
 pub mod nodes;
 pub mod once;
 pub mod prefixes;

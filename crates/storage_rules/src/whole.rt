@@ -5,12 +5,13 @@ ghost use Rattle.storage.specs.Rules.{well_formed};
 use crate::certificates::{certificates_right, numbered};
 use crate::findings::findings_right;
 use crate::head::{committed_right, within_limits};
+use crate::leader_logs::{kept_once, leader_logs_right};
 use crate::nodes::nodes_right;
 use crate::prefixes::prefixes_right;
-use storage::head::{certificate_count, finding_count, prefix_count};
+use storage::head::{certificate_count, finding_count, leader_log_count, prefix_count};
 use storage::stored::Stored;
 use storage_bytes::layout::{
-    CERTIFICATES, FINDINGS, HEAD, HISTORY_LENGTH, History, NODES, PREFIXES,
+    CERTIFICATES, FINDINGS, HEAD, HISTORY_LENGTH, History, LEADER_LOGS, NODES, PREFIXES,
 };
 
 // The bytes keep the storage rules.
@@ -38,6 +39,14 @@ fn rules_kept(history: &History) -> bool
         return false;
     }
     if !findings_right(FINDINGS.array(history), finding_count(head)) {
+        return false;
+    }
+    let logs = LEADER_LOGS.array(history);
+    let l = leader_log_count(head);
+    if !leader_logs_right(logs, l, n) {
+        return false;
+    }
+    if !kept_once(logs, l) {
         return false;
     }
     prefixes_right(PREFIXES.array(history), n)

@@ -35,6 +35,7 @@ use Rattle.commit.proofs.CommitLaws.{commit_means}
 use Rattle.commit_terms.proofs.Meaning.{terms_mean}
 use Rattle.election.proofs.Meaning.{election_means}
 use Rattle.leader_completeness.proofs.Meaning.{check_means}
+use Rattle.leader_log.proofs.Meaning.{leader_means}
 use Rattle.submission.specs.Replies.{step_to, submit_step}
 
 -- ---- statement
@@ -88,6 +89,7 @@ module _ (h : Bytes) (x : History) (st : Represents h x) where
       (election_means h x st e.leader.0 e.term.0 (is_some e.length) (unwrap_or e.length 0) t.within.0 t.within.1)
   told_means s (Ok Head.Check) t = took s _ _ t.reading (check_means h x st)
   told_means s (Ok (Head.Rows c)) t = took s _ _ t.reading (rows_mean (rows_at s first_row c))
+  told_means s (Ok (Head.Leader l)) t = took s _ _ t.reading (leader_means h x st l.node.0 l.term.0 t.within.0 t.within.1)
   told_means s (Err w) t = unread s w t.reading
 
 -- of bytes that stand for a history, what `submit` promises is what the model says

@@ -12,6 +12,7 @@ use Rattle.commit.specs.Prefix.{commit_step}
 use Rattle.commit_terms.specs.Terms.{terms_step}
 use Rattle.election.specs.Certify.{election_step}
 use Rattle.leader_completeness.specs.Check.{check_step}
+use Rattle.leader_log.specs.Observation.{leader_step}
 use Rattle.invariants.specs.Rules.{rows_answer}
 use Rattle.record_reading.specs.declared.head.Head.{Head}
 use Rattle.record_bits.specs.declared.bits.Fault.{Fault}
@@ -27,6 +28,7 @@ step_to h s (Ok (Head.Terms x)) = terms_step h x.old.0 x.new.0 x.term.0
 step_to h s (Ok (Head.Election x)) = election_step h x.leader.0 x.term.0 (is_some x.length) (unwrap_or x.length 0)
 step_to h s (Ok Head.Check) = check_step h
 step_to h s (Ok (Head.Rows c)) = record { answer = rows_answer (rows_at s first_row c); bytes = h }
+step_to h s (Ok (Head.Leader x)) = leader_step h x.node.0 x.term.0
 step_to h s (Err f) = refusing (Refusal.Unreadable f) h
 
 -- of any two byte strings: what `submit` promises

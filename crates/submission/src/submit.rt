@@ -11,6 +11,7 @@ use commit_terms::terms::record_commit_terms;
 use election::certificate::record_election;
 use invariants::commit_safety::check_rows;
 use leader_completeness::leader_completeness::record_leader_completeness;
+use leader_log::observation::observe_leader;
 use logical_log::observation::observe_prefixes;
 use record_entries::view::{View, ViewBytes};
 use record_reading::head::{Head, read};
@@ -37,6 +38,7 @@ fn dispatch(history: &mut History, s: &[u8], head: Head) -> Result<Accepted, Ref
         Head::Election(e) => record_election(history, e),
         Head::Check => record_leader_completeness(history),
         Head::Rows { count } => check_rows(s, count),
+        Head::Leader(l) => observe_leader(history, l),
     }
 }
 

@@ -26,6 +26,9 @@ pub const CERTIFICATE_LIMIT: usize = 64;
 // How many distinct findings a history holds.
 pub const FINDING_LIMIT: usize = 128;
 
+// How many pairs of leader and term a history keeps a log for.
+pub const LEADER_LOG_LIMIT: usize = 64;
+
 // A server of the cluster, 0 to 63. The limit is no invariant of the type: a stored row holds any byte there until the storage rules are
 // tested. So a function that finds a row by its node asks for it.
 #[derive(Clone, Copy, PartialEq, Eq, PartialOrd, Ord)]
