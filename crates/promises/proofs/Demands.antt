@@ -1,4 +1,4 @@
--- The three demands and log matching for any arrival, about what `history` exports, by the model's bridge.
+-- The three demands, log matching for any arrival and leaders' logs, about what `history` exports, by the model's bridge.
 -- Assumes nothing.
 use Prim.Native.Nat.{ℕ, zero, suc, ◌+◌}
 use native.Mathlib.Omega.{arith}
@@ -6,10 +6,11 @@ use mathlib.Core.Path.{◌≡◌, refl, sym, ◌∙◌, ap, subst}
 use mathlib.Core.Bool.{true}
 use mathlib.Core.List.Memᴰ
 use mathlib.Core.List.{List, [], ◌∷◌, ◌++◌, Memᴰ}
-use mathlib.Core.Logic.{◌↔◌, ⊎_elim}
+use mathlib.Core.Logic.{◌⊎◌, ◌↔◌, ⊎_elim}
 use Rattle.model.specs.Sizes.{Bytes}
 use Rattle.model.specs.History.{Finding, History}
-use Rattle.model.specs.Record.{view}
+use Rattle.model.specs.Record.{Record, view, leader}
+use Rattle.model.specs.Reading.{readable, read}
 use Rattle.model.specs.Answer.{is_accepted, value, answer}
 use Rattle.model.specs.Leaders.{Leader}
 use Rattle.model.specs.Ledger.{empty, ledger_leaders}
@@ -17,7 +18,9 @@ use Rattle.model.specs.Lists.{finding_list, leader_list}
 use Rattle.model.specs.Run.{history_of}
 use Rattle.model.specs.Run as run
 use Rattle.model.proofs.Growth as growth
+use Rattle.model.proofs.AppendOnly as logs
 use Rattle.model.proofs.Last.{accepted_answer}
+use Rattle.model.specs.AppendOnly.{shown_of, met_views, lg01, GrownSince}
 use Rattle.model.specs.Statements.{Tells}
 use Rattle.model.specs.Statements as statements
 use Rattle.model.proofs.Tests.{cond_true, either}
@@ -32,15 +35,15 @@ use Rattle.answers.specs.Step.{Step}
 use Rattle.answers.specs.Numbers.{reply_of, model_reply}
 use Rattle.submission.proofs.Meaning.{submit_broken}
 use Rattle.model.specs.Answer as model
-use Rattle.model.specs.Refusal.{Refusal, number, unknownKind, bitsMissing, filling, outOfLimit, notAbove, prefixesFull, findingsFull, old_exceeds_new, lengthExceedsFront, certificatesFull}
+use Rattle.model.specs.Refusal.{Refusal, number, unknownKind, bitsMissing, filling, outOfLimit, notAbove, prefixesFull, findingsFull, old_exceeds_new, lengthExceedsFront, certificatesFull, leaderLogsFull}
 use Rattle.lists.specs.Picked.{nth}
 use Rattle.answers.specs.declared.numbers.Reply.{Reply}
 use Rattle.history.specs.declared.exports.FindingReply.{FindingReply}
 use Rattle.submission.specs.Replies.{submit_answer}
 use Rattle.history.specs.Exports.{a_finding, no_finding, finding_out, a_leader, no_leader}
 use Rattle.history.proofs.Handed.{reply_alike, number_refused}
-use Rattle.promises.specs.Run.{bytes_of, reply_to, ledger_of}
-use Rattle.promises.specs.Demands.{ValueIsGrowth, NeverEleven, ModelNeverEleven, NeverBroken, Demand1, PrintsNone, Demand2Matching, Demand2Committed, Demand3, Gives, WhichPairs, SamePairs, PairsByFronts, ViewsAccepted, AnyArrival}
+use Rattle.promises.specs.Run.{bytes_of, reply_to, accepts, ledger_of}
+use Rattle.promises.specs.Demands.{ValueIsGrowth, NeverEleven, ModelNeverEleven, NeverBroken, Demand1, PrintsNone, Demand2Matching, Demand2Committed, Demand3, Gives, WhichPairs, SamePairs, PairsByFronts, ViewsAccepted, AnyArrival, GivesLg01, WhenRewritten, AlwaysIndexZero, WhenGrown}
 use Rattle.promises.proofs.Machine.{said, submitting, means, accepts_is, accepts_alike, states_are, ledgers_are}
 
 -- ---- demand 1
@@ -58,15 +61,28 @@ demand1 ss s =
     let e = reply_alike (submit_answer (bytes_of ss) s) (answer (history_of ss) s) m.answers in
     (e, λ f. m.keeps (number_refused (answer (history_of ss) s) (λ z. f (ap (λ (r : Reply). r.refusal) e ∙ z))))
 
--- ---- the value of a view
+-- ---- values
+
+-- an accepted record is answered with its value
+accepted_value : (ss : List Bytes) (s : Bytes) (r : Record) → read s ≡ readable r → accepts (bytes_of ss) s ≡ true
+    → (is_accepted (answer (history_of ss) s) ≡ true) × ((reply_to ss s).value ≡ value (history_of ss) r)
+accepted_value ss s r e a =
+    let h = history_of ss in
+    let taken : is_accepted (answer h s) ≡ true = sym (accepts_alike (bytes_of ss) h (represents ss) s) ∙ a in (
+      taken,
+      ap (λ (x : Reply). x.value) (demand1 ss s).0
+          ∙ ap (λ (x : model.Answer). (model_reply x).value) (accepted_answer h (run.ledger_of ss) s r e taken),
+    )
 
 pub value_is_growth : ValueIsGrowth
 value_is_growth ss s n xs before with_it e a b w =
-    let h = history_of ss in
-    let taken : is_accepted (answer h s) ≡ true = sym (accepts_alike (bytes_of ss) h (represents ss) s) ∙ a in
-    let given : (reply_to ss s).value ≡ value h (view n xs) =
-    ap (λ (r : Reply). r.value) (demand1 ss s).0 ∙ ap (λ (x : model.Answer). (model_reply x).value) (accepted_answer h (run.ledger_of ss) s (view n xs) e taken) in
-    ap (λ (v : ℕ). before + v) given ∙ growth.value_is_growth ss s n xs before with_it e taken b w
+    let v = accepted_value ss s (view n xs) e a in
+    ap (λ (k : ℕ). before + k) v.1 ∙ growth.value_is_growth ss s n xs before with_it e v.0 b w
+
+pub when_grown : WhenGrown
+when_grown ss s n t e a =
+    subst (λ (k : ℕ). ((k ≡ 8) ⊎ (k ≡ 0)) × ((k ≡ 8) ↔ GrownSince (met_views n t ss) (shown_of n ss)))
+    (sym (accepted_value ss s (leader n t) e a).1) (logs.when_grown ss n t)
 
 -- ---- 11 is never given: no refusal has the number
 
@@ -85,6 +101,7 @@ model_none (model.refused r) z = by r z
     by old_exceeds_new e = omega (arith, e)
     by lengthExceedsFront e = omega (arith, e)
     by certificatesFull e = omega (arith, e)
+    by leaderLogsFull e = omega (arith, e)
 
 pub model_never_eleven : ModelNeverEleven
 model_never_eleven ss s = model_none (answer (history_of ss) s)
@@ -212,6 +229,40 @@ views_accepted ss a before s later e v =
 
 pub any_arrival : AnyArrival
 any_arrival ss rs same a b = read_alike ss rs (arrival.any_arrival ss rs same (views_accepted ss a) (views_accepted rs b))
+
+-- ---- leaders' logs
+
+-- two findings that are given alike are the same
+same_given : (f g : Finding) → a_finding f ≡ a_finding g → f ≡ g
+same_given f g e =
+    λ i. record { name = (e i).name; node = (e i).node; index = (e i).index; term = (e i).term }
+
+read_lg01 : (ss : List Bytes) (n t : ℕ) → GivesLg01 ss n t ↔ Memᴰ (lg01 n t) (finding_list (history_of ss))
+read_lg01 ss n t =
+    let both = read_found (λ r. r ≡ a_finding (lg01 n t)) ss in (
+      λ g.
+          let a = both.0 (record {
+            position = g.position;
+            given = ap (λ (r : FindingReply). r.state) g.given;
+            holds = g.given;
+          }) in
+          subst (λ (f : Finding). Memᴰ f (finding_list (history_of ss))) (same_given a.finding (lg01 n t) a.holds) a.among,
+      λ m.
+          let a = both.1 (record { finding = lg01 n t; among = m; holds = refl }) in
+          record { position = a.position; given = a.holds },
+    )
+
+pub when_rewritten : WhenRewritten
+when_rewritten ss n t =
+    let a = read_lg01 ss n t in
+    let b = logs.when_rewritten ss n t in
+    (λ g. b.0 (a.0 g), λ w. a.1 (b.1 w))
+
+pub always_index_zero : AlwaysIndexZero
+always_index_zero ss position s e =
+    let a = (read_found (λ r. (r.name ≡ 1) × (r.index ≡ (finding_out (bytes_of ss) position).index)) ss).0
+    (record { position = position; given = s; holds = (e, refl) }) in
+    sym a.holds.1 ∙ logs.always_index_zero ss a.finding a.among a.holds.0
 
 -- ---- demand 3
 

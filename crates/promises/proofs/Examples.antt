@@ -1,6 +1,6 @@
 -- Demand 3 on four lists, with commit terms that come late or are recorded as zero; commit terms in any order, and views in any
--- order, on two lists each, with the same terms and other findings, or the same pair and another node. Computed on the model and
--- carried to what the readers give.
+-- order, on two lists each, with the same terms and other findings, or the same pair and another node; a leader that wrote its
+-- entry again. Computed on the model and carried to what the readers give.
 -- Assumes nothing.
 use Prim.Native.Nat.{ℕ}
 use mathlib.Core.Path.{◌≡◌, sym, ◌∙◌, ap}
@@ -13,10 +13,12 @@ use Rattle.model.specs.Lists.{finding_list, leader_list}
 use Rattle.model.specs.Run.{history_of}
 use Rattle.model.specs.Run as run
 use Rattle.model.proofs.Tests.{cond_true}
+use Rattle.model.specs.AppendOnly.{lg01}
+use Rattle.model.proofs.AppendOnly.{one, other, two, leads, rewritten}
 use Rattle.model.proofs.Arrival.{without_content, with_content, clash_of, nodes_differ}
 use Rattle.model.proofs.Bridge as bridge
 use Rattle.model.proofs.TermOrder.{elected, between, five, three, Leaves, lg05, five_first, three_first, accepted_both}
-use Rattle.model.proofs.Completeness.{leader, checked, LeadersAfter, late, late_leaders, zero_term, zero_leaders, told_later, later_leaders, told_early, early_leaders}
+use Rattle.model.proofs.Completeness.{leader_in, checked, LeadersAfter, late, late_leaders, zero_term, zero_leaders, told_later, later_leaders, told_early, early_leaders}
 use Rattle.storage.specs.Rules.{well_formed}
 use Rattle.storage.specs.Fresh.{fresh_history}
 use Rattle.lists.specs.Picked.{nth}
@@ -43,7 +45,7 @@ same_ledger ss = sym (ledgers_are ss fresh_history empty) ∙ (bridge.represents
 
 -- P12 with its late term: the reader gives leader 1 of term 4, and then no more
 pub late_given : let ss = late ++ (checked ∷ []) in
-    (leader_out (bytes_of ss) 0 ≡ a_leader (leader 4 1)) × (leader_out (bytes_of ss) 1 ≡ no_leader 1)
+    (leader_out (bytes_of ss) 0 ≡ a_leader (leader_in 4 1)) × (leader_out (bytes_of ss) 1 ≡ no_leader 1)
 late_given = (
   given (late ++ (checked ∷ [])) 0 ∙ ap (λ (ls : List Leader). nth a_leader (no_leader 1) ls 0) late_leaders.0,
   given (late ++ (checked ∷ [])) 1 ∙ ap (λ (ls : List Leader). nth a_leader (no_leader 1) ls 1) late_leaders.0,
@@ -69,7 +71,7 @@ later_given = none_given told_later later_leaders
 
 -- one that comes between two checks, and is before it: the reader gives leader 2 of term 4, and then no more
 pub early_given : let ss = told_early ++ (checked ∷ []) in
-    (leader_out (bytes_of ss) 0 ≡ a_leader (leader 4 2)) × (leader_out (bytes_of ss) 1 ≡ no_leader 1)
+    (leader_out (bytes_of ss) 0 ≡ a_leader (leader_in 4 2)) × (leader_out (bytes_of ss) 1 ≡ no_leader 1)
 early_given = (
   given (told_early ++ (checked ∷ [])) 0 ∙ ap (λ (ls : List Leader). nth a_leader (no_leader 1) ls 0) early_leaders.0,
   given (told_early ++ (checked ∷ [])) 1 ∙ ap (λ (ls : List Leader). nth a_leader (no_leader 1) ls 1) early_leaders.0,
@@ -115,3 +117,8 @@ pub nodes_given :
     (finding_out (bytes_of (without_content ∷ with_content ∷ [])) 0 ≡ a_finding (clash_of 2))
     × (finding_out (bytes_of (with_content ∷ without_content ∷ [])) 0 ≡ a_finding (clash_of 1))
 nodes_given = (found _ (clash_of 2) nodes_differ.0, found _ (clash_of 1) nodes_differ.1)
+
+-- ---- the first list of model/proofs/AppendOnly.antt: a leader wrote its entry again
+
+pub rewritten_given : finding_out (bytes_of (one ∷ leads ∷ other ∷ leads ∷ two ∷ leads ∷ [])) 0 ≡ a_finding (lg01 0 1)
+rewritten_given = found _ (lg01 0 1) rewritten.1

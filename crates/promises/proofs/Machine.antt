@@ -73,6 +73,7 @@ by_number (Err Refusal.FindingsFull) = refl
 by_number (Err Refusal.OldExceedsNew) = refl
 by_number (Err Refusal.LengthExceedsFront) = refl
 by_number (Err Refusal.CertificatesFull) = refl
+by_number (Err Refusal.LeaderLogsFull) = refl
 by_number (Err Refusal.StorageBroken) = refl
 
 pub accepts_is : (h s : Bytes) → accepts h s ≡ is_accepted (said (submit_answer h s))

@@ -1,16 +1,18 @@
--- The three demands and log matching for any arrival, for every list of byte strings handed in turn to one fresh history, about
+-- The three demands, log matching for any arrival and leaders' logs, for every list of byte strings handed in turn to one fresh history, about
 -- what `history` exports: `gamiwhoru_submit` by its definitions (Run.antt), and the readers by the contracts that they meet.
 -- `answer` and `history_of` are the model's: document 01 written out.
 -- Assumes nothing.
 use Rattle.std.specs.Prelude.{ℕ, ◌+◌, ◌≡◌, true, ◌↔◌, List, [], ◌∷◌, ◌++◌}
+use mathlib.Core.Logic.{◌⊎◌}
 use mathlib.Core.List.{Memᴰ}
 use Rattle.model.specs.Sizes.{Bytes}
-use Rattle.model.specs.Record.{Shown, view, check}
+use Rattle.model.specs.Record.{Shown, view, check, leader}
 use Rattle.model.specs.Reading.{readable, read}
 use Rattle.model.specs.Answer.{answer}
 use Rattle.model.specs.Run.{history_of}
 use Rattle.model.specs.Ledger.{ledger_leaders}
 use Rattle.model.specs.Statements.{accepted_fronts, PrefixIn, Counts, Matching, Agreeing, committed_seen, Clashing, SameFronts, IsView, SameViews, SameMembers}
+use Rattle.model.specs.AppendOnly.{shown_of, met_views, lg01, RewrittenAmong, GrownSince}
 use Rattle.model.specs.TermOrder.{accepted_terms, TermsBy, SameTermsSent}
 use Rattle.storage.specs.Rules.{well_formed}
 use Rattle.storage.specs.Head.{terms_held}
@@ -19,7 +21,7 @@ use Rattle.storage.specs.Decode.{decode}
 use Rattle.lists.specs.Picked.{nth}
 use Rattle.answers.specs.Numbers.{model_reply}
 use Rattle.submission.specs.Replies.{submit_bytes}
-use Rattle.history.specs.Exports.{finding_out, a_leader, no_leader, leader_out}
+use Rattle.history.specs.Exports.{a_finding, finding_out, a_leader, no_leader, leader_out}
 use Rattle.promises.specs.Run.{bytes_of, submit_reply, reply_to, accepts, ledger_of, TermsAccepted, EachAccepted}
 
 -- A history grown from a fresh one never meets 12: its bytes keep the storage rules, and they stand for the model's history.
@@ -139,3 +141,32 @@ ViewsAccepted ss = EachAccepted IsView ss
 -- between.
 abbrev pub AnyArrival : Type 0
 AnyArrival = (ss rs : List Bytes) → SameViews ss rs → ViewsAccepted ss → ViewsAccepted rs → SamePairs ss rs
+
+-- ---- leaders' logs
+
+-- the reader of findings gives LG-01 (node, 0, term)
+pub record GivesLg01 (ss : List Bytes) (n t : ℕ) : Type 0 where
+  pub position : ℕ
+  pub given : finding_out (bytes_of ss) position ≡ a_finding (lg01 n t)
+
+-- LG-01 (node, 0, term) is in the list exactly if some two successive accepted kind 7 records of that leader and term met views of
+-- which the later one is shorter, or, both gapless through the older last index, differs through it. The right side speaks of the
+-- accepted records and the views at those moments.
+abbrev pub WhenRewritten : Type 0
+WhenRewritten = (ss : List Bytes) (n t : ℕ) → GivesLg01 ss n t ↔ RewrittenAmong (met_views n t ss)
+
+-- Every LG-01 has index 0, so the list has no other than those.
+abbrev pub AlwaysIndexZero : Type 0
+AlwaysIndexZero =
+    (ss : List Bytes) (position : ℕ)
+    → (finding_out (bytes_of ss) position).state ≡ 0 → (finding_out (bytes_of ss) position).name ≡ 1
+    → (finding_out (bytes_of ss) position).index ≡ 0
+
+-- The value of an accepted kind 7 record is 8 exactly if the view that the last accepted one of that leader and term met has grown
+-- into the node's present view, and else 0.
+abbrev pub WhenGrown : Type 0
+WhenGrown =
+    (ss : List Bytes) (s : Bytes) (n t : ℕ)
+    → read s ≡ readable (leader n t) → accepts (bytes_of ss) s ≡ true
+    → (((reply_to ss s).value ≡ 8) ⊎ ((reply_to ss s).value ≡ 0))
+    × (((reply_to ss s).value ≡ 8) ↔ GrownSince (met_views n t ss) (shown_of n ss))
