@@ -9,7 +9,7 @@ import os
 import sys
 
 sys.dont_write_bytecode = True
-from records import CHECK, MOST, bits, commit, configuration, election, entry, packed, row, rows, terms, view
+from records import CHECK, MOST, bits, commit, configuration, election, entry, leader, packed, row, rows, terms, view
 
 HERE = os.path.join(os.path.dirname(os.path.abspath(__file__)), '..', 'crates', 'test_record_limits')
 CASES = []
@@ -23,9 +23,9 @@ def case(name, record, answer):
 # kinds
 case('no-bytes', b'', 2)
 case('kind-0', b'\x00', 1)
-for k in range(7, 16):
+for k in range(8, 16):
     case('kind-%d' % k, bytes([16 * k]), 1)
-case('kind-7-and-more', bytes([0x70]) + bytes(40), 1)
+case('kind-8-and-more', bytes([0x80]) + bytes(40), 1)
 
 # a record of each kind: whole, a byte short, the filling, further bytes
 WHOLE = [
@@ -37,6 +37,7 @@ WHOLE = [
     ('check', CHECK),
     ('rows', rows(2, row(1), row(3))),
     ('no-rows', rows(0)),
+    ('leader', leader(2, 4)),
 ]
 for name, b in WHOLE:
     whole = packed(b)
@@ -51,7 +52,7 @@ for name, b in WHOLE:
         case(name + '-last-filling-bit', packed(b + '0' * (filling - 1) + '1'), 3)
         case(name + '-filling-and-byte', packed(b + '1') + b'\x00', 3)
     for cut in range(1, len(whole) - 1):
-        if name in ('view', 'terms', 'election', 'commit'):
+        if name in ('view', 'terms', 'election', 'commit', 'leader'):
             case('%s-cut-to-%d' % (name, cut), whole[:cut], 2)
 
 # a field that lacks one bit: of the third row the floor configuration's index (305 bits) and identity (337)
@@ -66,6 +67,7 @@ case('commit-node-63', packed(commit(63, 0)), 'ok')
 case('leader-63', packed(election(63, 0, 0, 0)), 'ok')
 case('commit-terms-most', packed(terms(0, 0, MOST)), 'ok')
 case('election-term-most', packed(election(0, MOST, 0, 0)), 'ok')
+case('leader-log-63-term-most', packed(leader(63, MOST)), 'ok')
 case('entry-term-most', packed(view(0, 1, entry(1, MOST))), 'ok')
 
 # counts

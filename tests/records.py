@@ -35,6 +35,10 @@ def election(leader, term, present, length):
     return bits((4, 4), (6, leader), (32, term), (1, present), (10, length))
 
 
+def leader(node, term):
+    return bits((4, 7), (6, node), (32, term))
+
+
 CHECK = bits((4, 5))
 
 

@@ -25,6 +25,7 @@ pub fn workloads() -> Vec<Workload> {
             chains: mixed(),
         },
         one("a full history with forks", full()),
+        one("64 leaders' logs, grown and kept again", leaders()),
     ]
 }
 
@@ -81,6 +82,20 @@ fn certificates() -> Vec<Record> {
             length: Some(commit - number % 2),
         });
         chain.push(Record::Check);
+    }
+    chain
+}
+
+/// A log for each of 64 pairs of leader and term, and then each grown and kept again, four times over.
+fn leaders() -> Vec<Record> {
+    let leader = |pair: u32| Record::Leader {
+        node: pair % 8,
+        term: 1 + pair / 8,
+    };
+    let mut chain = Vec::new();
+    for turn in 1..=5 {
+        chain.extend((0..8).map(|node| view(node, log(16 * turn))));
+        chain.extend((0..64).map(leader));
     }
     chain
 }

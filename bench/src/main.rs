@@ -168,7 +168,7 @@ fn rust_alone(workload: &Workload) -> Duration {
     let prepared: Vec<Vec<Call>> = workload
         .chains
         .iter()
-        .map(|chain| chain.iter().map(|record| made(record)).collect())
+        .map(|chain| prepared_calls(chain))
         .collect();
     shortest(|| {
         let mut histories = vec![Histories::default(); prepared.len()];
@@ -189,15 +189,29 @@ fn rust_with_reading(workload: &Workload) -> Duration {
         let start = Instant::now();
         for (history, chain) in histories.iter_mut().zip(&workload.chains) {
             for record in chain {
-                black_box(history.run(&made(record)));
+                let call = made(record, history);
+                black_box(history.run(&call));
             }
         }
         start.elapsed()
     })
 }
 
-fn made(record: &[u8]) -> Call {
-    call(&read(record).expect("a chain of accepted records"))
+/// The calls of a chain: a leader's cluster is made of the view that the
+/// histories hold then.
+fn prepared_calls(chain: &[Vec<u8>]) -> Vec<Call> {
+    let mut history = Histories::default();
+    let mut calls = Vec::new();
+    for record in chain {
+        let call = made(record, &history);
+        history.run(&call);
+        calls.push(call);
+    }
+    calls
+}
+
+fn made(record: &[u8], history: &Histories) -> Call {
+    call(&read(record).expect("a chain of accepted records"), history)
 }
 
 /// The library on one lent buffer. Making it fresh is not timed.

@@ -19,16 +19,16 @@ pub struct Difference {
 pub struct Counts {
     pub chains: u64,
     pub records: u64,
-    /// Accepted, by kind 1 to 6 and 9.
+    /// Accepted, by kind 1 to 7 and 9.
     pub accepted: [u64; 10],
     /// By refusal.
     pub refused: [u64; 20],
-    /// Chains that ended with a finding, by name 3 to 5.
+    /// Chains that ended with a finding, by name 1 to 5.
     pub found: [u64; 6],
     pub unseen: u64,
     pub unknown: u64,
     /// Records by the sum of flags.
-    pub flags: [u64; 8],
+    pub flags: [u64; 9],
     /// Failing rows by rule.
     pub rules: [u64; 5],
     /// Accepted checks, whose leader list the ledger must have as well, and
@@ -40,6 +40,8 @@ pub struct Counts {
     /// committed end.
     pub states: u64,
     pub gaps: u64,
+    /// With a log kept for a leader that has a gap.
+    pub kept_gaps: u64,
     pub logless: u64,
     pub marks_between: u64,
     /// With a mark past it, which no history grown from fresh has.
@@ -56,7 +58,7 @@ impl Counts {
         let kind = usize::from(record[0] >> 4);
         self.accepted[kind] += 1;
         match kind {
-            2 | 5 => self.flags[answer.value as usize] += 1,
+            2 | 5 | 7 => self.flags[answer.value as usize] += 1,
             6 => self.rules[answer.value as usize] += 1,
             _ => {}
         }
@@ -68,7 +70,9 @@ impl Counts {
         let gap = held.views.iter().any(|v| v.last > held.length(v.front));
         let logless = certificates.iter().any(|c| c.log.is_none());
         let between = certificates.iter().any(|c| c.mark > 0 && c.mark < end);
+        let kept_gap = held.leader_logs.iter().any(|l| l.last > held.length(l.front));
         self.states += 1;
+        self.kept_gaps += u64::from(kept_gap);
         self.gaps += u64::from(gap);
         self.logless += u64::from(logless);
         self.marks_between += u64::from(between);
@@ -77,7 +81,7 @@ impl Counts {
 
     fn end(&mut self, lists: &Lists) {
         self.chains += 1;
-        for name in 3..6 {
+        for name in 1..6 {
             let any = lists.findings.iter().any(|f| f.name as usize == name);
             self.found[name] += u64::from(any);
         }

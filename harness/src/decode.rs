@@ -1,20 +1,21 @@
 //! What the bytes of a history stand for: docs/LAYOUT.md in Rust, made from
 //! that page alone.
 
-use crate::state::{remembered, Certificate, Prefix, State, View};
+use crate::state::{remembered, Certificate, LeaderLog, Prefix, State, View};
 use crate::subject::Finding;
 
 /// A table: where it starts, and how wide its rows are.
 struct Table(usize, usize);
 
-const HEAD: Table = Table(0, 9);
-const NODES: Table = Table(9, 6);
-const TERMS: Table = Table(393, 4);
-const CERTIFICATES: Table = Table(1417, 11);
-const FINDINGS: Table = Table(2121, 8);
-const PREFIXES: Table = Table(3145, 42);
+const HEAD: Table = Table(0, 10);
+const NODES: Table = Table(10, 6);
+const TERMS: Table = Table(394, 4);
+const CERTIFICATES: Table = Table(1418, 11);
+const FINDINGS: Table = Table(2122, 8);
+const PREFIXES: Table = Table(3146, 42);
+const LEADER_LOGS: Table = Table(24_650, 9);
 
-pub const LENGTH: usize = 24_649;
+pub const LENGTH: usize = 25_226;
 
 /// The bytes of one row.
 struct Row<'a>(&'a [u8]);
@@ -45,6 +46,7 @@ pub fn decode(history: &[u8]) -> State {
     let terms = TERMS.rows(history).take(head.number(2, 2));
     let certificates = CERTIFICATES.rows(history).take(head.number(6, 1));
     let findings = FINDINGS.rows(history).take(head.number(7, 1));
+    let leader_logs = LEADER_LOGS.rows(history).take(head.number(9, 1));
     let stored: Vec<Prefix> = prefixes.map(|row| prefix(&row)).collect();
     let mut state = State {
         remembered: remembered(&stored),
@@ -54,6 +56,7 @@ pub fn decode(history: &[u8]) -> State {
         terms: terms.map(|row| row.field(0, 4)).collect(),
         certificates: certificates.map(|row| certificate(&row)).collect(),
         findings: findings.map(|row| finding(&row)).collect(),
+        leader_logs: leader_logs.map(|row| leader_log(&row)).collect(),
         ..State::default()
     };
     for (node, row) in (0..64).zip(NODES.rows(history)) {
@@ -63,6 +66,7 @@ pub fn decode(history: &[u8]) -> State {
         state.views.extend(shows.then_some(view));
         state.unseen.extend((unseen != 0).then_some((node, unseen)));
     }
+    state.leader_logs.sort();
     state
 }
 
@@ -94,6 +98,15 @@ fn certificate(row: &Row) -> Certificate {
         leader: row.field(8, 1),
         log: present.then(|| row.number(4, 2)),
         mark: row.field(6, 2),
+    }
+}
+
+fn leader_log(row: &Row) -> LeaderLog {
+    LeaderLog {
+        leader: row.field(0, 1),
+        term: row.field(1, 4),
+        front: row.number(5, 2),
+        last: row.field(7, 2),
     }
 }
 

@@ -60,7 +60,7 @@ impl Ledger {
                 let log = length.map(|length| self.front(leader)[..length as usize].to_vec());
                 self.elections.push(Election { leader, term, log });
             }
-            Record::Check | Record::Rows(_) => {}
+            Record::Check | Record::Rows(_) | Record::Leader { .. } => {}
         }
     }
 

@@ -88,6 +88,8 @@ pub fn limits() -> Vec<Limit> {
         counts(),
         rows_of_all_nodes(),
         greatest_values(),
+        leader_logs(),
+        leader_meets_seven(),
     ]
 }
 
@@ -237,6 +239,55 @@ fn raw(fields: &[(u32, usize)]) -> Vec<u8> {
         w.put(*value, *width);
     }
     w.bytes
+}
+
+fn leader(node: u32, term: u32) -> Record {
+    Record::Leader { node, term }
+}
+
+fn leader_logs() -> Limit {
+    let mut story = Story::default().ok(log(0, 2, 1, b"a"));
+    for number in 0..64 {
+        story = story.ok(leader(63 - number, u32::MAX - number % 2));
+    }
+    story
+        .meets(14, leader(0, 1))
+        .meets(14, leader(63, 0))
+        .ok(leader(63, u32::MAX))
+        .ok(log(0, 1, 1, b"a"))
+        .ok(leader(0, u32::MAX - 1))
+        .meets(14, leader(0, u32::MAX))
+        .bytes(2, raw(&[(7, 4), (0, 6), (0, 30)]))
+        .bytes(3, raw(&[(7, 4), (0, 6), (1, 32), (1, 6)]))
+        .named("64 leaders' logs, then one more")
+}
+
+fn leader_meets_seven() -> Limit {
+    let mut story = Story::default()
+        .ok(log(0, 128, 1, b"a"))
+        .ok(leader(0, 1))
+        .ok(leader(2, 1))
+        .ok(log(1, 127, 1, b"b"))
+        .ok(log(2, 1, 1, b"a"))
+        .ok(leader(2, 1))
+        .ok(log(0, 127, 1, b"a"))
+        .ok(leader(0, 1))
+        .ok(leader(0, 1))
+        .ok(log(2, 0, 1, b""))
+        .meets(7, leader(2, 1))
+        .meets(7, leader(2, 1))
+        .ok(log(0, 126, 1, b"a"))
+        .ok(leader(0, 1))
+        .ok(log(2, 2, 1, b"a"))
+        .ok(leader(2, 1));
+    for number in 0..62 {
+        story = story.ok(leader(number, 2));
+    }
+    story
+        .ok(log(2, 0, 1, b""))
+        .meets(7, leader(2, 1))
+        .meets(14, leader(63, 2))
+        .named("a leader that would be the 129th finding, and 14 before it")
 }
 
 fn indexes() -> Limit {

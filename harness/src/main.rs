@@ -360,7 +360,7 @@ fn print_counts(counts: &Counts) {
     println!("{} records in {} chains", counts.records, counts.chains);
     listed("accepted, by kind", &counts.accepted);
     listed("refused, by refusal", &counts.refused);
-    listed("commits and checks, by flags", &counts.flags);
+    listed("commits, checks and leaders, by flags", &counts.flags);
     listed("rows, by rule", &counts.rules);
     listed("chains that end with LG-0n", &counts.found);
     println!(
@@ -368,8 +368,8 @@ fn print_counts(counts: &Counts) {
         counts.unseen, counts.unknown
     );
     println!(
-        "  states compared: {}, with a gap in a view: {}, a certificate without a log: {}, a mark between zero and the end: {}, past it: {}",
-        counts.states, counts.gaps, counts.logless, counts.marks_between, counts.marks_past
+        "  states compared: {}, with a gap in a view: {}, in one kept for a leader: {}, a certificate without a log: {}, a mark between zero and the end: {}, past it: {}",
+        counts.states, counts.gaps, counts.kept_gaps, counts.logless, counts.marks_between, counts.marks_past
     );
     println!(
         "  leader lists held against the plain ledger: {}, not empty: {}",

@@ -1,4 +1,4 @@
-//! Document 01 once more, as plainly as it can be said: lists and loops, with
+//! Document 01 once more, and kind 7 of document 02, as plainly as it can be said: lists and loops, with
 //! a reader of its own and nothing of the oracle or of `record`.
 //!
 //! It stands beside the library `history`, or in its place where that is not
@@ -52,16 +52,23 @@ pub enum Mistake {
     RefusedCheckMovesMarks,
     RowsBeforeRules,
     LeaderTwice,
+    FirstLeaderLogJudged,
+    EntriesPastGapNotCounted,
+    GapJudged,
+    GrowthWithoutLonger,
+    LeaderLogOfAnyTerm,
+    OlderViewLeftAtRewrite,
+    SevenBeforeFourteen,
+    LastIndexOfFront,
     /// Seen only from marks past the committed end (`marked`).
     AllMarksMove,
     /// These are seen in the state alone.
     MarkLoweredToZero,
     CertificatesKeptByArrival,
     CheckByArrival,
-    LastIndexOfFront,
 }
 
-pub const MISTAKES: [Mistake; 41] = [
+pub const MISTAKES: [Mistake; 48] = [
     Mistake::MarkLeftUp,
     Mistake::LastEntryOnly,
     Mistake::MismatchReplaces,
@@ -98,11 +105,18 @@ pub const MISTAKES: [Mistake; 41] = [
     Mistake::RefusedCheckMovesMarks,
     Mistake::RowsBeforeRules,
     Mistake::LeaderTwice,
+    Mistake::FirstLeaderLogJudged,
+    Mistake::EntriesPastGapNotCounted,
+    Mistake::GapJudged,
+    Mistake::GrowthWithoutLonger,
+    Mistake::LeaderLogOfAnyTerm,
+    Mistake::OlderViewLeftAtRewrite,
+    Mistake::SevenBeforeFourteen,
+    Mistake::LastIndexOfFront,
     Mistake::AllMarksMove,
     Mistake::MarkLoweredToZero,
     Mistake::CertificatesKeptByArrival,
     Mistake::CheckByArrival,
-    Mistake::LastIndexOfFront,
 ];
 
 #[derive(Clone, Debug, Eq, PartialEq)]
@@ -122,6 +136,15 @@ struct Certificate {
     mark: usize,
 }
 
+/// The view kept for a leader of a term.
+#[derive(Clone, Default)]
+struct LeaderLog {
+    leader: u64,
+    term: u64,
+    front: Prefix,
+    last: u64,
+}
+
 #[derive(Default)]
 pub struct Model {
     mistake: Mistake,
@@ -136,6 +159,8 @@ pub struct Model {
     /// In the order of arrival.
     certificates: Vec<Certificate>,
     findings: Vec<Finding>,
+    /// In the order first kept.
+    leader_logs: Vec<LeaderLog>,
 }
 
 /// The fields of a row: node, floor, commit, last, floor configuration
@@ -149,6 +174,7 @@ enum Fields {
     Election(u64, u64, bool, u64),
     Check,
     Rows(Vec<Row>),
+    Leader(u64, u64),
 }
 
 impl Model {
@@ -179,6 +205,7 @@ impl Subject for Model {
             }
             Fields::Check => self.check(),
             Fields::Rows(rows) => Ok(self.rows(&rows)),
+            Fields::Leader(node, term) => self.leader(node, term),
         });
         match answer {
             Ok((value, node)) => Answer {
@@ -229,6 +256,7 @@ impl Subject for Model {
             owner: self.owner as u32,
             terms: self.terms.iter().map(|term| *term as u32).collect(),
             certificates: self.numbered(),
+            leader_logs: self.kept_for_leaders(),
             findings: self.findings.clone(),
         }
     }
@@ -274,6 +302,13 @@ impl Subject for Model {
                 .for_each(|n| put(u64::from(*n)));
         }
         put(self.findings.len() as u64);
+        for kept in &self.leader_logs {
+            put(kept.leader);
+            put(kept.term);
+            put_prefix(&mut put, &kept.front);
+            put(kept.last);
+        }
+        put(self.leader_logs.len() as u64);
     }
 }
 
@@ -345,6 +380,19 @@ impl Model {
             });
         }
         all
+    }
+
+    /// By leader, then term.
+    fn kept_for_leaders(&self) -> Vec<state::LeaderLog> {
+        let logs = self.leader_logs.iter().map(|kept| state::LeaderLog {
+            leader: kept.leader as u32,
+            term: kept.term as u32,
+            front: self.number(&kept.front),
+            last: kept.last as u32,
+        });
+        let mut logs: Vec<_> = logs.collect();
+        logs.sort();
+        logs
     }
 
     fn front(&self, node: u64) -> &[Entry] {
@@ -640,6 +688,74 @@ impl Model {
         Ok((value, 0))
     }
 
+    /// The node's present view against the one kept for it in the term.
+    fn leader(&mut self, leader: u64, term: u64) -> Outcome {
+        let shown = self.views.iter().find(|(n, _, _)| *n == leader);
+        let (front, mut last) =
+            shown.map_or_else(Default::default, |(_, front, last)| (front.clone(), *last));
+        if self.is(Mistake::EntriesPastGapNotCounted) {
+            last = front.len() as u64;
+        }
+        let present = LeaderLog {
+            leader,
+            term,
+            front,
+            last,
+        };
+        let any_term = self.is(Mistake::LeaderLogOfAnyTerm);
+        let of_pair =
+            |kept: &LeaderLog| kept.leader == leader && (kept.term == term || any_term);
+        let place = self.leader_logs.iter().position(of_pair);
+        let older = match place {
+            Some(place) => Some(self.leader_logs[place].clone()),
+            None => self
+                .is(Mistake::FirstLeaderLogJudged)
+                .then(LeaderLog::default),
+        };
+        let (value, rewrites) = older.map_or((0, false), |older| self.held(&older, &present));
+        let lg01 = Finding {
+            name: 1,
+            node: leader as u32,
+            index: 0,
+            term: term as u32,
+        };
+        let found: &[Finding] = if rewrites { &[lg01] } else { &[] };
+        if self.is(Mistake::SevenBeforeFourteen) && place.is_none() {
+            // One that would be judged brings no finding, so this asks of the findings as they are.
+            if self.findings.len() == 128 && self.leader_logs.len() == 64 {
+                return Err(7);
+            }
+        }
+        if place.is_none() && self.leader_logs.len() == 64 {
+            return Err(14);
+        }
+        self.findings = self.with_findings(found)?;
+        match place {
+            Some(_) if rewrites && self.is(Mistake::OlderViewLeftAtRewrite) => {}
+            Some(place) => self.leader_logs[place] = present,
+            None => self.leader_logs.push(present),
+        }
+        Ok((value, 0))
+    }
+
+    /// The flag of growth, and whether the newer view rewrites the older.
+    fn held(&self, older: &LeaderLog, newer: &LeaderLog) -> (u32, bool) {
+        if newer.last < older.last {
+            return (0, true);
+        }
+        let through = older.last as usize;
+        let gap = older.front.len() < through || newer.front.len() < through;
+        if gap && !self.is(Mistake::GapJudged) {
+            return (0, false);
+        }
+        let end = through.min(older.front.len()).min(newer.front.len());
+        if !self.same(&older.front[..end], &newer.front[..end]) {
+            return (0, true);
+        }
+        let longer = newer.last > older.last || self.is(Mistake::GrowthWithoutLonger);
+        (if longer { 8 } else { 0 }, false)
+    }
+
     fn rows(&self, rows: &[Row]) -> (u32, u32) {
         let fails = |rule: u32, row: &Row| {
             let [_, floor, commit, last, has_floor, floor_at, floor_id, has_now, now_at, now_id] =
@@ -771,6 +887,7 @@ fn parse(record: &[u8], mistake: Mistake) -> Result<Fields, u32> {
             }
             Fields::Rows(rows)
         }
+        7 => Fields::Leader(bits.take(6)?, bits.take(32)?),
         _ => return Err(1),
     };
     let left = &bits.all[bits.at..];

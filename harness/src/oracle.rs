@@ -3,7 +3,7 @@
 //! The Rust decides findings, flags, unseen, unknown, the committed prefix,
 //! refusal 8 (its panic) and 9 (its view gives no such log), and holds the
 //! state. The rest is this file's and `record`'s, from document 01: reading,
-//! the limits of 6, 7 and 10, the stored prefixes, the leader list and the
+//! the limits of 6, 7, 10 and 14, the stored prefixes, the leader list and the
 //! order of findings, found and printed.
 
 use std::collections::{BTreeSet, HashMap};
@@ -34,6 +34,7 @@ pub fn hush_refusal_8() {
 const PREFIX_LIMIT: usize = 512;
 const FINDING_LIMIT: usize = 128;
 const CERTIFICATE_LIMIT: usize = 64;
+const LEADER_LOG_LIMIT: usize = 64;
 
 #[derive(Default)]
 pub struct Oracle {
@@ -119,7 +120,7 @@ impl Subject for Oracle {
 
 impl Oracle {
     fn take(&mut self, record: Record) -> Result<Answer, u32> {
-        let call = call(&record);
+        let call = call(&record, &self.histories);
         let mut next = self.histories.clone();
         match record {
             Record::View { entries, .. } => {
@@ -150,6 +151,14 @@ impl Oracle {
                 self.certificates += 1;
                 self.keep(next)?;
                 Ok(Answer::default())
+            }
+            Record::Leader { .. } => {
+                let (flags, _) = next.run(&call).unwrap_or_default();
+                if next.leader_logs() > LEADER_LOG_LIMIT {
+                    return Err(14);
+                }
+                self.keep(next)?;
+                Ok(Answer::accepted(flags as u32))
             }
             Record::Rows(_) => {
                 let (rule, node) = next.run(&call).unwrap_or_default();
@@ -201,8 +210,9 @@ fn finding(violation: Violation) -> Finding {
     }
 }
 
-/// A record's fields in the Rust's own units.
-pub fn call(record: &Record) -> Call {
+/// A record's fields in the Rust's own units. A leader's view is the one that
+/// the histories hold.
+pub fn call(record: &Record, histories: &Histories) -> Call {
     match record {
         Record::View { node, entries, .. } => {
             let entries = entries.iter().map(|entry| ViewEntry {
@@ -224,6 +234,7 @@ pub fn call(record: &Record) -> Call {
         } => Call::election(u64::from(*leader), u64::from(*term), length.map(u64::from)),
         Record::Check => Call::check(),
         Record::Rows(rows) => Call::rows(rows.iter().map(row_fields)),
+        Record::Leader { node, term } => histories.leader(u64::from(*node), u64::from(*term)),
     }
 }
 

@@ -51,8 +51,8 @@ struct World {
     damage: u32,
     /// Percent of views that show the marks of their entries.
     marks: u32,
-    /// How often each kind comes, 1 to 6; kind 9 comes as kind 1.
-    weights: [u32; 6],
+    /// How often each kind comes, 1 to 7; kind 9 comes as kind 1.
+    weights: [u32; 7],
     records: u32,
     /// The length of the front that each node showed last, so that commits
     /// and elections mostly stay within it.
@@ -64,12 +64,14 @@ struct World {
 pub fn chain(seed: u64, number: u64) -> Vec<Vec<u8>> {
     let mut dice = Dice::new(seed, number);
     let mut world = match dice.below(1000) {
-        0..430 => tiny(&mut dice),
+        0..370 => tiny(&mut dice),
+        370..430 => leaders(&mut dice),
         430..730 => logs(&mut dice),
         730..880 => wide(&mut dice),
-        880..988 => elections(&mut dice),
-        988..990 => crowd(&mut dice),
-        990..993 => brim_of_findings(&mut dice),
+        880..986 => elections(&mut dice),
+        986..988 => crowd(&mut dice),
+        988..989 => brim_of_leaders(&mut dice),
+        989..993 => brim_of_findings(&mut dice),
         993..995 => brim_of_prefixes(&mut dice),
         _ => full(&mut dice),
     };
@@ -101,7 +103,7 @@ fn tiny(dice: &mut Dice) -> World {
         gaps: 15,
         damage: 6,
         marks: 35,
-        weights: [30, 20, 17, 15, 15, 3],
+        weights: [30, 20, 17, 15, 15, 3, 14],
         records: 1 + dice.below(14),
         fronts: [0; 64],
         start: Vec::new(),
@@ -132,7 +134,7 @@ fn logs(dice: &mut Dice) -> World {
         gaps: 4,
         damage: 4,
         marks: 35,
-        weights: [32, 22, 16, 14, 14, 2],
+        weights: [32, 22, 16, 14, 14, 2, 14],
         records: 4 + dice.below(16),
         fronts: [0; 64],
         start: Vec::new(),
@@ -155,7 +157,7 @@ fn wide(dice: &mut Dice) -> World {
         gaps: 10,
         damage: 12,
         marks: 35,
-        weights: [30, 15, 15, 15, 10, 15],
+        weights: [30, 15, 15, 15, 10, 15, 10],
         records: 1 + dice.below(10),
         fronts: [0; 64],
         start: Vec::new(),
@@ -178,17 +180,30 @@ fn elections(dice: &mut Dice) -> World {
         gaps: 3,
         damage: 2,
         marks: 35,
-        weights: [12, 12, 26, 25, 25, 0],
+        weights: [12, 12, 26, 25, 25, 0, 4],
         records: 10 + dice.below(30),
         fronts: [0; 64],
         start: Vec::new(),
     }
 }
 
+/// Two nodes that are leaders again and again, with views that grow, shrink,
+/// part and have gaps.
+fn leaders(dice: &mut Dice) -> World {
+    World {
+        nodes: vec![0, 1],
+        terms: vec![1, 2],
+        gaps: 25,
+        weights: [48, 4, 3, 3, 3, 0, 48],
+        records: 5 + dice.below(25),
+        ..logs(dice)
+    }
+}
+
 /// More elections than there is room for.
 fn crowd(dice: &mut Dice) -> World {
     World {
-        weights: [4, 3, 5, 80, 5, 0],
+        weights: [4, 3, 5, 80, 5, 0, 2],
         records: 70 + dice.below(40),
         ..elections(dice)
     }
@@ -213,7 +228,7 @@ fn brim_of_findings(dice: &mut Dice) -> World {
         nodes: vec![0, 1, 2],
         reach: 4,
         records: 6 + dice.below(16),
-        weights: [25, 30, 12, 15, 18, 0],
+        weights: [25, 30, 12, 15, 18, 0, 15],
         ..elections(dice)
     };
     for (node, entries) in [(0, one), (1, other)] {
@@ -225,6 +240,28 @@ fn brim_of_findings(dice: &mut Dice) -> World {
         }));
         world.fronts[node as usize] = length;
     }
+    // A node that is marked unseen, and may show something later.
+    if dice.chance(50) {
+        let (node, index) = (2, 3);
+        world.start.push(write(&Record::Commit { node, index }));
+    }
+    world
+}
+
+/// Almost, or just, as many logs kept for leaders as there is room for; some
+/// of these chains come near the limit of findings as well.
+fn brim_of_leaders(dice: &mut Dice) -> World {
+    let mut world = if dice.chance(50) {
+        brim_of_findings(dice)
+    } else {
+        logs(dice)
+    };
+    for pair in 0..60 + dice.below(5) {
+        let (node, term) = (pair % 16, 1 + pair / 16);
+        world.start.push(write(&Record::Leader { node, term }));
+    }
+    world.weights = [30, 10, 2, 2, 2, 0, 60];
+    world.records += 6;
     world
 }
 
@@ -274,7 +311,7 @@ fn full(dice: &mut Dice) -> World {
         gaps: 2,
         damage: 2,
         marks: 35,
-        weights: [45, 20, 10, 12, 13, 0],
+        weights: [45, 20, 10, 12, 13, 0, 10],
         records: 8 + dice.below(24),
         fronts: [0; 64],
         start: Vec::new(),
@@ -316,7 +353,8 @@ fn record(dice: &mut Dice, world: &mut World) -> Vec<u8> {
         3 => terms(dice, world),
         4 => election(dice, world),
         5 => Record::Check,
-        _ => rows(dice, world),
+        6 => rows(dice, world),
+        _ => leader(dice, world),
     };
     let bytes = write(&record);
     if dice.chance(world.damage) {
@@ -353,7 +391,18 @@ fn commit(dice: &mut Dice, world: &World) -> Record {
     Record::Commit { node, index }
 }
 
-fn kind(dice: &mut Dice, weights: &[u32; 6]) -> u32 {
+/// Mostly of one of two terms, so that pairs come again.
+fn leader(dice: &mut Dice, world: &World) -> Record {
+    let node = node(dice, world);
+    let term = match dice.below(10) {
+        0 | 1 => dice.pick(&world.terms),
+        2..4 => world.terms[1],
+        _ => world.terms[0],
+    };
+    Record::Leader { node, term }
+}
+
+fn kind(dice: &mut Dice, weights: &[u32; 7]) -> u32 {
     let mut left = dice.below(weights.iter().sum());
     for (kind, weight) in (1..).zip(weights) {
         if left < *weight {
@@ -573,6 +622,9 @@ fn beyond(dice: &mut Dice, kind: u32) -> Vec<u8> {
                         .put(dice.pick(&[0, 0, 0, 1]), 32);
                 }
             }
+        }
+        7 => {
+            w.put(dice.below(64), 6).put(dice.below(3), 32);
         }
         _ => {}
     }

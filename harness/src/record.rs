@@ -49,6 +49,10 @@ pub enum Record {
     },
     Check,
     Rows(Vec<Row>),
+    Leader {
+        node: u32,
+        term: u32,
+    },
 }
 
 const ANY: u32 = u32::MAX;
@@ -116,6 +120,10 @@ impl Reader<'_> {
             4 => self.election(),
             5 => Ok(Record::Check),
             6 => self.rows(),
+            7 => Ok(Record::Leader {
+                node: self.node()?,
+                term: self.term()?,
+            }),
             _ => Err(1),
         }
     }
@@ -285,6 +293,9 @@ pub fn write(record: &Record) -> Vec<u8> {
                 w.configuration(row.floor_configuration);
                 w.configuration(row.actual_configuration);
             }
+        }
+        Record::Leader { node, term } => {
+            w.put(7, 4).put(*node, 6).put(*term, 32);
         }
     }
     w.bytes

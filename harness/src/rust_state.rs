@@ -6,7 +6,7 @@ use std::collections::BTreeMap;
 
 use rafter_sim::model_check::judge::{Elected, Kept, ViewEntry};
 
-use crate::state::{Certificate, Number, State, View};
+use crate::state::{Certificate, LeaderLog, Number, State, View};
 
 /// The parts that the Rust has. `front` is the number of the front of a view.
 /// The numbers, the findings' order and the stored prefixes are document 01's
@@ -17,12 +17,16 @@ pub fn of_the_rust(kept: Kept, front: impl Fn(&[ViewEntry]) -> Number) -> State 
     assert!(marks.is_empty(), "marks of no certificate: {marks:?}");
     let remembered = kept.remembered.into_iter();
     let views = kept.views.iter();
+    let logs = kept.leader_logs.iter();
     State {
         remembered: remembered
             .map(|(index, term, prefix)| ((index as u32, term as u32), prefix))
             .collect(),
         views: views
             .filter_map(|(node, entries)| view(*node, entries, &front))
+            .collect(),
+        leader_logs: logs
+            .map(|(leader, term, entries)| leader_log(*leader, *term, entries, &front))
             .collect(),
         // The Rust has no committed prefix and no owner at first. The bytes
         // have prefix number 0 and owner 0: a commit of index 0 keeps nothing,
@@ -45,6 +49,21 @@ fn view(node: u64, entries: &[ViewEntry], front: impl Fn(&[ViewEntry]) -> Number
         front: front(entries),
         last,
     })
+}
+
+/// Here the empty view is kept as any other.
+fn leader_log(
+    leader: u64,
+    term: u64,
+    entries: &[ViewEntry],
+    front: impl Fn(&[ViewEntry]) -> Number,
+) -> LeaderLog {
+    LeaderLog {
+        leader: leader as u32,
+        term: term as u32,
+        front: front(entries),
+        last: entries.last().map_or(0, |entry| entry.index as u32),
+    }
 }
 
 /// By leader, term and number within the term.

@@ -35,6 +35,10 @@ fn elect(leader: u32, term: u32, length: Option<u32>) -> Record {
     }
 }
 
+fn leader(node: u32, term: u32) -> Record {
+    Record::Leader { node, term }
+}
+
 /// Twelve records, and what comes before every chain of them.
 pub struct Dozen {
     pub name: &'static str,
@@ -52,10 +56,10 @@ impl Dozen {
     }
 }
 
-/// One dozen of all kinds, one that turns on views and commits, and one that
-/// turns on commit terms, marks and checks. An LG-05 needs five records at
+/// One dozen of all kinds, one that turns on views and commits, one that turns
+/// on leaders' logs, and one that turns on commit terms, marks and checks. An LG-05 needs five records at
 /// least, so the last begins with a view and a commit already there.
-pub fn dozens() -> [Dozen; 3] {
+pub fn dozens() -> [Dozen; 4] {
     let row = Row {
         node: 1,
         floor: 1,
@@ -94,6 +98,20 @@ pub fn dozens() -> [Dozen; 3] {
         commit(63, 2),
         terms(0, 1, 1),
     ];
+    let leaders = [
+        view(1, &[]),
+        view(1, &[a.clone()]),
+        view(1, &[a.clone(), second.clone()]),
+        view(1, &[b.clone(), second.clone()]),
+        view(1, &[a.clone(), entry(2, 2, b"c")]),
+        view(1, &[a.clone(), entry(3, 2, b"")]),
+        view(1, &[a.clone(), second.clone(), entry(3, 2, b"")]),
+        view(1, &[entry(2, 1, b"a")]),
+        view(2, &[b.clone()]),
+        leader(1, 1),
+        leader(1, 2),
+        leader(2, 1),
+    ];
     let before_marks = [view(1, &[a.clone(), second.clone()]), commit(1, 1)];
     let marks = [
         commit(1, 2),
@@ -112,6 +130,7 @@ pub fn dozens() -> [Dozen; 3] {
     [
         Dozen::new("all kinds", &[], all_kinds),
         Dozen::new("views and commits", &[], commits),
+        Dozen::new("leaders' logs", &[], leaders),
         Dozen::new("terms and marks", &before_marks, marks),
     ]
 }

@@ -41,6 +41,15 @@ pub struct Certificate {
     pub mark: u32,
 }
 
+/// The view kept for a leader of a term.
+#[derive(Clone, Debug, Eq, Ord, PartialEq, PartialOrd)]
+pub struct LeaderLog {
+    pub leader: u32,
+    pub term: u32,
+    pub front: Number,
+    pub last: u32,
+}
+
 #[derive(Clone, Debug, Default, Eq, PartialEq)]
 pub struct State {
     /// The distinct nonempty prefixes of accepted fronts, in the order first seen.
@@ -49,6 +58,8 @@ pub struct State {
     pub remembered: BTreeMap<(u32, u32), Number>,
     /// Of the nodes that showed an entry, ascending.
     pub views: Vec<View>,
+    /// By leader, then term.
+    pub leader_logs: Vec<LeaderLog>,
     /// Node and index, ascending.
     pub unseen: Vec<(u32, u32)>,
     /// 0, with owner 0, where there is none.
@@ -82,6 +93,7 @@ impl State {
             stored,
             remembered,
             views,
+            leader_logs,
             unseen,
             committed,
             owner,
@@ -92,6 +104,7 @@ impl State {
         part("stored prefixes", stored, &other.stored)
             .or_else(|| part("remembered prefixes", remembered, &other.remembered))
             .or_else(|| part("views", views, &other.views))
+            .or_else(|| part("leaders' logs", leader_logs, &other.leader_logs))
             .or_else(|| part("unseen marks", unseen, &other.unseen))
             .or_else(|| part("committed prefix", committed, &other.committed))
             .or_else(|| part("owner", owner, &other.owner))

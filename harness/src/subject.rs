@@ -30,7 +30,7 @@ impl Answer {
 /// The derived order is not the printed one, which has the term before the index.
 #[derive(Clone, Copy, Debug, Eq, Ord, PartialEq, PartialOrd)]
 pub struct Finding {
-    /// 3, 4 or 5 for LG-03, LG-04, LG-05.
+    /// 1, 3, 4 or 5 for LG-01, LG-03, LG-04, LG-05.
     pub name: u32,
     pub node: u32,
     pub index: u32,

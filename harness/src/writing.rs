@@ -163,6 +163,7 @@ pub fn numbers(record: &Record) -> Vec<u64> {
             put(&[4, *leader, *term, present, length.unwrap_or(0)]);
         }
         Record::Check => put(&[5]),
+        Record::Leader { node, term } => put(&[7, *node, *term]),
         Record::Rows(rows) => {
             put(&[6, rows.len() as u32]);
             for row in rows {
@@ -260,7 +261,7 @@ fn rows(dice: &mut Dice) -> Vec<Row> {
 
 /// A record of any kind that is written.
 pub fn record(dice: &mut Dice) -> Record {
-    match dice.below(6) {
+    match dice.below(7) {
         0 => Record::View {
             node: number(dice, 63),
             marked: false,
@@ -281,6 +282,10 @@ pub fn record(dice: &mut Dice) -> Record {
             length: dice.chance(60).then(|| number(dice, 256)),
         },
         4 => Record::Check,
+        5 => Record::Leader {
+            node: number(dice, 63),
+            term: number(dice, u32::MAX),
+        },
         _ => Record::Rows(rows(dice)),
     }
 }

@@ -9,7 +9,7 @@ use std::collections::BTreeMap;
 
 use rafter::{
     BootstrapLogEntry, CommittedConfiguration, LogEntry, LogEntryKind, LogIndex, Node, NodeId,
-    SharedPayload, Term,
+    Role, SharedPayload, Term,
 };
 
 use crate::Cluster;
@@ -37,7 +37,7 @@ pub struct RowFields {
     pub actual_configuration: Option<(u64, u64)>,
 }
 
-/// A violation's numbers. `name` is 3, 4 or 5 for LG-03, LG-04, LG-05.
+/// A violation's numbers. `name` is 1, 3, 4 or 5 for LG-01, LG-03, LG-04, LG-05.
 #[derive(Clone, Copy, Debug, Eq, Ord, PartialEq, PartialOrd)]
 pub struct Violation {
     pub name: u64,
@@ -54,6 +54,8 @@ pub struct Kept {
     pub remembered: Vec<(u64, u64, usize)>,
     /// `last_views_by_node`: node, and all that its view showed.
     pub views: Vec<(u64, Vec<ViewEntry>)>,
+    /// `leader_logs_by_term`: leader, term, and all that its view showed.
+    pub leader_logs: Vec<(u64, u64, Vec<ViewEntry>)>,
     pub committed_prefix: Option<usize>,
     pub committed_prefix_owner: Option<u64>,
     pub committed_in_terms: Vec<u64>,
@@ -89,6 +91,7 @@ enum Kind {
     Election(NodeId, Term, Option<LogIndex>),
     Check,
     Rows(Box<ExplorationState>),
+    Leader(Cluster),
 }
 
 impl Call {
@@ -157,9 +160,10 @@ impl Histories {
     pub fn run(&mut self, call: &Call) -> Option<(u64, u64)> {
         match &call.0 {
             Kind::View(cluster) => {
-                self.logs.observe_one(cluster);
+                let _ = self.logs.observe_one(cluster);
                 Some((0, 0))
             }
+            Kind::Leader(cluster) => Some((flags(self.logs.observe_one(cluster)), 0)),
             Kind::Commit(cluster) => {
                 let marks = self.commits.observe_commit(cluster, &self.logs);
                 Some((flags(marks), 0))
@@ -186,6 +190,30 @@ impl Histories {
                 ),
             }),
         }
+    }
+
+    /// The node as leader of the term, with all that its view showed last:
+    /// ready to be run. A node without a view has the empty one.
+    pub fn leader(&self, node: u64, term: u64) -> Call {
+        let view = self.logs.last_views().get(&NodeId(node));
+        let entries = view.into_iter().flat_map(|view| &view.entries);
+        let log = entries.map(|(index, entry)| BootstrapLogEntry {
+            index: *index,
+            term: entry.term,
+            kind: entry.kind.clone(),
+        });
+        let shown = Node {
+            log: log.collect(),
+            role: Role::Leader,
+            current_term: Term(term),
+            ..Node::default()
+        };
+        Call(Kind::Leader(one_node(node, shown)))
+    }
+
+    /// How many pairs of leader and term a log is kept for.
+    pub fn leader_logs(&self) -> usize {
+        self.logs.leader_logs_by_term.len()
     }
 
     /// The violations since the last call. They are only ever inserted, so
@@ -256,11 +284,11 @@ impl Histories {
 
     /// All that they hold. `child` gives a prefix's number from that of the
     /// prefix one shorter, 0 for the empty one, and its last entry. Panics if
-    /// a part is written that no record of kinds 1 to 6 reaches, and that is
+    /// a part is written that no record of kinds 1 to 7 reaches, and that is
     /// left out here.
     pub fn kept(&self, child: &dyn Fn(usize, &LogEntry) -> usize) -> Kept {
         let commits = &self.commits;
-        let reached = self.logs.is_of_views_alone() && commits.certificates.is_empty();
+        let reached = self.logs.is_of_views_and_leaders() && commits.certificates.is_empty();
         assert!(reached && commits.configuration_proposals.is_empty());
         let mut numbers = self.logs.numbers(child);
         let remembered = self.logs.prefixes_by_index_term.iter();
@@ -287,6 +315,7 @@ impl Histories {
         Kept {
             remembered,
             views: self.views(),
+            leader_logs: self.kept_for_leaders(),
             committed_prefix: committed,
             committed_prefix_owner: commits.owner().map(|node| node.0),
             committed_in_terms: commits.committed_in_terms.iter().map(|t| t.0).collect(),
@@ -298,15 +327,15 @@ impl Histories {
     fn views(&self) -> Vec<(u64, Vec<ViewEntry>)> {
         let mut views = Vec::new();
         for (node, view) in self.logs.last_views() {
-            let entries = view.entries.iter().map(|(index, entry)| ViewEntry {
-                index: index.0,
-                term: entry.term.0,
-                configuration: entry.kind.configuration,
-                content: entry.kind.content.clone(),
-            });
-            views.push((node.0, entries.collect()));
+            views.push((node.0, shown(&view.entries)));
         }
         views
+    }
+
+    fn kept_for_leaders(&self) -> Vec<(u64, u64, Vec<ViewEntry>)> {
+        let logs = self.logs.leader_logs_by_term.iter();
+        logs.map(|((leader, term), view)| (leader.0, term.0, shown(&view.entries)))
+            .collect()
     }
 
     /// Length and owner of the committed prefix.
@@ -315,6 +344,17 @@ impl Histories {
         let owner = self.commits.owner()?;
         Some((prefix.through().0, owner.0))
     }
+}
+
+/// All that a view showed.
+fn shown(entries: &BTreeMap<LogIndex, LogEntry>) -> Vec<ViewEntry> {
+    let entries = entries.iter().map(|(index, entry)| ViewEntry {
+        index: index.0,
+        term: entry.term.0,
+        configuration: entry.kind.configuration,
+        content: entry.kind.content.clone(),
+    });
+    entries.collect()
 }
 
 fn one_node(node: u64, shown: Node) -> Cluster {
@@ -328,17 +368,24 @@ fn configuration(fields: Option<(u64, u64)>) -> Option<CommittedConfiguration> {
     })
 }
 
-/// Document 01's flags for the marks that the three calls can set.
+/// The documents' flags for the marks that the four calls can set.
 fn flags(marks: ObservationSet) -> u64 {
     let flag = |mark, number| if marks.contains(mark) { number } else { 0 };
     flag(Observation::CommittedPrefixHistoryComparisons, 1)
         + flag(Observation::CrossNodeCommittedPrefixAgreementChecks, 2)
         + flag(Observation::LaterTermLeaderPriorPrefixChecks, 4)
+        + flag(Observation::SameTermLeaderLogGrowth, 8)
 }
 
 fn numbers(invariant: &str, message: &str) -> Violation {
     let found = digits(message);
     match (invariant, found.as_slice()) {
+        (catalog::LG_01_LEADER_APPEND_ONLY, &[node, term]) => Violation {
+            name: 1,
+            node,
+            index: 0,
+            term,
+        },
         (catalog::LG_03_LOG_MATCHING, &[node, index, term]) => Violation {
             name: 3,
             node,

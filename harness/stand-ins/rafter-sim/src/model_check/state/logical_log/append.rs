@@ -5,6 +5,7 @@ use std::collections::BTreeMap;
 
 use rafter::{LogEntry, LogIndex, NodeId, Term};
 
+use crate::model_check::observations::ObservationSet;
 use crate::Cluster;
 
 use super::{LogPrefixWitness, LogicalLogHistory, LogicalLogView};
@@ -12,11 +13,12 @@ use super::{LogPrefixWitness, LogicalLogHistory, LogicalLogView};
 impl LogicalLogHistory {
     /// `observe_cluster` on a cluster of one node. It replaces the views of
     /// all nodes by those of its cluster, so the lost ones are put back.
-    pub(in crate::model_check) fn observe_one(&mut self, cluster: &Cluster) {
+    pub(in crate::model_check) fn observe_one(&mut self, cluster: &Cluster) -> ObservationSet {
         let mut views = std::mem::take(&mut self.last_views_by_node);
-        let _ = self.observe_cluster(cluster);
+        let marks = self.observe_cluster(cluster);
         views.append(&mut self.last_views_by_node);
         self.last_views_by_node = views;
+        marks
     }
 
     /// `prefix_from_view` on the node's view: nothing where it has a gap or
@@ -48,11 +50,10 @@ impl LogicalLogHistory {
         &self.last_views_by_node
     }
 
-    /// Whether the parts that only leaders, snapshots and appends write are
-    /// as they were at first.
-    pub(in crate::model_check) fn is_of_views_alone(&self) -> bool {
-        self.leader_logs_by_term.is_empty()
-            && self.snapshot_prefixes_by_owner_transfer.is_empty()
+    /// Whether the parts that only snapshots and appends write are as they
+    /// were at first.
+    pub(in crate::model_check) fn is_of_views_and_leaders(&self) -> bool {
+        self.snapshot_prefixes_by_owner_transfer.is_empty()
             && self.unwitnessed_snapshots.is_empty()
             && self.append_prev_log_violations.is_empty()
             && self.append_stored_suffix_violations.is_empty()
