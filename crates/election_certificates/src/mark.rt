@@ -1,4 +1,4 @@
-// The checked mark of one certificate, set. Only the mark moves.
+// The checked mark of one certificate, set where the certificate is lent. Only the mark moves.
 ghost use Rattle.std.specs.Prelude.{◌≡◌};
 ghost use Rattle.storage_rows.specs.Certificates.{certificate_value};
 ghost use Rattle.election_certificates.specs.WithMark.{marked_row};
@@ -6,9 +6,17 @@ ghost use Rattle.election_certificates.specs.WithMark.{marked_row};
 use storage_rows::certificates::Certificate;
 use units::LogIndex;
 
-// The certificate with another mark. Every other field stays.
-pub fn with_mark(c: Certificate, through: LogIndex) -> Certificate
+// Sets the mark of a lent certificate, as document 01 names it. Every other field stays.
+fn set_mark(c: &mut Certificate, through: LogIndex)
+    ensures { certificate_value c.new ≡ marked_row (certificate_value c.old) through.0 }
+{
+    c.mark = through;
+}
+
+// The same by value: only this function lends a certificate.
+pub fn with_mark(mut c: Certificate, through: LogIndex) -> Certificate
     ensures { certificate_value result ≡ marked_row (certificate_value c) through.0 }
 {
-    Certificate { mark: through, ..c }
+    set_mark(&mut c, through);
+    c
 }
