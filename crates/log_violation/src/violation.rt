@@ -79,7 +79,7 @@ pub fn note_in(history: &mut History, f: Found) -> Result<(), FindingsFull>
 // The findings while a record is judged: a copy of the history's table, in fixed memory, and how many it holds. One more than the
 // limit: there are too many. That is no error on the spot: a view's prefixes are counted to the end first, since 6 comes before
 // 7. So the count itself says it: an Option would be opened at each note to say no more.
-#[derive(Drop)]
+#[derive(Clone, Copy)]
 pub struct Notes {
     pub rows: Findings,
     pub held: usize,

@@ -27,7 +27,7 @@ pub struct FrontCursor {
 }
 
 // What judging gives: how many prefixes of the front are not stored, the place before the first of them, and the findings.
-#[derive(Drop)]
+#[derive(Clone, Copy)]
 pub struct JudgedView {
     pub missing: usize,
     pub rest: FrontCursor,
