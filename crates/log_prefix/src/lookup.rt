@@ -43,8 +43,9 @@ fn is_of(prefixes: &PrefixTable, k: usize, index: LogIndex, term: Term) -> bool
 }
 
 impl<'a> Prefixes<'a> {
-    // The stored prefix that extends the given one by the entry. It comes after that one.
+    // The stored prefix that extends the given one by the entry. It comes after that one. In line, so that the entry is not copied for it.
     #[tactic(auto, unfolding(crate::specs::Prefix::find))]
+    #[inline(always)]
     pub fn find_extension(self, p: LogPrefixWitness, e: ShownEntry) -> Option<LogPrefixWitness>
         requires { (p.0 ≤ self.count) × (e.length ≤ content_limit) }
         ensures { result ≡ stored_of (find (prefix_row self.entry.rows.now) self.entry.count (row_of p.0 0 (entry_value e))) }

@@ -135,8 +135,9 @@ fn tail_at(view: ViewBytes<'_>, at: usize, head: u64) -> Tail
 }
 
 // The entry at bit `at`. Its index, its term and the six bits after them are taken at once: its content length, or where its mark
-// is shown that and the length's first bits.
+// is shown that and the length's first bits. In line, so that a walk which uses no content copies none.
 #[tactic(auto, using(record_bits::proofs::Widths::head_parts))]
+#[inline(always)]
 pub fn entry_at(view: ViewBytes<'_>, at: usize) -> ShownEntry
     requires { Here (bits_of view.bytes.now view.marked) at }
     ensures { result ≡ shown_entry (bits_of view.entry.bytes.now view.entry.marked) at }
@@ -174,6 +175,8 @@ impl<'a> Iterator for Entries<'a> {
 
     ghost remaining = { λ w. at_most w.left };
 
+    // in line, as `entry_at` is
+    #[inline(always)]
     fn next(&mut self) -> Option<ShownEntry> {
         if self.left == 0 {
             return None;
