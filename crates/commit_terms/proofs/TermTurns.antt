@@ -170,11 +170,6 @@ module _ (h₀ : Bytes) (first new t : ℕ) where
     unfolding replace_all
     replacing_ends l = sym (w.bytes ∙ ap (replace_all h t (i - 1)) (let e : new + 1 - i ≡ 0 = omega arith in e))
 
-  -- the last place
-  module _ (h : Bytes) (i : ℕ) (w : Replacing h₀ first new t h i) where
-    pub replacing_last : i ≤ new → new ≤ i → (u : Bytes) → u ≡ replace_bytes h (i - 1) t → u ≡ replace_all h₀ t (first - 1) (new + 1 - first)
-    replacing_last l g u e = replacing_ends u (i + 1) (replacing_next h i w (omega arith) u e) (omega arith)
-
 -- as many certificates as before
 replace_certificates : (h : Bytes) (k t : ℕ) → certificates_held (replace_bytes h k t) ≡ certificates_held h
 unfolding replace_bytes

@@ -41,14 +41,16 @@ fn is_replaced(x: Term, term: Term) -> bool
     term != Term::ZERO && (x == Term::ZERO || term < x)
 }
 
-// The first index from old + 1 to new whose place the term replaces, where there is one. Nothing is written.
+// The first index from old + 1 to new whose place the term replaces, where there is one. Nothing is written. A
+// function of its own in the program too, so that its loop keeps to what it counts.
 #[tactic(auto, using(crate::proofs::TermTurns::searching_starts, crate::proofs::TermTurns::searching_found, crate::proofs::TermTurns::searching_next, crate::proofs::TermTurns::searching_none))]
+#[inline(never)]
 fn first_replaced(terms: &Terms, old: LogIndex, new: LogIndex, term: Term) -> Option<LogIndex>
     requires { (old.0 ≤ new.0) × (new.0 ≤ index_limit) }
     ensures { result ≡ found_index (first_replaced (term_row terms.now) term.0 old.0 (new.0 - old.0)) }
 {
-    for i in old.0 + 1..=new.0 {
-        let index = LogIndex(i);
+    for i in old.0..new.0 {
+        let index = LogIndex(i + 1);
         if is_replaced(term_of(terms, index), term) {
             return Some(index);
         }
@@ -74,8 +76,8 @@ fn replace_terms(history: &mut History, first: LogIndex, new: LogIndex, term: Te
     requires { (1 ≤ first.0) × (new.0 ≤ index_limit) }
     ensures { history.new ≡ replace_all history.old term.0 (first.0 - 1) (new.0 + 1 - first.0) }
 {
-    for i in first.0..=new.0 {
-        replace_term(history, LogIndex(i), term);
+    for i in first.0 - 1..new.0 {
+        replace_term(history, LogIndex(i + 1), term);
     }
 }
 
